@@ -1,0 +1,5 @@
+pub mod Answers
+pub mod Tables
+pub mod Packing
+pub mod Sound
+pub mod Look

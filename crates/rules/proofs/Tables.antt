@@ -1,0 +1,141 @@
+-- What the tables promise of every call. Assumes nothing.
+use Prim.Native.Nat.{ℕ}
+use mathlib.Core.Path.{_≡_, refl, sym, ap, _∙_}
+use mathlib.Core.Bool.{Bool, true, false}
+use mathlib.Core.List.{List, [], _∷_, _++_}
+use mathlib.Core.Logic.{⊎-elim}
+use lib.Dec.{eqb}
+use borrow.Author.Tests.{eq-eqb, ne-eqb, eqb-true, eqb-false}
+use Rattle.words.specs.Tests.{_if_else_}
+use Rattle.words.specs.Tables.{Row, _∕_, _when_, firstOf, anyRow, noneZero}
+use Rattle.words.proofs.Tests.{either, never}
+use Rattle.words.proofs.Tables.{none-applies, first-applies, some-applies, first-then, first-stays, nonzeros, nonzero-append}
+use Rattle.rules.specs.declared.routine.Routine.{Routine}
+use Rattle.rules.specs.declared.routine.Routine.the-variants.{Open, Close, Delete, Make, Rename, Read, Write, WriteZeros, TestWrite, Lock, Unlock, FreeSpace, Terminate}
+use Rattle.rules.specs.declared.routine.Chosen.{Chosen}
+use Rattle.rules.specs.declared.routine.Chosen.the-variants.{Call, Unknown}
+use Rattle.rules.specs.Serves.{Buffers, Outcome, Did, buffers, outcome, chosen}
+use Rattle.rules.specs.Locks.{itemAt, unlocked, isOpened}
+use Rattle.rules.specs.Codes.{rowsAll, rows15, rows16, rows19, rows22, rows23, rows33, rows34, rows41, rows42, rows43, rowsThere, rowsMay, rowsRoom, rowsRun, rowsLacking, rowsTake}
+use Rattle.rules.specs.Effects.{does15, does16, does19, does22, makes, does23, does33, does34, does41, does42, does43, does46, does143}
+use Rattle.rules.specs.Call.{Asked, ends, unless, asked, rowsOf, effectOf, served, rowsCall, call}
+
+-- ---- no row has the answer 0/0
+
+pub nonzero-all : (n p c : ℕ) (b : Buffers) → noneZero (rowsAll n p c b) ≡ true
+unfolding rowsAll
+nonzero-all n p c b = search nonzeros depth 20 fits 20000
+
+pub nonzero-of : (k : Chosen) (a : Asked) (b : Buffers) → noneZero (rowsOf k a b) ≡ true
+unfolding rowsOf rows15 rows16 rows19 rows22 rows23 rows33 rows34 rows41 rows42 rows43 rowsThere rowsMay rowsRoom rowsRun rowsLacking rowsTake
+nonzero-of (Call Open) a b = search nonzeros depth 20 fits 20000
+nonzero-of (Call Close) a b = search nonzeros depth 20 fits 20000
+nonzero-of (Call Delete) a b = search nonzeros depth 20 fits 20000
+nonzero-of (Call Make) a b = search nonzeros depth 20 fits 20000
+nonzero-of (Call Rename) a b = search nonzeros depth 20 fits 20000
+nonzero-of (Call Read) a b = search nonzeros depth 20 fits 20000
+nonzero-of (Call Write) a b = search nonzeros depth 20 fits 20000
+nonzero-of (Call WriteZeros) a b = search nonzeros depth 20 fits 20000
+nonzero-of (Call TestWrite) a b = search nonzeros depth 20 fits 20000
+nonzero-of (Call Lock) a b = search nonzeros depth 20 fits 20000
+nonzero-of (Call Unlock) a b = search nonzeros depth 20 fits 20000
+nonzero-of (Call FreeSpace) a b = search nonzeros depth 20 fits 20000
+nonzero-of (Call Terminate) a b = search nonzeros depth 20 fits 20000
+nonzero-of Unknown a b = search nonzeros depth 20 fits 20000
+
+pub nonzero-call : (n p c : ℕ) (b : Buffers) → noneZero (rowsCall n p c b) ≡ true
+unfolding rowsCall
+nonzero-call n p c b = nonzero-append (rowsAll n p c b) _ (nonzero-all n p c b) (nonzero-of (chosen n) (asked p c b) b)
+
+-- ---- a table and an effect
+
+module _ (rows : List Row) (b : Buffers) (done : Outcome) where
+  -- accepted where no row applies
+  pub accepts : firstOf rows ≡ 0 → unless rows b done ≡ done
+  unfolding unless ends _if_else_
+  accepts h = rw h
+
+  -- refused where one does, with nothing changed
+  pub refuses : (firstOf rows ≡ 0 → ⊥) → unless rows b done ≡ outcome (firstOf rows) b
+  unfolding unless ends _if_else_
+  refuses h = rw (ne-eqb _ _ h)
+
+-- ---- every call
+
+module _ (n p c : ℕ) (b : Buffers) where
+  -- no row applies: the effect
+  pub accepted : anyRow (rowsCall n p c b) ≡ false → call n p c b ≡ effectOf (chosen n) (asked p c b) b
+  unfolding call
+  accepted h = accepts _ b _ (none-applies (rowsCall n p c b) h)
+
+  first-real : anyRow (rowsCall n p c b) ≡ true → firstOf (rowsCall n p c b) ≡ 0 → ⊥
+  first-real h = eqb-false _ _ (some-applies (rowsCall n p c b) (nonzero-call n p c b) h)
+
+  -- some row applies: the first that does, and all four buffers as they were
+  pub refused : anyRow (rowsCall n p c b) ≡ true → call n p c b ≡ outcome (firstOf (rowsCall n p c b)) b
+  unfolding call
+  refused h = refuses _ b _ (first-real h)
+
+  pub refused-first : (before after : List Row) (code : ℕ) → rowsCall n p c b ≡ before ++ (code when true ∷ after) → anyRow before ≡ false → anyRow (rowsCall n p c b) ≡ true → call n p c b ≡ outcome code b
+  refused-first before after code e h k =
+      refused k ∙ ap (λ (a : ℕ). outcome a b) (ap firstOf e ∙ first-applies before after code h)
+
+-- every effect is success, 0/0
+if-zero : (t : Bool) (x y : Outcome) → x .answer ≡ 0 → y .answer ≡ 0 → (x if t else y) .answer ≡ 0
+unfolding _if_else_
+if-zero true x y h k = h
+if-zero false x y h k = k
+
+pub effect-zero : (k : Chosen) (a : Asked) (b : Buffers) → effectOf k a b .answer ≡ 0 ∕ 0
+unfolding effectOf does15 does16 does19 does22 makes does23 does33 does34 does41 does42 does43 does46 does143
+effect-zero (Call Open) a b = if-zero (isOpened (a .place)) _ _ refl refl
+effect-zero (Call Close) a b = refl
+effect-zero (Call Delete) a b = refl
+effect-zero (Call Make) a b = refl
+effect-zero (Call Rename) a b = refl
+effect-zero (Call Read) a b = refl
+effect-zero (Call Write) a b = refl
+effect-zero (Call WriteZeros) a b = refl
+effect-zero (Call TestWrite) a b = refl
+effect-zero (Call Lock) a b = if-zero (eqb (itemAt (a .list) (a .place) .mode) unlocked) _ _ refl refl
+effect-zero (Call Unlock) a b = if-zero (eqb (itemAt (a .list) (a .place) .mode) unlocked) _ _ refl refl
+effect-zero (Call FreeSpace) a b = refl
+effect-zero (Call Terminate) a b = refl
+effect-zero Unknown a b = refl
+
+module _ (n p c : ℕ) (b : Buffers) where
+  -- the answer is 0/0 exactly where no row applies
+  pub zero-accepted : call n p c b .answer ≡ 0 ∕ 0 → anyRow (rowsCall n p c b) ≡ false
+  zero-accepted z =
+      ⊎-elim
+      (λ (h : anyRow (rowsCall n p c b) ≡ true).
+      absurd (first-real n p c b h (sym (ap (λ (o : Outcome). o .answer) (refused n p c b h)) ∙ z)))
+      (λ (h : anyRow (rowsCall n p c b) ≡ false). h) (either (anyRow (rowsCall n p c b)))
+
+  pub accepted-zero : anyRow (rowsCall n p c b) ≡ false → call n p c b .answer ≡ 0 ∕ 0
+  accepted-zero h = ap (λ (o : Outcome). o .answer) (accepted n p c b h) ∙ effect-zero (chosen n) (asked p c b) b
+
+  -- the general table first, then the call's own
+  pub call-refused : (firstOf (rowsAll n p c b) ≡ 0 → ⊥) → call n p c b ≡ outcome (firstOf (rowsAll n p c b)) b
+  unfolding call rowsCall
+  call-refused h =
+      let e = first-stays (rowsAll n p c b) (rowsOf (chosen n) (asked p c b) b) h in
+      refuses _ b _ (λ q. h (sym e ∙ q)) ∙ ap (λ (a : ℕ). outcome a b) e
+
+  pub call-served : firstOf (rowsAll n p c b) ≡ 0 → call n p c b ≡ served (chosen n) p c b
+  unfolding call rowsCall served unless
+  call-served h =
+      ap (λ (a : ℕ). ends a b (effectOf (chosen n) (asked p c b) b))
+      (first-then (rowsAll n p c b) (rowsOf (chosen n) (asked p c b) b) h (nonzero-all n p c b))
+
+-- ---- a contract that says `Did` leaves one outcome
+
+pub did-is : (o : Outcome) (a : ℕ) (fcb dma list image : List ℕ) → Did o a fcb dma list image → outcome a (buffers fcb dma list image) ≡ o
+did-is o a fcb dma list image d = λ i. record {
+  answer = d .gives i;
+  left = record { fcb = d .leaves-fcb i; dma = d .leaves-dma i; list = d .leaves-list i; image = d .leaves-image i };
+}
+
+module _ (o : Outcome) (a a′ : ℕ) (fcb fcb′ dma dma′ list list′ image image′ : List ℕ) where
+  pub did-one : Did o a fcb dma list image → Did o a′ fcb′ dma′ list′ image′ → outcome a (buffers fcb dma list image) ≡ outcome a′ (buffers fcb′ dma′ list′ image′)
+  did-one d e = did-is o a fcb dma list image d ∙ sym (did-is o a′ fcb′ dma′ list′ image′ e)

@@ -1,0 +1,109 @@
+-- A call: any three numbers and any four buffers, to one outcome. Assumes nothing.
+use Prim.Native.Nat.{ℕ, _/_}
+use mathlib.Core.Path.{_≡_}
+use mathlib.Core.Bool.{Bool, true, false}
+use mathlib.Core.List.{List, [], _++_}
+use lib.ListN.{length}
+use lib.Dec.{eqb}
+use Rattle.words.specs.Tests.{_if_else_}
+use Rattle.words.specs.Tables.{Row, firstOf}
+use Rattle.rules.specs.declared.file.File.{File}
+use Rattle.rules.specs.declared.file.Found.{Found}
+use Rattle.rules.specs.declared.list.LockList.{LockList}
+use Rattle.rules.specs.declared.routine.Routine.{Routine}
+use Rattle.rules.specs.declared.routine.Routine.the-variants.{Open, Close, Delete, Make, Rename, Read, Write, WriteZeros, TestWrite, Lock, Unlock, FreeSpace, Terminate}
+use Rattle.rules.specs.declared.routine.Chosen.{Chosen}
+use Rattle.rules.specs.declared.routine.Chosen.the-variants.{Call, Unknown}
+use Rattle.rules.specs.Serves.{Buffers, Outcome, outcome, chosen, fcbSize, dmaSize, listSize}
+use Rattle.rules.specs.Drive.{highest, extentRecords, entryOf, lookUp, soundImage}
+use Rattle.rules.specs.Locks.{openOf, unpack, soundList}
+use Rattle.rules.specs.Asks.{callerFile, newFile, recordOf}
+use Rattle.rules.specs.Codes.{rowsAll, rows15, rows16, rows19, rows22, rows23, rows33, rows34, rows41, rows42, rows43}
+use Rattle.rules.specs.Effects.{accept, does15, does16, does19, does22, does23, does33, does34, does41, does42, does43, does46, does143}
+
+-- A refusal is the first row that applies and leaves all four buffers unchanged; where none does, the effect.
+unfoldable pub ends : ℕ → Buffers → Outcome → Outcome
+ends code b done = done if eqb code 0 else outcome code b
+
+unfoldable pub unless : List Row → Buffers → Outcome → Outcome
+unless rows b done = ends (firstOf rows) b done
+
+-- what a call has found before it decides: the list, the caller's file and open, the file's and the extent's entry, the record
+pub record Asked : Type 0 where
+  pub process : ℕ
+  pub run : ℕ
+  pub list : LockList
+  pub file : File
+  pub found : Found
+  pub place : ℕ
+  pub number : ℕ
+  pub entry : ℕ
+
+unfoldable pub askedBy : ℕ → ℕ → LockList → File → ℕ → List ℕ → Asked
+askedBy p c l f r s = record {
+  process = p;
+  run = c;
+  list = l;
+  file = f;
+  found = lookUp s f;
+  place = openOf l p f;
+  number = r;
+  entry = entryOf s f (r / extentRecords);
+}
+
+unfoldable pub asked : ℕ → ℕ → Buffers → Asked
+asked p c b =
+    askedBy p c (unpack (b .list)) (callerFile p (unpack (b .list)) (b .fcb)) (recordOf (b .fcb)) (b .image)
+
+-- the table of a call
+unfoldable pub rowsOf : Chosen → Asked → Buffers → List Row
+rowsOf (Call Open) a b = rows15 (a .process) (a .list) (a .place) (a .file) (a .found) b
+rowsOf (Call Close) a b = rows16 (a .place)
+rowsOf (Call Delete) a b = rows19 (a .list) (a .file) (a .found) b
+rowsOf (Call Make) a b = rows22 (a .process) (a .list) (a .found) b
+rowsOf (Call Rename) a b = rows23 (a .list) (a .file) (a .found) (lookUp (b .image) (newFile (a .process) (a .list) (b .fcb))) b
+rowsOf (Call Read) a b = rows33 (a .place) (a .entry) (a .number) b
+rowsOf (Call Write) a b = rows34 (a .process) (a .list) (a .place) (a .file) (a .found) (a .entry) (a .number) b
+rowsOf (Call WriteZeros) a b = rows34 (a .process) (a .list) (a .place) (a .file) (a .found) (a .entry) (a .number) b
+rowsOf (Call TestWrite) a b = rows41 (a .process) (a .list) (a .place) (a .file) (a .found) (a .entry) (a .number) b
+rowsOf (Call Lock) a b = rows42 (a .process) (a .list) (a .place) (a .file) (a .number) (a .run) b
+rowsOf (Call Unlock) a b = rows43 (a .list) (a .place) (a .number) (a .run) b
+rowsOf (Call FreeSpace) a b = []
+rowsOf (Call Terminate) a b = []
+rowsOf Unknown a b = []
+
+-- the effect of a call (an unknown function's is never reached)
+unfoldable pub effectOf : Chosen → Asked → Buffers → Outcome
+effectOf (Call Open) a b = does15 (a .process) (a .list) (a .place) (a .file) (a .found) b
+effectOf (Call Close) a b = does16 (a .process) (a .list) (a .file) b
+effectOf (Call Delete) a b = does19 (a .file) b
+effectOf (Call Make) a b = does22 (a .process) (a .list) (a .file) b
+effectOf (Call Rename) a b = does23 (a .file) (newFile (a .process) (a .list) (b .fcb)) b
+effectOf (Call Read) a b = does33 (a .entry) (a .number) b
+effectOf (Call Write) a b = does34 false (a .file) (a .found) (a .entry) (a .number) b
+effectOf (Call WriteZeros) a b = does34 true (a .file) (a .found) (a .entry) (a .number) b
+effectOf (Call TestWrite) a b = does41 (a .file) (a .found) (a .entry) (a .number) b
+effectOf (Call Lock) a b = does42 (a .process) (a .list) (a .place) (a .file) (a .number) (a .run) b
+effectOf (Call Unlock) a b = does43 (a .process) (a .list) (a .place) (a .file) (a .number) (a .run) b
+effectOf (Call FreeSpace) a b = does46 b
+effectOf (Call Terminate) a b = does143 (a .process) (a .list) b
+effectOf Unknown a b = accept b
+
+-- a call's own table and effect, once the general table lets it pass
+unfoldable pub served : Chosen → ℕ → ℕ → Buffers → Outcome
+served k p c b = unless (rowsOf k (asked p c b) b) b (effectOf k (asked p c b) b)
+
+-- A call is one table and one effect.
+unfoldable pub rowsCall : ℕ → ℕ → ℕ → Buffers → List Row
+rowsCall n p c b = rowsAll n p c b ++ rowsOf (chosen n) (asked p c b) b
+
+unfoldable pub call : ℕ → ℕ → ℕ → Buffers → Outcome
+call n p c b = unless (rowsCall n p c b) b (effectOf (chosen n) (asked p c b) b)
+
+-- what the general table leaves to rely on
+pub record Ready (b : Buffers) : Type 0 where
+  pub fcb-long : length (b .fcb) ≡ fcbSize
+  pub dma-long : length (b .dma) ≡ dmaSize
+  pub list-long : length (b .list) ≡ listSize
+  pub image-sound : soundImage highest (b .image) ≡ true
+  pub list-sound : soundList highest (b .list) (b .image) ≡ true

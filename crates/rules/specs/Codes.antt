@@ -1,0 +1,196 @@
+-- "Codes, in the order tested": the general table, and the table of each call. A row applies where its test holds and none
+-- before it does. l is the list, f the caller's file, x what looking it up tells, o the place of the caller's open of it (64:
+-- none), e the entry of its extent with the record r (64: missing). Assumes nothing.
+use Prim.Native.Nat.{ℕ, _+_, _/_}
+use mathlib.Core.Bool.{Bool, true, false, not}
+use mathlib.Core.List.{List, [], _∷_, _++_}
+use lib.ListN.{length}
+use lib.Dec.{leb, ltb, eqb}
+use Rattle.words.specs.Tests.{_and_, _or_, any, lowest, count}
+use Rattle.words.specs.Bytes.{byte, part}
+use Rattle.words.specs.Tables.{Row, _∕_, _when_, onlyIf}
+use Rattle.rules.specs.declared.file.File.{File}
+use Rattle.rules.specs.declared.file.Found.{Found}
+use Rattle.rules.specs.declared.item.Item.{Item}
+use Rattle.rules.specs.declared.list.LockList.{LockList}
+use Rattle.rules.specs.Serves.{Buffers, chosen, isUnknown, processes, fcbSize, dmaSize, listSize}
+use Rattle.rules.specs.Drive.{highest, entries, blocks, extentRecords, recordSize, legalName, entryOf, lookUp, missing, readOnly, freeEntry, freeBlock, blockIn, blockOf, recordAt, soundImage}
+use Rattle.rules.specs.Locks.{itemAt, userOf, locked, unlocked, readonly, isOpened, anyOpen, opensFileAt, lockedByOther, held, opensBy, locksBy, freePlace, freePlaces, soundList}
+use Rattle.rules.specs.Asks.{openMode, lastOf}
+
+-- ---- The general table
+
+-- unknown function, process over 15, count outside 1 to 16, FCB, DMA or list of wrong length
+unfoldable pub badNumbers : ℕ → ℕ → ℕ → Buffers → Bool
+badNumbers n p c b =
+    isUnknown (chosen n) or leb processes p or ltb c 1 or ltb 16 c
+    or not (eqb (length (b .fcb)) fcbSize) or not (eqb (length (b .dma)) dmaSize) or not (eqb (length (b .list)) listSize)
+
+-- FCB byte 0 is neither 0 nor 1 (not for 46, 143)
+unfoldable pub badDrive : ℕ → Buffers → Bool
+badDrive n b = ltb 1 (byte (b .fcb) 0) and not (eqb n 46) and not (eqb n 143)
+
+unfoldable pub rowsAll : ℕ → ℕ → ℕ → Buffers → List Row
+rowsAll n p c b =
+    255 ∕ 13 when badNumbers n p c b
+    ∷ 255 ∕ 1 when not (soundImage highest (b .image))
+    ∷ 255 ∕ 12 when not (soundList highest (b .list) (b .image))
+    ∷ 255 ∕ 4 when badDrive n b
+    ∷ []
+
+-- ---- 15
+
+-- the item at place i is another process's open of the file that cannot stand beside one in that mode
+unfoldable pub standsAgainst : ℕ → ℕ → Item → Bool
+standsAgainst p mode it = not (eqb (it .process) p) and (eqb mode locked or not (eqb (it .mode) mode))
+
+unfoldable pub standsAgainstAt : LockList → ℕ → File → ℕ → ℕ → Bool
+standsAgainstAt l p f mode i = opensFileAt l f i and standsAgainst p mode (itemAt l i)
+
+-- Where the caller has it open in the same mode, that is success: the rows after it are then no more looked at.
+unfoldable pub rows15 : ℕ → LockList → ℕ → File → Found → Buffers → List Row
+rows15 p l o f x b =
+    255 ∕ 9 when not (legalName (b .fcb) 1)
+    ∷ 255 ∕ 0 when missing x
+    ∷ 255 ∕ 5 when (isOpened o and not (eqb (itemAt l o .mode) (openMode (b .fcb))))
+    ∷ onlyIf (not (isOpened o))
+    (255 ∕ 5 when any (standsAgainstAt l p f (openMode (b .fcb))) 64
+    ∷ 255 ∕ 10 when leb (l .openlimit) (opensBy l p)
+    ∷ 255 ∕ 11 when leb (l .capacity) (freePlace l)
+    ∷ [])
+
+-- ---- 22
+
+unfoldable pub rows22 : ℕ → LockList → Found → Buffers → List Row
+rows22 p l x b =
+    255 ∕ 9 when not (legalName (b .fcb) 1)
+    ∷ 255 ∕ 8 when not (missing x)
+    ∷ 255 ∕ 10 when leb (l .openlimit) (opensBy l p)
+    ∷ 255 ∕ 11 when leb (l .capacity) (freePlace l)
+    ∷ 255 ∕ 0 when leb entries (freeEntry (b .image))
+    ∷ []
+
+-- ---- 16
+
+unfoldable pub rows16 : ℕ → List Row
+rows16 o = 255 ∕ 6 when not (isOpened o) ∷ []
+
+-- ---- 19
+
+-- open by anybody, the caller too
+unfoldable pub stopsDelete : LockList → File → Bool
+stopsDelete l f = anyOpen l f
+
+unfoldable pub rows19 : LockList → File → Found → Buffers → List Row
+rows19 l f x b =
+    255 ∕ 9 when not (legalName (b .fcb) 1)
+    ∷ 255 ∕ 0 when missing x
+    ∷ 255 ∕ 5 when stopsDelete l f
+    ∷ 255 ∕ 3 when readOnly (b .image) x
+    ∷ []
+
+-- ---- 23
+
+-- as for 19
+unfoldable pub stopsRename : LockList → File → Bool
+stopsRename l f = anyOpen l f
+
+-- y is what looking up the new name tells
+unfoldable pub rows23 : LockList → File → Found → Found → Buffers → List Row
+rows23 l f x y b =
+    255 ∕ 9 when (not (legalName (b .fcb) 1) or not (legalName (b .fcb) 17))
+    ∷ 255 ∕ 0 when missing x
+    ∷ 255 ∕ 5 when stopsRename l f
+    ∷ 255 ∕ 3 when readOnly (b .image) x
+    ∷ 255 ∕ 8 when not (missing y)
+    ∷ []
+
+-- ---- 33
+
+-- 4/0 no such extent; 1/0 no block
+unfoldable pub rowsThere : List ℕ → ℕ → ℕ → List Row
+rowsThere s e r = 4 ∕ 0 when leb entries e ∷ 1 ∕ 0 when eqb (blockIn s e r) 0 ∷ []
+
+-- byte 35 above 3: for bytes, that the record number is 262,144 or more
+unfoldable pub rows33 : ℕ → ℕ → ℕ → Buffers → List Row
+rows33 o e r b = 10 ∕ 0 when not (isOpened o) ∷ 6 ∕ 0 when ltb highest r ∷ rowsThere (b .image) e r
+
+-- ---- 34, 40
+
+unfoldable pub rowsMay : ℕ → LockList → ℕ → File → Found → ℕ → Buffers → List Row
+rowsMay p l o f x r b =
+    10 ∕ 0 when not (isOpened o)
+    ∷ 255 ∕ 3 when (readOnly (b .image) x or eqb (itemAt l o .mode) readonly)
+    ∷ 6 ∕ 0 when ltb highest r
+    ∷ 8 ∕ 0 when lockedByOther l p f r
+    ∷ []
+
+-- 5/0 extent missing and no empty entry; 2/0 block missing and none free
+unfoldable pub rowsRoom : List ℕ → ℕ → ℕ → List Row
+rowsRoom s e r =
+    5 ∕ 0 when (leb entries e and leb entries (freeEntry s))
+    ∷ 2 ∕ 0 when (eqb (blockIn s e r) 0 and leb (blocks s) (freeBlock s))
+    ∷ []
+
+unfoldable pub rows34 : ℕ → LockList → ℕ → File → Found → ℕ → ℕ → Buffers → List Row
+rows34 p l o f x e r b = rowsMay p l o f x r b ++ rowsRoom (b .image) e r
+
+-- ---- 41
+
+-- byte k of the DMA differs from that of the part of the image from a place on
+unfoldable pub differs : List ℕ → List ℕ → ℕ → ℕ → Bool
+differs dma s at k = not (eqb (byte dma k) (byte s (at + k)))
+
+unfoldable pub rows41 : ℕ → LockList → ℕ → File → Found → ℕ → ℕ → Buffers → List Row
+rows41 p l o f x e r b =
+    rowsMay p l o f x r b ++ rowsThere (b .image) e r
+    ++ (7 ∕ 0 when any (differs (b .dma) (b .image) (recordAt (blockIn (b .image) e r) r)) recordSize ∷ [])
+
+-- ---- 42, 43
+
+-- DMA bytes 0 and 1 are the File ID: the open item's place number, which is below 64, low byte first
+unfoldable pub isFileId : List ℕ → ℕ → Bool
+isFileId dma o = eqb (byte dma 0) o and eqb (byte dma 1) 0
+
+-- In modes 0 and 2 it is success, and no row after it is looked at.
+unfoldable pub rowsRun : LockList → ℕ → ℕ → ℕ → Buffers → List Row → List Row
+rowsRun l o r n b more =
+    10 ∕ 0 when not (isOpened o)
+    ∷ onlyIf (eqb (itemAt l o .mode) unlocked)
+    (13 ∕ 0 when not (isFileId (b .dma) o)
+    ∷ 6 ∕ 0 when ltb highest (lastOf r n)
+    ∷ more)
+
+-- record r + k lacks its extent; .. its extent or block
+unfoldable pub noExtent : List ℕ → File → ℕ → ℕ → Bool
+noExtent s f r k = leb entries (entryOf s f ((r + k) / extentRecords))
+
+unfoldable pub lacks : List ℕ → File → ℕ → ℕ → Bool
+lacks s f r k = eqb (blockOf s f (r + k)) 0
+
+-- in rising order the first record lacking its extent (4/0) or block (1/0): how far into the run it is, n where there is none
+unfoldable pub firstLacking : List ℕ → File → ℕ → ℕ → ℕ
+firstLacking s f r n = lowest (lacks s f r) n
+
+unfoldable pub rowsLacking : List ℕ → File → ℕ → ℕ → ℕ → List Row
+rowsLacking s f r n k = 4 ∕ 0 when (ltb k n and noExtent s f r k) ∷ 1 ∕ 0 when ltb k n ∷ []
+
+unfoldable pub isOthers : LockList → ℕ → File → ℕ → ℕ → Bool
+isOthers l p f r k = lockedByOther l p f (r + k)
+
+unfoldable pub isNew : LockList → ℕ → File → ℕ → ℕ → Bool
+isNew l p f r k = not (held l p f (r + k))
+
+unfoldable pub rowsTake : ℕ → LockList → File → ℕ → ℕ → List Row
+rowsTake p l f r n =
+    8 ∕ 0 when any (isOthers l p f r) n
+    ∷ 12 ∕ 0 when ltb (l .locklimit) (locksBy l p + n)
+    ∷ 14 ∕ 0 when ltb (freePlaces l) (count (isNew l p f r) n)
+    ∷ []
+
+unfoldable pub rows42 : ℕ → LockList → ℕ → File → ℕ → ℕ → Buffers → List Row
+rows42 p l o f r n b =
+    rowsRun l o r n b (rowsLacking (b .image) f r n (firstLacking (b .image) f r n) ++ rowsTake p l f r n)
+
+unfoldable pub rows43 : LockList → ℕ → ℕ → ℕ → Buffers → List Row
+rows43 l o r n b = rowsRun l o r n b []

@@ -1,0 +1,212 @@
+-- "What each call does". Each effect gives the outcome of a call that no row refuses. Assumes nothing.
+use Prim.Native.Nat.{ℕ, _+_, _*_, _/_, _%_}
+use mathlib.Core.Bool.{Bool, true, false, not}
+use mathlib.Core.List.{List, [], _∷_, _++_, map}
+use lib.ListN.{length, set, take, replicate}
+use lib.Dec.{leb, ltb, eqb}
+use Rattle.words.specs.Tests.{_and_, _or_, _if_else_}
+use Rattle.words.specs.Lists.{tab, turns}
+use Rattle.words.specs.Bytes.{byte, byteFrom, part, put, le}
+use Rattle.words.specs.Tables.{_∕_}
+use Rattle.rules.specs.declared.file.File.{File}
+use Rattle.rules.specs.declared.file.Found.{Found}
+use Rattle.rules.specs.declared.item.Item.{Item}
+use Rattle.rules.specs.declared.list.LockList.{LockList}
+use Rattle.rules.specs.declared.spot.Spot.{Spot}
+use Rattle.rules.specs.Serves.{Buffers, Outcome, buffers, outcome, withDma, withList, withImage}
+use Rattle.rules.specs.Drive.{entrySize, entries, blockSize, blockRecords, recordSize, extentRecords, mapPlace, nameAt, entryByte, isOf, freeEntry, freeBlock, freeBlocks, blockIn, recordAt}
+use Rattle.rules.specs.Locks.{itemAt, withItems, unlocked, emptyPlace, freshOpen, freshLock, isOpened, sameName, held, freePlace, pack}
+use Rattle.rules.specs.Asks.{openMode, makeMode}
+
+-- Success is 0/0.
+abbrev pub accept : Buffers → Outcome
+accept b = outcome (0 ∕ 0) b
+
+-- ---- Open and Make
+
+-- the File ID, the open item's place number, low byte first, then 0 (a place number is below 64)
+abbrev pub fileId : ℕ → List ℕ
+fileId o = o ∷ 0 ∷ 0 ∷ []
+
+-- Open and Make set FCB bytes 12 to 14 to 0 and 15 to 31 to extent 0's count and map; ..
+unfoldable pub fcbMapped : List ℕ → ℕ → List ℕ → List ℕ
+fcbMapped s e fcb = put 12 (0 ∷ 0 ∷ 0 ∷ part (entrySize * e + 15) 17 s) fcb
+
+-- .. in unlocked mode bytes 33 to 35 become the File ID.
+unfoldable pub fcbNumbered : ℕ → ℕ → List ℕ → List ℕ
+fcbNumbered mode o fcb = put 33 (fileId o) fcb if eqb mode unlocked else fcb
+
+unfoldable pub fcbOpened : List ℕ → ℕ → ℕ → ℕ → List ℕ → List ℕ
+fcbOpened s e mode o fcb = fcbNumbered mode o (fcbMapped s e fcb)
+
+-- New items take the lowest empty places.
+unfoldable pub placed : Item → LockList → LockList
+placed it l = withItems l (set (l .items) (freePlace l) it)
+
+unfoldable pub opened : ℕ → File → ℕ → LockList → LockList
+opened p f mode l = placed (freshOpen p (f .name) mode) l
+
+-- Make fills the lowest empty entry: user, name with high bits clear, the rest zeros.
+unfoldable pub madeEntry : File → List ℕ
+madeEntry f = f .user ∷ (f .name ++ replicate 20 0)
+
+unfoldable pub made : ℕ → File → List ℕ → List ℕ
+made e f s = put (entrySize * e) (madeEntry f) s
+
+-- x is what looking up the file tells, o the place of the caller's open of it (64: none)
+unfoldable pub does15 : ℕ → LockList → ℕ → File → Found → Buffers → Outcome
+does15 p l o f x b =
+    accept (buffers (fcbOpened (b .image) (x .entry) (openMode (b .fcb)) o (b .fcb)) (b .dma) (b .list) (b .image))
+    if isOpened o else
+    accept (buffers (fcbOpened (b .image) (x .entry) (openMode (b .fcb)) (freePlace l) (b .fcb)) (b .dma) (pack (opened p f (openMode (b .fcb)) l)) (b .image))
+
+unfoldable pub makes : ℕ → LockList → File → ℕ → Buffers → Outcome
+makes p l f e b =
+    accept (buffers (fcbOpened (made e f (b .image)) e (makeMode (b .fcb)) (freePlace l) (b .fcb)) (b .dma) (pack (opened p f (makeMode (b .fcb)) l)) (made e f (b .image)))
+
+unfoldable pub does22 : ℕ → LockList → File → Buffers → Outcome
+does22 p l f b = makes p l f (freeEntry (b .image)) b
+
+-- ---- Delete and Rename
+
+-- Delete sets byte 0 of each entry of the file to E5h.
+unfoldable pub erasedAt : File → ℕ → List ℕ → List ℕ
+erasedAt f e s = set s (entrySize * e) 0xE5 if isOf s f e else s
+
+unfoldable pub erased : File → List ℕ → List ℕ
+erased f s = turns (erasedAt f) entries s
+
+unfoldable pub does19 : File → Buffers → Outcome
+does19 f b = accept (withImage b (erased f (b .image)))
+
+-- Rename changes the low seven bits of the eleven bytes in each.
+unfoldable pub lowChanged : List ℕ → ℕ → List ℕ → ℕ → ℕ
+lowChanged s at name k = byte s (at + k) / 128 * 128 + byte name k
+
+unfoldable pub renamedAt : File → List ℕ → ℕ → List ℕ → List ℕ
+renamedAt f name e s = put (nameAt e) (tab (lowChanged s (nameAt e) name) 11) s if isOf s f e else s
+
+unfoldable pub renamed : File → List ℕ → List ℕ → List ℕ
+renamed f name s = turns (renamedAt f name) entries s
+
+unfoldable pub does23 : File → File → Buffers → Outcome
+does23 f new b = accept (withImage b (renamed f (new .name) (b .image)))
+
+-- ---- Reading and writing records
+
+abbrev pub spot : ℕ → Bool → ℕ → Bool → Spot
+spot e fresh block taken = record { entry = e; fresh = fresh; block = block; taken = taken }
+
+-- A missing extent takes the lowest empty entry; a missing block is the lowest free one. e is the extent's entry (64: missing).
+unfoldable pub spotAt : List ℕ → ℕ → ℕ → Spot
+spotAt s e r =
+    spot (freeEntry s) true (freeBlock s) true if leb entries e else
+    spot e false (freeBlock s) true if eqb (blockIn s e r) 0 else
+    spot e false (blockIn s e r) false
+
+-- with the caller's user, the eleven bytes of extent 0, the ex and module of the extent and the rest zeros
+unfoldable pub newEntry : List ℕ → ℕ → File → ℕ → List ℕ
+newEntry s e₀ f x = f .user ∷ (tab (byteFrom s (nameAt e₀)) 11 ++ (x % 32 ∷ 0 ∷ x / 32 ∷ replicate 17 0))
+
+-- the image with a new entry where the extent was missing; e₀ is the entry of extent 0
+unfoldable pub entered : Spot → ℕ → File → ℕ → List ℕ → List ℕ
+entered w e₀ f r s = put (entrySize * w .entry) (newEntry s e₀ f (r / extentRecords)) s if w .fresh else s
+
+-- .. with a block that was taken in the extent's map
+unfoldable pub mapped : Spot → ℕ → List ℕ → List ℕ
+mapped w r s = set s (entrySize * w .entry + (16 + mapPlace r)) (w .block) if w .taken else s
+
+-- the record's place in its extent plus one
+abbrev pub countTo : ℕ → ℕ
+countTo r = r % extentRecords + 1
+
+-- After 34, 40 and 41 the extent's count becomes the greater of itself and the record's place in its extent plus one.
+unfoldable pub counted : Spot → ℕ → List ℕ → List ℕ
+counted w r s = set s (entrySize * w .entry + 15) (countTo r) if ltb (entryByte s (w .entry) 15) (countTo r) else s
+
+-- Function 40 clears the other seven records of a block it has just taken (the written one is stored after that).
+unfoldable pub cleared : Bool → Spot → List ℕ → List ℕ
+cleared zeros w s = put (blockSize * w .block) (replicate blockSize 0) s if zeros and w .taken else s
+
+-- .. with the record's 128 bytes
+unfoldable pub stored : Spot → ℕ → List ℕ → List ℕ → List ℕ
+stored w r v s = put (recordAt (w .block) r) (take recordSize v) s
+
+unfoldable pub written : Bool → Spot → ℕ → File → ℕ → List ℕ → List ℕ → List ℕ
+written zeros w e₀ f r v s = stored w r v (cleared zeros w (counted w r (mapped w r (entered w e₀ f r s))))
+
+-- the record in a block of the image
+unfoldable pub contents : List ℕ → ℕ → ℕ → List ℕ
+contents s block r = part (recordAt block r) recordSize s
+
+-- 33 copies the record to DMA bytes 0 to 127.
+unfoldable pub does33 : ℕ → ℕ → Buffers → Outcome
+does33 e r b = accept (withDma b (put 0 (contents (b .image) (blockIn (b .image) e r) r) (b .dma)))
+
+-- 34 and 40 take it from there; ..
+unfoldable pub does34 : Bool → File → Found → ℕ → ℕ → Buffers → Outcome
+does34 zeros f x e r b =
+    accept (withImage b (written zeros (spotAt (b .image) e r) (x .entry) f r (b .dma) (b .image)))
+
+-- .. 41 from bytes 128 to 255.
+unfoldable pub does41 : File → Found → ℕ → ℕ → Buffers → Outcome
+does41 f x e r b =
+    accept (withImage b (written false (spotAt (b .image) e r) (x .entry) f r (part recordSize recordSize (b .dma)) (b .image)))
+
+-- ---- Items gone: Close, 43, 143
+
+-- an item of the process on the file
+unfoldable pub isOfFile : ℕ → File → Item → Bool
+isOfFile p f it = not (eqb (it .kind) 0) and eqb (it .process) p and sameName (it .name) (f .name)
+
+-- Close takes away the caller's open and its locks on that file; ..
+unfoldable pub unlessOfFile : ℕ → File → Item → Item
+unlessOfFile p f it = emptyPlace if isOfFile p f it else it
+
+unfoldable pub closed : ℕ → File → LockList → LockList
+closed p f l = withItems l (map (unlessOfFile p f) (l .items))
+
+-- .. 43 its locks in the run; ..
+unfoldable pub isInRun : ℕ → File → ℕ → ℕ → Item → Bool
+isInRun p f r n it = eqb (it .kind) 2 and leb r (it .number) and ltb (it .number) (r + n) and isOfFile p f it
+
+unfoldable pub unlessInRun : ℕ → File → ℕ → ℕ → Item → Item
+unlessInRun p f r n it = emptyPlace if isInRun p f r n it else it
+
+unfoldable pub unlockedRun : ℕ → File → ℕ → ℕ → LockList → LockList
+unlockedRun p f r n l = withItems l (map (unlessInRun p f r n) (l .items))
+
+-- .. 143 all its items.
+unfoldable pub unlessBy : ℕ → Item → Item
+unlessBy p it = emptyPlace if eqb (it .process) p else it
+
+unfoldable pub terminated : ℕ → LockList → LockList
+terminated p l = withItems l (map (unlessBy p) (l .items))
+
+unfoldable pub does16 : ℕ → LockList → File → Buffers → Outcome
+does16 p l f b = accept (withList b (pack (closed p f l)))
+
+unfoldable pub does143 : ℕ → LockList → Buffers → Outcome
+does143 p l b = accept (withList b (pack (terminated p l)))
+
+-- ---- 42 and 43
+
+-- New items take the lowest empty places, locks in rising record order; a record the caller already holds gets none.
+unfoldable pub lockedAt : ℕ → File → ℕ → ℕ → LockList → LockList
+lockedAt p f r k l = l if held l p f (r + k) else placed (freshLock p (f .name) (r + k)) l
+
+unfoldable pub lockedRun : ℕ → File → ℕ → ℕ → LockList → LockList
+lockedRun p f r n l = turns (lockedAt p f r) n l
+
+-- in modes 0 and 2 success with no effect
+unfoldable pub does42 : ℕ → LockList → ℕ → File → ℕ → ℕ → Buffers → Outcome
+does42 p l o f r n b = accept (withList b (pack (lockedRun p f r n l))) if eqb (itemAt l o .mode) unlocked else accept b
+
+unfoldable pub does43 : ℕ → LockList → ℕ → File → ℕ → ℕ → Buffers → Outcome
+does43 p l o f r n b = accept (withList b (pack (unlockedRun p f r n l))) if eqb (itemAt l o .mode) unlocked else accept b
+
+-- ---- 46
+
+-- 46 puts eight times the number of free blocks in DMA bytes 0 to 2, low byte first.
+unfoldable pub does46 : Buffers → Outcome
+does46 b = accept (withDma b (put 0 (le 3 (blockRecords * freeBlocks (b .image))) (b .dma)))

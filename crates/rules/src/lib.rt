@@ -1,0 +1,7 @@
+// The values that the paper names, as the code holds them.
+pub mod answer;
+pub mod file;
+pub mod item;
+pub mod list;
+pub mod routine;
+pub mod spot;

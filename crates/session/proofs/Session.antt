@@ -1,0 +1,69 @@
+-- The session is as listed. Each call is computed from the state listed before it. Assumes nothing.
+use mathlib.Core.Path.{_≡_, refl}
+use mathlib.Core.List.{List, [], _∷_}
+use lib.ListN.{replicate}
+use Rattle.words.specs.Tables.{_∕_}
+use Rattle.rules.specs.Serves.{outcome, buffers}
+use Rattle.rules.specs.Call.{call}
+use Rattle.session.specs.Open.{rules}
+use Rattle.session.specs.Session.{AsListed, session, orders, fcbWith, dmaWith, firstImage, firstList, imageWith, unwritten, writtenWith, listWith, openBy, lockBy, none, list0, list1, list3, list11, list12, image0, image2, image5}
+
+s0 : call 22 1 1 (buffers (fcbWith 0) (dmaWith 0) firstList firstImage) ≡ outcome (0 ∕ 0) (buffers (fcbWith 0) (dmaWith 0) list0 image0)
+unfolding rules orders fcbWith dmaWith firstImage firstList imageWith unwritten writtenWith listWith openBy lockBy none image0 list0
+s0 = refl
+
+s1 : call 15 2 1 (buffers (fcbWith 0) (dmaWith 0) list0 image0) ≡ outcome (0 ∕ 0) (buffers (fcbWith 1) (dmaWith 0) list1 image0)
+unfolding rules orders fcbWith dmaWith firstImage firstList imageWith unwritten writtenWith listWith openBy lockBy none image0 list0 list1
+s1 = refl
+
+s2 : call 34 1 1 (buffers (fcbWith 0) (dmaWith 0) list1 image0) ≡ outcome (0 ∕ 0) (buffers (fcbWith 0) (dmaWith 0) list1 image2)
+unfolding rules orders fcbWith dmaWith firstImage firstList imageWith unwritten writtenWith listWith openBy lockBy none image0 image2 list1
+s2 = refl
+
+s3 : call 42 1 1 (buffers (fcbWith 0) (dmaWith 0) list1 image2) ≡ outcome (0 ∕ 0) (buffers (fcbWith 0) (dmaWith 0) list3 image2)
+unfolding rules orders fcbWith dmaWith firstImage firstList imageWith unwritten writtenWith listWith openBy lockBy none image2 list1 list3
+s3 = refl
+
+s4 : call 34 2 1 (buffers (fcbWith 0) (dmaWith 1) list3 image2) ≡ outcome (8 ∕ 0) (buffers (fcbWith 0) (dmaWith 1) list3 image2)
+unfolding rules orders fcbWith dmaWith firstImage firstList imageWith unwritten writtenWith listWith openBy lockBy none image2 list3
+s4 = refl
+
+s5 : call 34 2 1 (buffers (fcbWith 8) (dmaWith 1) list3 image2) ≡ outcome (0 ∕ 0) (buffers (fcbWith 8) (dmaWith 1) list3 image5)
+unfolding rules orders fcbWith dmaWith firstImage firstList imageWith unwritten writtenWith listWith openBy lockBy none image2 image5 list3
+s5 = refl
+
+s6 : call 42 2 1 (buffers (fcbWith 8) (dmaWith 1) list3 image5) ≡ outcome (14 ∕ 0) (buffers (fcbWith 8) (dmaWith 1) list3 image5)
+unfolding rules orders fcbWith dmaWith firstImage firstList imageWith unwritten writtenWith listWith openBy lockBy none image5 list3
+s6 = refl
+
+s7 : call 34 2 1 (buffers (fcbWith 16) (dmaWith 1) list3 image5) ≡ outcome (2 ∕ 0) (buffers (fcbWith 16) (dmaWith 1) list3 image5)
+unfolding rules orders fcbWith dmaWith firstImage firstList imageWith unwritten writtenWith listWith openBy lockBy none image5 list3
+s7 = refl
+
+s8 : call 46 1 1 (buffers (fcbWith 0) (dmaWith 0) list3 image5) ≡ outcome (0 ∕ 0) (buffers (fcbWith 0) (dmaWith 0) list3 image5)
+unfolding rules orders fcbWith dmaWith firstImage firstList imageWith unwritten writtenWith listWith openBy lockBy none image5 list3
+s8 = refl
+
+s9 : call 42 1 1 (buffers (fcbWith 0) (dmaWith 0) list3 image5) ≡ outcome (0 ∕ 0) (buffers (fcbWith 0) (dmaWith 0) list3 image5)
+unfolding rules orders fcbWith dmaWith firstImage firstList imageWith unwritten writtenWith listWith openBy lockBy none image5 list3
+s9 = refl
+
+s10 : call 42 1 2 (buffers (fcbWith 0) (dmaWith 0) list3 image5) ≡ outcome (12 ∕ 0) (buffers (fcbWith 0) (dmaWith 0) list3 image5)
+unfolding rules orders fcbWith dmaWith firstImage firstList imageWith unwritten writtenWith listWith openBy lockBy none image5 list3
+s10 = refl
+
+s11 : call 143 1 1 (buffers (fcbWith 0) (dmaWith 0) list3 image5) ≡ outcome (0 ∕ 0) (buffers (fcbWith 0) (dmaWith 0) list11 image5)
+unfolding rules orders fcbWith dmaWith firstImage firstList imageWith unwritten writtenWith listWith openBy lockBy none image5 list11 list3
+s11 = refl
+
+s12 : call 42 2 1 (buffers (fcbWith 8) (dmaWith 1) list11 image5) ≡ outcome (0 ∕ 0) (buffers (fcbWith 8) (dmaWith 1) list12 image5)
+unfolding rules orders fcbWith dmaWith firstImage firstList imageWith unwritten writtenWith listWith openBy lockBy none image5 list11 list12
+s12 = refl
+
+s13 : call 19 2 1 (buffers (fcbWith 0) (dmaWith 1) list12 image5) ≡ outcome (255 ∕ 5) (buffers (fcbWith 0) (dmaWith 1) list12 image5)
+unfolding rules orders fcbWith dmaWith firstImage firstList imageWith unwritten writtenWith listWith openBy lockBy none image5 list12
+s13 = refl
+
+pub the-session : AsListed firstList firstImage session
+unfolding AsListed session
+the-session = (s0, (s1, (s2, (s3, (s4, (s5, (s6, (s7, (s8, (s9, (s10, (s11, (s12, (s13, tt))))))))))))))

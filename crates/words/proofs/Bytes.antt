@@ -1,0 +1,102 @@
+-- Laws of bytes: parts, bytes put at a place, numbers in bytes. Assumes nothing.
+use Prim.Native.Nat.{ℕ, zero, suc, _+_, _-_, _*_, _/_, _%_, _≤_, _<_}
+use mathlib.Core.Path.{_≡_, refl, sym, ap, _∙_}
+use mathlib.Core.List.{List, [], _∷_, _++_, append-assoc}
+use mathlib.Core.Logic.{_⊎_, ⊎-elim}
+use native.Mathlib.Numerals.{add-one}
+use native.Mathlib.Omega.{arith}
+use lib.ListN.{length, getD, set, take, drop, replicate, length-append, length-take, length-drop, length-replicate, List·getD-append, List·getD-eq-default}
+use lib.Seq.{getD-append-add, getD-take, getD-drop, length-take-le, take-length, drop-drop, paste, paste-suc}
+use borrow.Rule.Slice.PartMut.{putMid}
+use Rattle.words.specs.Bytes.{byte, part, put, word}
+
+-- what stands past the end of a list
+pub past-end : (l : List ℕ) (n i : ℕ) → length l ≡ n → n ≤ i → 0 ≡ getD l i 0
+past-end l n i h g = let k : length l ≤ i = omega arith in sym (List·getD-eq-default l 0 k)
+
+-- ---- bytes of a list that v was put into
+
+module _ (at : ℕ) (v s : List ℕ) (fits : at + length v ≤ length s) where
+  front : length (take at s) ≡ at
+  front = length-take-le at s (omega arith)
+
+  opened : put at v s ≡ take at s ++ (v ++ drop (at + length v) s)
+  unfolding put
+  opened = append-assoc (take at s) v (drop (at + length v) s)
+
+  pub put-before : (i : ℕ) → i < at → byte (put at v s) i ≡ byte s i
+  put-before i h =
+      ap (λ (m : List ℕ). getD m i 0) opened
+      ∙ List·getD-append (take at s) (v ++ drop (at + length v) s) 0 i (omega (arith, front)) ∙ getD-take at s i 0 h
+
+  beyond : (k : ℕ) → byte (put at v s) (at + k) ≡ byte (v ++ drop (at + length v) s) k
+  beyond k =
+      let z : at + k ≡ length (take at s) + k = omega (arith, front) in
+      ap (λ (m : List ℕ). getD m (at + k) 0) opened
+      ∙ ap (λ (j : ℕ). getD (take at s ++ (v ++ drop (at + length v) s)) j 0) z
+      ∙ getD-append-add (take at s) (v ++ drop (at + length v) s) k 0
+
+  pub put-in : (k : ℕ) → k < length v → byte (put at v s) (at + k) ≡ byte v k
+  put-in k h = beyond k ∙ List·getD-append v (drop (at + length v) s) 0 k h
+
+  put-after : (k : ℕ) → byte (put at v s) (at + (length v + k)) ≡ byte s (at + length v + k)
+  put-after k = beyond (length v + k) ∙ getD-append-add v (drop (at + length v) s) k 0 ∙ getD-drop (at + length v) s k 0
+
+  pub put-out : (i : ℕ) → (i < at) ⊎ (at + length v ≤ i) → byte (put at v s) i ≡ byte s i
+  put-out i c =
+      ⊎-elim (λ (h : i < at). put-before i h)
+      (λ (h : at + length v ≤ i).
+      let y : at + (length v + (i - (at + length v))) ≡ i = omega arith in
+      let z : at + length v + (i - (at + length v)) ≡ i = omega arith in
+      rw (y, z) at (put-after (i - (at + length v)))) c
+
+  pub length-put : length (put at v s) ≡ length s
+  length-put = ap length opened ∙ simp (length-append, length-drop) (omega (arith, front))
+
+-- ---- loops and loans that put bytes
+
+-- a turn of a loop that copies
+pub paste-turn : (d : List ℕ) (at : ℕ) (s : List ℕ) (j : ℕ) (l : List ℕ) → at + j < length d → j < length s → l ≡ paste d at s j → set l (at + j) (getD s j 0) ≡ paste d at s (j + 1)
+paste-turn d at s j l h k e = ap (λ (m : List ℕ). set m (at + j) (getD s j 0)) e ∙ rw add-one (paste-suc d at s j 0 h k)
+
+-- the end of it
+pub paste-all : (d : List ℕ) (at : ℕ) (s l : List ℕ) (i : ℕ) → i ≡ length s → l ≡ paste d at s i → l ≡ put at s d
+unfolding put
+paste-all d at s l i e h = rw e at h ∙ ap (λ (v : List ℕ). take at d ++ v ++ drop (at + length s) d) (take-length s)
+
+-- a `&mut` slice xs, after its part from a to e was lent and came back as zs
+pub lent-back : (a e : ℕ) (xs ys zs : List ℕ) → a ≤ e → length zs ≡ e - a → ys ≡ zs → putMid a (e - a) xs ys ≡ put a zs xs
+unfolding put
+lent-back a e xs ys zs h g n =
+    let k : a + (e - a) ≡ a + length zs = omega arith in
+    ap (λ (v : List ℕ). putMid a (e - a) xs v) n
+    ∙ ap (λ (t : List ℕ). take a xs ++ (zs ++ t)) (drop-drop (e - a) a xs ∙ ap (λ (m : ℕ). drop m xs) k)
+    ∙ sym (append-assoc (take a xs) zs (drop (a + length zs) xs))
+
+-- the same of a part of k bytes that came back filled with zeros
+pub lent-zeros : (a e k : ℕ) (xs ys : List ℕ) → e ≡ a + k → e ≤ length xs → ys ≡ replicate (length (take (e - a) (drop a xs))) 0 → putMid a (e - a) xs ys ≡ put a (replicate k 0) xs
+lent-zeros a e k xs ys h m n =
+    let j : length (take (e - a) (drop a xs)) ≡ k = simp (length-take, length-drop) (omega arith) in
+    lent-back a e xs ys (replicate k 0) (omega arith) (length-replicate k 0 ∙ omega arith) (n ∙ ap (λ (i : ℕ). replicate i 0) j)
+
+-- what a step stores, through what a callee made of it
+pub put-as : (at : ℕ) (v v′ s l : List ℕ) → l ≡ put at v s → v ≡ v′ → l ≡ put at v′ s
+put-as at v v′ s l h e = h ∙ ap (λ (x : List ℕ). put at x s) e
+
+-- ---- numbers in bytes
+
+pub word-back : (n : ℕ) → n < 4294967296 → word (n % 256) (n / 256 % 256) (n / 256 / 256 % 256) (n / 256 / 256 / 256 % 256) ≡ n
+word-back n h = omega arith
+
+module _ (a b c d : ℕ) (ha : a < 256) (hb : b < 256) (hc : c < 256) (hd : d < 256) where
+  pub word-first : word a b c d % 256 ≡ a
+  word-first = omega arith
+
+  pub word-second : word a b c d / 256 % 256 ≡ b
+  word-second = omega arith
+
+  pub word-third : word a b c d / 256 / 256 % 256 ≡ c
+  word-third = omega arith
+
+  pub word-fourth : word a b c d / 256 / 256 / 256 % 256 ≡ d
+  word-fourth = omega arith

@@ -1,0 +1,6 @@
+pub mod Tests
+pub mod Lists
+pub mod Bytes
+pub mod Tables
+pub mod Counts
+pub mod Sets

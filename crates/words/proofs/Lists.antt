@@ -1,0 +1,146 @@
+-- Laws of lists made by a rule. Assumes nothing.
+use Prim.Native.Nat.{ℕ, zero, suc, _+_, _*_, _≤_, _<_}
+use mathlib.Core.Path.{_≡_, refl, sym, ap, subst, _∙_}
+use mathlib.Core.List.{List, [], _∷_, _++_, map, append-nil, append-assoc}
+use native.Mathlib.Nat.{le-of-suc-le-suc, not-suc-le-zero, mul-suc}
+use native.Mathlib.Numerals.{add-one}
+use native.Mathlib.Omega.{arith}
+use lib.ListN.{length, getD, set, take, drop, replicate, length-append, length-map, List·getD-append, drop-of-length-le, take-append-drop}
+use lib.Seq.{getD-append-add, drop-append-add, drop-drop, take-at}
+use Rattle.words.specs.Lists.{tab, flat, turns}
+
+module _ {A : Type 0} where
+  -- ---- tab
+
+  pub tab-ext : (f g : ℕ → A) (n : ℕ) → ((k : ℕ) → k < n → f k ≡ g k) → tab f n ≡ tab g n
+  unfolding tab
+  tab-ext f g zero h = refl
+  tab-ext f g (suc n) h = λ i. h 0 (omega arith) i ∷ tab-ext (λ (k : ℕ). f (suc k)) (λ (k : ℕ). g (suc k)) n (λ k l. h (suc k) (omega arith)) i
+
+  pub tab-at : (f : ℕ → A) (n k : ℕ) (d : A) → k < n → getD (tab f n) k d ≡ f k
+  unfolding tab
+  tab-at f zero k d h = absurd (not-suc-le-zero h)
+  tab-at f (suc n) zero d h = refl
+  tab-at f (suc n) (suc k) d h = tab-at (λ (j : ℕ). f (suc j)) n k d (le-of-suc-le-suc h)
+
+  pub length-tab : (f : ℕ → A) (n : ℕ) → length (tab f n) ≡ n
+  unfolding tab
+  length-tab f zero = refl
+  length-tab f (suc n) = ap suc (length-tab (λ (k : ℕ). f (suc k)) n)
+
+  tab-length : (xs : List A) (d : A) → tab (λ (k : ℕ). getD xs k d) (length xs) ≡ xs
+  unfolding tab
+  tab-length [] d = refl
+  tab-length (x ∷ xs) d = ap (λ (t : List A). x ∷ t) (tab-length xs d)
+
+  -- a list is the table of its elements
+  pub tab-getD : (xs : List A) (d : A) (n : ℕ) → length xs ≡ n → tab (λ (k : ℕ). getD xs k d) n ≡ xs
+  tab-getD xs d n e = subst (λ (k : ℕ). tab (λ (j : ℕ). getD xs j d) k ≡ xs) e (tab-length xs d)
+
+  -- ---- a list of which the first i elements are f 0 .. f (i - 1)
+
+  abbrev pub filled : (ℕ → A) → ℕ → List A → List A
+  filled f i l = tab f i ++ drop i l
+
+  filled-suc : (f : ℕ → A) (i : ℕ) (l : List A) → i < length l → set (filled f i l) i (f i) ≡ filled f (suc i) l
+  unfolding tab
+  filled-suc f i [] h = absurd (not-suc-le-zero h)
+  filled-suc f zero (x ∷ xs) h = refl
+  filled-suc f (suc i) (x ∷ xs) h = ap (λ (t : List A). f 0 ∷ t) (filled-suc (λ (k : ℕ). f (suc k)) i xs (le-of-suc-le-suc h))
+
+  filled-length : (f : ℕ → A) (l : List A) → filled f (length l) l ≡ tab f (length l)
+  unfolding tab
+  filled-length f [] = refl
+  filled-length f (x ∷ xs) = ap (λ (t : List A). f 0 ∷ t) (filled-length (λ (k : ℕ). f (suc k)) xs)
+
+  pub filled-all : (f : ℕ → A) (n : ℕ) (l : List A) → length l ≡ n → filled f n l ≡ tab f n
+  filled-all f n l e = subst (λ (k : ℕ). filled f k l ≡ tab f k) e (filled-length f l)
+
+  -- a turn of a loop that fills: l is the list so far, and x what is stored
+  pub filled-turn : (f : ℕ → A) (i : ℕ) (l₀ l : List A) (x : A) → i < length l₀ → l ≡ filled f i l₀ → x ≡ f i → set l i x ≡ filled f (i + 1) l₀
+  filled-turn f i l₀ l x h e n = ap (λ (y : A). set l i y) n ∙ ap (λ (m : List A). set m i (f i)) e ∙ rw add-one (filled-suc f i l₀ h)
+
+  -- ---- a list of which the first i elements are mapped
+
+  abbrev pub mapTo : (A → A) → ℕ → List A → List A
+  mapTo f i xs = map f (take i xs) ++ drop i xs
+
+  mapTo-suc : (f : A → A) (i : ℕ) (xs : List A) (d : A) → i < length xs → set (mapTo f i xs) i (f (getD (mapTo f i xs) i d)) ≡ mapTo f (suc i) xs
+  mapTo-suc f i [] d h = absurd (not-suc-le-zero h)
+  mapTo-suc f zero (x ∷ xs) d h = refl
+  mapTo-suc f (suc i) (x ∷ xs) d h = ap (λ (t : List A). f x ∷ t) (mapTo-suc f i xs d (le-of-suc-le-suc h))
+
+  -- a turn of a loop that maps in place
+  pub mapTo-more : (f : A → A) (i : ℕ) (xs : List A) (d : A) → i < length xs → set (mapTo f i xs) i (f (getD (mapTo f i xs) i d)) ≡ mapTo f (i + 1) xs
+  mapTo-more f i xs d h = rw add-one (mapTo-suc f i xs d h)
+
+  mapTo-length : (f : A → A) (xs : List A) → mapTo f (length xs) xs ≡ map f xs
+  mapTo-length f [] = refl
+  mapTo-length f (x ∷ xs) = ap (λ (t : List A). f x ∷ t) (mapTo-length f xs)
+
+  pub mapTo-all : (f : A → A) (n : ℕ) (xs : List A) → length xs ≡ n → mapTo f n xs ≡ map f xs
+  mapTo-all f n xs e = subst (λ (k : ℕ). mapTo f k xs ≡ map f xs) e (mapTo-length f xs)
+
+  -- an element of a mapped list
+  pub map-at : {B : Type 0} (f : A → B) (xs : List A) (i : ℕ) (d : A) (e : B) → i < length xs → getD (map f xs) i e ≡ f (getD xs i d)
+  map-at f [] i d e h = absurd (not-suc-le-zero h)
+  map-at f (x ∷ xs) zero d e h = refl
+  map-at f (x ∷ xs) (suc i) d e h = map-at f xs i d e (le-of-suc-le-suc h)
+
+-- how many elements an array of structs has, from what owning it tells
+pub length-mapped : (X Y : Type 0) (f : X → Y) (l : List X) (n : ℕ) → length (map f l) ≡ n → length l ≡ n
+length-mapped X Y f l n p = sym (length-map l f) ∙ p
+
+-- ---- byte j of block i, of blocks of w bytes each
+
+module _ {A : Type 0} (f : A → List ℕ) (w : ℕ) (hw : (x : A) → length (f x) ≡ w) where
+  pub flat-at : (i j : ℕ) (xs : List A) (d : A) → i < length xs → j < w → getD (flat f xs) (w * i + j) 0 ≡ getD (f (getD xs i d)) j 0
+  unfolding flat
+  flat-at i j [] d h g = absurd (not-suc-le-zero h)
+  flat-at zero j (x ∷ xs) d h g =
+      let z : w * 0 + j ≡ j = omega arith in
+      let l : j < length (f x) = omega (arith, hw x) in
+      rw z (List·getD-append (f x) (flat f xs) 0 j l)
+  flat-at (suc i) j (x ∷ xs) d h g =
+      let z : w * suc i + j ≡ length (f x) + (w * i + j) = omega (arith, mul-suc w i, hw x) in
+      rw (z, getD-append-add (f x) (flat f xs) (w * i + j) 0) (flat-at i j xs d (le-of-suc-le-suc h) g)
+
+  pub length-flat : (xs : List A) → length (flat f xs) ≡ w * length xs
+  unfolding flat
+  length-flat [] = omega arith
+  length-flat (x ∷ xs) = length-append (f x) (flat f xs) ∙ omega (arith, hw x, length-flat xs, mul-suc w (length xs))
+
+  -- block i of the blocks
+  pub flat-block : (i : ℕ) (xs : List A) (d : A) → i < length xs → take w (drop (w * i) (flat f xs)) ≡ f (getD xs i d)
+  unfolding flat
+  flat-block i [] d h = absurd (not-suc-le-zero h)
+  flat-block zero (x ∷ xs) d h =
+      let z : w * 0 ≡ 0 = omega arith in
+      rw z (take-at (f x) (flat f xs) w (hw x))
+  flat-block (suc i) (x ∷ xs) d h =
+      let z : w * suc i ≡ length (f x) + w * i = omega (arith, mul-suc w i, hw x) in
+      rw (z, drop-append-add (f x) (flat f xs) (w * i)) (flat-block i xs d (le-of-suc-le-suc h))
+
+-- a list cut into blocks, each of which g takes for f's
+module _ {A : Type 0} (f : A → List ℕ) (g : List ℕ → A) (w : ℕ) where
+  pub flat-cut : (n a : ℕ) (s : List ℕ) → length s ≡ a + w * n → ((i : ℕ) → i < n → f (g (take w (drop (a + w * i) s))) ≡ take w (drop (a + w * i) s)) → flat f (tab (λ (i : ℕ). g (take w (drop (a + w * i) s))) n) ≡ drop a s
+  unfolding flat tab
+  flat-cut zero a s h k = let z : length s ≤ a = omega arith in sym (drop-of-length-le s z)
+  flat-cut (suc n) a s h k =
+      let z : a + w * 0 ≡ a = omega arith in
+      let y : (i : ℕ) → a + w + w * i ≡ a + w * suc i = λ (i : ℕ). omega (arith, mul-suc w i) in
+      let e : tab (λ (i : ℕ). g (take w (drop (a + w * suc i) s))) n ≡ tab (λ (i : ℕ). g (take w (drop (a + w + w * i) s))) n = tab-ext _ _ n (λ i l. ap (λ (j : ℕ). g (take w (drop j s))) (sym (y i))) in
+      let r : flat f (tab (λ (i : ℕ). g (take w (drop (a + w + w * i) s))) n) ≡ drop (a + w) s = flat-cut n (a + w) s (omega (arith, mul-suc w n)) (λ i l. rw (y i) (k (suc i) (omega arith))) in
+      let b : f (g (take w (drop a s))) ≡ take w (drop a s) = rw z at (k 0 (omega arith)) in
+      rw (z, b, e, r) (ap (λ (t : List ℕ). take w (drop a s) ++ t) (sym (drop-drop w a s)) ∙ take-append-drop w (drop a s))
+
+-- ---- turns
+
+pub turns-none : {A : Type 0} (step : ℕ → A → A) (x : A) → turns step 0 x ≡ x
+unfolding turns
+turns-none step x = refl
+
+-- a turn of a loop: y so far, z after it
+pub turns-more : {A : Type 0} (step : ℕ → A → A) (i : ℕ) (x y z : A) → y ≡ turns step i x → z ≡ step i y → z ≡ turns step (i + 1) x
+unfolding turns
+turns-more {A} step i x y z h e = rw add-one (e ∙ ap (λ (t : A). step i t) h)

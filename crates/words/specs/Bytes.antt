@@ -1,0 +1,32 @@
+-- Lists of bytes. Nothing here asks that a byte is below 256. Assumes nothing.
+use Prim.Native.Nat.{ℕ, zero, suc, _+_, _*_, _/_, _%_}
+use mathlib.Core.List.{List, [], _∷_, _++_}
+use lib.ListN.{length, getD, take, drop}
+
+-- byte i of s
+abbrev pub byte : List ℕ → ℕ → ℕ
+byte s i = getD s i 0
+
+-- byte k of those from a place on; the same in its low seven bits
+abbrev pub byteFrom : List ℕ → ℕ → ℕ → ℕ
+byteFrom s at k = byte s (at + k)
+
+abbrev pub lowFrom : List ℕ → ℕ → ℕ → ℕ
+lowFrom s at k = byte s (at + k) % 128
+
+-- k bytes from a place on
+abbrev pub part : ℕ → ℕ → List ℕ → List ℕ
+part at k s = take k (drop at s)
+
+-- s with v from a place on
+unfoldable pub put : ℕ → List ℕ → List ℕ → List ℕ
+put at v s = take at s ++ v ++ drop (at + length v) s
+
+-- a number in k bytes, low byte first
+unfoldable pub le : ℕ → ℕ → List ℕ
+le zero n = []
+le (suc k) n = n % 256 ∷ le k (n / 256)
+
+-- the number that four bytes say, low byte first
+abbrev pub word : ℕ → ℕ → ℕ → ℕ → ℕ
+word a b c d = a + 256 * (b + 256 * (c + 256 * d))

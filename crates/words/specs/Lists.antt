@@ -1,0 +1,18 @@
+-- Lists made by a rule. Assumes nothing.
+use Prim.Native.Nat.{ℕ, zero, suc}
+use mathlib.Core.List.{List, [], _∷_, _++_}
+
+-- f 0, f 1, .., f (n - 1)
+unfoldable pub tab : {A : Type 0} → (ℕ → A) → ℕ → List A
+tab f zero = []
+tab f (suc n) = f 0 ∷ tab (λ (k : ℕ). f (suc k)) n
+
+-- the lists that f gives of each element, one after the other
+unfoldable pub flat : {A : Type 0} → (A → List ℕ) → List A → List ℕ
+flat f [] = []
+flat f (x ∷ xs) = f x ++ flat f xs
+
+-- a step taken at 0, 1, .., n - 1
+unfoldable pub turns : {A : Type 0} → (ℕ → A → A) → ℕ → A → A
+turns step zero x = x
+turns step (suc n) x = step n (turns step n x)
