@@ -16,7 +16,7 @@ use Rattle.rules.specs.declared.routine.Chosen.{Chosen}
 use Rattle.rules.specs.declared.routine.Chosen.the-variants.{Call, Unknown}
 use Rattle.rules.specs.Serves.{Buffers, Outcome, Did, buffers, outcome, chosen}
 use Rattle.rules.specs.Locks.{itemAt, unlocked, isOpened}
-use Rattle.rules.specs.Codes.{rowsAll, rows15, rows16, rows19, rows22, rows23, rows33, rows34, rows41, rows42, rows43, rowsThere, rowsMay, rowsRoom, rowsRun, rowsLacking, rowsTake}
+use Rattle.rules.specs.Codes.{rowsAll, rows15, rows16, rows19, rows22, rows23, rows33, rows34, rows41, rows42, rows43, rowsThere, rowsMay, rowsRoom, rowsDiffer, rowsRun, rowsLacking, rowsTake}
 use Rattle.rules.specs.Effects.{does15, does16, does19, does22, makes, does23, does33, does34, does41, does42, does43, does46, does143}
 use Rattle.rules.specs.Call.{Asked, ends, unless, asked, rowsOf, effectOf, served, rowsCall, call}
 
@@ -27,7 +27,7 @@ unfolding rowsAll
 nonzero-all n p c b = search nonzeros depth 20 fits 20000
 
 pub nonzero-of : (k : Chosen) (a : Asked) (b : Buffers) → noneZero (rowsOf k a b) ≡ true
-unfolding rowsOf rows15 rows16 rows19 rows22 rows23 rows33 rows34 rows41 rows42 rows43 rowsThere rowsMay rowsRoom rowsRun rowsLacking rowsTake
+unfolding rowsOf rows15 rows16 rows19 rows22 rows23 rows33 rows34 rows41 rows42 rows43 rowsThere rowsMay rowsRoom rowsDiffer rowsRun rowsLacking rowsTake
 nonzero-of (Call Open) a b = search nonzeros depth 20 fits 20000
 nonzero-of (Call Close) a b = search nonzeros depth 20 fits 20000
 nonzero-of (Call Delete) a b = search nonzeros depth 20 fits 20000

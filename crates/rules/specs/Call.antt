@@ -1,5 +1,5 @@
 -- A call: any three numbers and any four buffers, to one outcome. Assumes nothing.
-use Prim.Native.Nat.{ℕ, _/_}
+use Prim.Native.Nat.{ℕ, _*_, _/_, _≤_}
 use mathlib.Core.Path.{_≡_}
 use mathlib.Core.Bool.{Bool, true, false}
 use mathlib.Core.List.{List, [], _++_}
@@ -15,7 +15,7 @@ use Rattle.rules.specs.declared.routine.Routine.the-variants.{Open, Clos
 use Rattle.rules.specs.declared.routine.Chosen.{Chosen}
 use Rattle.rules.specs.declared.routine.Chosen.the-variants.{Call, Unknown}
 use Rattle.rules.specs.Serves.{Buffers, Outcome, outcome, chosen, fcbSize, dmaSize, listSize}
-use Rattle.rules.specs.Drive.{highest, extentRecords, entryOf, lookUp, soundImage}
+use Rattle.rules.specs.Drive.{highest, blockSize, extentRecords, entryOf, lookUp, soundImage}
 use Rattle.rules.specs.Locks.{openOf, unpack, soundList}
 use Rattle.rules.specs.Asks.{callerFile, newFile, recordOf}
 use Rattle.rules.specs.Codes.{rowsAll, rows15, rows16, rows19, rows22, rows23, rows33, rows34, rows41, rows42, rows43}
@@ -57,17 +57,17 @@ asked p c b =
 
 -- the table of a call
 unfoldable pub rowsOf : Chosen → Asked → Buffers → List Row
-rowsOf (Call Open) a b = rows15 (a .process) (a .list) (a .place) (a .file) (a .found) b
+rowsOf (Call Open) a b = rows15 (a .process) (a .list) (a .place) (a .file) (a .found) (b .fcb)
 rowsOf (Call Close) a b = rows16 (a .place)
-rowsOf (Call Delete) a b = rows19 (a .list) (a .file) (a .found) b
-rowsOf (Call Make) a b = rows22 (a .process) (a .list) (a .found) b
-rowsOf (Call Rename) a b = rows23 (a .list) (a .file) (a .found) (lookUp (b .image) (newFile (a .process) (a .list) (b .fcb))) b
-rowsOf (Call Read) a b = rows33 (a .place) (a .entry) (a .number) b
-rowsOf (Call Write) a b = rows34 (a .process) (a .list) (a .place) (a .file) (a .found) (a .entry) (a .number) b
-rowsOf (Call WriteZeros) a b = rows34 (a .process) (a .list) (a .place) (a .file) (a .found) (a .entry) (a .number) b
-rowsOf (Call TestWrite) a b = rows41 (a .process) (a .list) (a .place) (a .file) (a .found) (a .entry) (a .number) b
-rowsOf (Call Lock) a b = rows42 (a .process) (a .list) (a .place) (a .file) (a .number) (a .run) b
-rowsOf (Call Unlock) a b = rows43 (a .list) (a .place) (a .number) (a .run) b
+rowsOf (Call Delete) a b = rows19 (a .list) (a .file) (a .found) (b .fcb) (b .image)
+rowsOf (Call Make) a b = rows22 (a .process) (a .list) (a .found) (b .fcb) (b .image)
+rowsOf (Call Rename) a b = rows23 (a .list) (a .file) (a .found) (lookUp (b .image) (newFile (a .process) (a .list) (b .fcb))) (b .fcb) (b .image)
+rowsOf (Call Read) a b = rows33 (a .place) (a .entry) (a .number) (b .image)
+rowsOf (Call Write) a b = rows34 (a .process) (a .list) (a .place) (a .file) (a .found) (a .entry) (a .number) (b .image)
+rowsOf (Call WriteZeros) a b = rows34 (a .process) (a .list) (a .place) (a .file) (a .found) (a .entry) (a .number) (b .image)
+rowsOf (Call TestWrite) a b = rows41 (a .process) (a .list) (a .place) (a .file) (a .found) (a .entry) (a .number) (b .dma) (b .image)
+rowsOf (Call Lock) a b = rows42 (a .process) (a .list) (a .place) (a .file) (a .number) (a .run) (b .dma) (b .image)
+rowsOf (Call Unlock) a b = rows43 (a .list) (a .place) (a .number) (a .run) (b .dma)
 rowsOf (Call FreeSpace) a b = []
 rowsOf (Call Terminate) a b = []
 rowsOf Unknown a b = []
@@ -100,10 +100,12 @@ rowsCall n p c b = rowsAll n p c b ++ rowsOf (chosen n) (asked p c b) b
 unfoldable pub call : ℕ → ℕ → ℕ → Buffers → Outcome
 call n p c b = unless (rowsCall n p c b) b (effectOf (chosen n) (asked p c b) b)
 
--- what the general table leaves to rely on
+-- what the general table leaves to rely on (the image's length follows from its soundness)
 pub record Ready (b : Buffers) : Type 0 where
   pub fcb-long : length (b .fcb) ≡ fcbSize
   pub dma-long : length (b .dma) ≡ dmaSize
   pub list-long : length (b .list) ≡ listSize
+  pub image-long : 3 * blockSize ≤ length (b .image)
+  pub image-short : length (b .image) ≤ 256 * blockSize
   pub image-sound : soundImage highest (b .image) ≡ true
   pub list-sound : soundList highest (b .list) (b .image) ≡ true

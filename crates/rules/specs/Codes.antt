@@ -1,6 +1,6 @@
 -- "Codes, in the order tested": the general table, and the table of each call. A row applies where its test holds and none
 -- before it does. l is the list, f the caller's file, x what looking it up tells, o the place of the caller's open of it (64:
--- none), e the entry of its extent with the record r (64: missing). Assumes nothing.
+-- none), e the entry of its extent with the record r (64: missing), s the image. Each table names the buffers that it reads. Assumes nothing.
 use Prim.Native.Nat.{ℕ, _+_, _/_}
 use mathlib.Core.Bool.{Bool, true, false, not}
 use mathlib.Core.List.{List, [], _∷_, _++_}
@@ -21,21 +21,21 @@ use Rattle.rules.specs.Asks.{openMode, lastOf}
 -- ---- The general table
 
 -- unknown function, process over 15, count outside 1 to 16, FCB, DMA or list of wrong length
-unfoldable pub badNumbers : ℕ → ℕ → ℕ → Buffers → Bool
-badNumbers n p c b =
+unfoldable pub badNumbers : ℕ → ℕ → ℕ → List ℕ → List ℕ → List ℕ → Bool
+badNumbers n p c fcb dma list =
     isUnknown (chosen n) or leb processes p or ltb c 1 or ltb 16 c
-    or not (eqb (length (b .fcb)) fcbSize) or not (eqb (length (b .dma)) dmaSize) or not (eqb (length (b .list)) listSize)
+    or not (eqb (length fcb) fcbSize) or not (eqb (length dma) dmaSize) or not (eqb (length list) listSize)
 
 -- FCB byte 0 is neither 0 nor 1 (not for 46, 143)
-unfoldable pub badDrive : ℕ → Buffers → Bool
-badDrive n b = ltb 1 (byte (b .fcb) 0) and not (eqb n 46) and not (eqb n 143)
+unfoldable pub badDrive : ℕ → List ℕ → Bool
+badDrive n fcb = ltb 1 (byte fcb 0) and not (eqb n 46) and not (eqb n 143)
 
 unfoldable pub rowsAll : ℕ → ℕ → ℕ → Buffers → List Row
 rowsAll n p c b =
-    255 ∕ 13 when badNumbers n p c b
+    255 ∕ 13 when badNumbers n p c (b .fcb) (b .dma) (b .list)
     ∷ 255 ∕ 1 when not (soundImage highest (b .image))
     ∷ 255 ∕ 12 when not (soundList highest (b .list) (b .image))
-    ∷ 255 ∕ 4 when badDrive n b
+    ∷ 255 ∕ 4 when badDrive n (b .fcb)
     ∷ []
 
 -- ---- 15
@@ -48,26 +48,26 @@ unfoldable pub standsAgainstAt : LockList → ℕ → File → ℕ → ℕ → B
 standsAgainstAt l p f mode i = opensFileAt l f i and standsAgainst p mode (itemAt l i)
 
 -- Where the caller has it open in the same mode, that is success: the rows after it are then no more looked at.
-unfoldable pub rows15 : ℕ → LockList → ℕ → File → Found → Buffers → List Row
-rows15 p l o f x b =
-    255 ∕ 9 when not (legalName (b .fcb) 1)
+unfoldable pub rows15 : ℕ → LockList → ℕ → File → Found → List ℕ → List Row
+rows15 p l o f x fcb =
+    255 ∕ 9 when not (legalName fcb 1)
     ∷ 255 ∕ 0 when missing x
-    ∷ 255 ∕ 5 when (isOpened o and not (eqb (itemAt l o .mode) (openMode (b .fcb))))
+    ∷ 255 ∕ 5 when (isOpened o and not (eqb (itemAt l o .mode) (openMode fcb)))
     ∷ onlyIf (not (isOpened o))
-    (255 ∕ 5 when any (standsAgainstAt l p f (openMode (b .fcb))) 64
+    (255 ∕ 5 when any (standsAgainstAt l p f (openMode fcb)) 64
     ∷ 255 ∕ 10 when leb (l .openlimit) (opensBy l p)
     ∷ 255 ∕ 11 when leb (l .capacity) (freePlace l)
     ∷ [])
 
 -- ---- 22
 
-unfoldable pub rows22 : ℕ → LockList → Found → Buffers → List Row
-rows22 p l x b =
-    255 ∕ 9 when not (legalName (b .fcb) 1)
+unfoldable pub rows22 : ℕ → LockList → Found → List ℕ → List ℕ → List Row
+rows22 p l x fcb s =
+    255 ∕ 9 when not (legalName fcb 1)
     ∷ 255 ∕ 8 when not (missing x)
     ∷ 255 ∕ 10 when leb (l .openlimit) (opensBy l p)
     ∷ 255 ∕ 11 when leb (l .capacity) (freePlace l)
-    ∷ 255 ∕ 0 when leb entries (freeEntry (b .image))
+    ∷ 255 ∕ 0 when leb entries (freeEntry s)
     ∷ []
 
 -- ---- 16
@@ -81,12 +81,12 @@ rows16 o = 255 ∕ 6 when not (isOpened o) ∷ []
 unfoldable pub stopsDelete : LockList → File → Bool
 stopsDelete l f = anyOpen l f
 
-unfoldable pub rows19 : LockList → File → Found → Buffers → List Row
-rows19 l f x b =
-    255 ∕ 9 when not (legalName (b .fcb) 1)
+unfoldable pub rows19 : LockList → File → Found → List ℕ → List ℕ → List Row
+rows19 l f x fcb s =
+    255 ∕ 9 when not (legalName fcb 1)
     ∷ 255 ∕ 0 when missing x
     ∷ 255 ∕ 5 when stopsDelete l f
-    ∷ 255 ∕ 3 when readOnly (b .image) x
+    ∷ 255 ∕ 3 when readOnly s x
     ∷ []
 
 -- ---- 23
@@ -96,12 +96,12 @@ unfoldable pub stopsRename : LockList → File → Bool
 stopsRename l f = anyOpen l f
 
 -- y is what looking up the new name tells
-unfoldable pub rows23 : LockList → File → Found → Found → Buffers → List Row
-rows23 l f x y b =
-    255 ∕ 9 when (not (legalName (b .fcb) 1) or not (legalName (b .fcb) 17))
+unfoldable pub rows23 : LockList → File → Found → Found → List ℕ → List ℕ → List Row
+rows23 l f x y fcb s =
+    255 ∕ 9 when (not (legalName fcb 1) or not (legalName fcb 17))
     ∷ 255 ∕ 0 when missing x
     ∷ 255 ∕ 5 when stopsRename l f
-    ∷ 255 ∕ 3 when readOnly (b .image) x
+    ∷ 255 ∕ 3 when readOnly s x
     ∷ 255 ∕ 8 when not (missing y)
     ∷ []
 
@@ -112,15 +112,15 @@ unfoldable pub rowsThere : List ℕ → ℕ → ℕ → List Row
 rowsThere s e r = 4 ∕ 0 when leb entries e ∷ 1 ∕ 0 when eqb (blockIn s e r) 0 ∷ []
 
 -- byte 35 above 3: for bytes, that the record number is 262,144 or more
-unfoldable pub rows33 : ℕ → ℕ → ℕ → Buffers → List Row
-rows33 o e r b = 10 ∕ 0 when not (isOpened o) ∷ 6 ∕ 0 when ltb highest r ∷ rowsThere (b .image) e r
+unfoldable pub rows33 : ℕ → ℕ → ℕ → List ℕ → List Row
+rows33 o e r s = 10 ∕ 0 when not (isOpened o) ∷ 6 ∕ 0 when ltb highest r ∷ rowsThere s e r
 
 -- ---- 34, 40
 
-unfoldable pub rowsMay : ℕ → LockList → ℕ → File → Found → ℕ → Buffers → List Row
-rowsMay p l o f x r b =
+unfoldable pub rowsMay : ℕ → LockList → ℕ → File → Found → ℕ → List ℕ → List Row
+rowsMay p l o f x r s =
     10 ∕ 0 when not (isOpened o)
-    ∷ 255 ∕ 3 when (readOnly (b .image) x or eqb (itemAt l o .mode) readonly)
+    ∷ 255 ∕ 3 when (readOnly s x or eqb (itemAt l o .mode) readonly)
     ∷ 6 ∕ 0 when ltb highest r
     ∷ 8 ∕ 0 when lockedByOther l p f r
     ∷ []
@@ -132,8 +132,8 @@ rowsRoom s e r =
     ∷ 2 ∕ 0 when (eqb (blockIn s e r) 0 and leb (blocks s) (freeBlock s))
     ∷ []
 
-unfoldable pub rows34 : ℕ → LockList → ℕ → File → Found → ℕ → ℕ → Buffers → List Row
-rows34 p l o f x e r b = rowsMay p l o f x r b ++ rowsRoom (b .image) e r
+unfoldable pub rows34 : ℕ → LockList → ℕ → File → Found → ℕ → ℕ → List ℕ → List Row
+rows34 p l o f x e r s = rowsMay p l o f x r s ++ rowsRoom s e r
 
 -- ---- 41
 
@@ -141,10 +141,12 @@ rows34 p l o f x e r b = rowsMay p l o f x r b ++ rowsRoom (b .image) e r
 unfoldable pub differs : List ℕ → List ℕ → ℕ → ℕ → Bool
 differs dma s at k = not (eqb (byte dma k) (byte s (at + k)))
 
-unfoldable pub rows41 : ℕ → LockList → ℕ → File → Found → ℕ → ℕ → Buffers → List Row
-rows41 p l o f x e r b =
-    rowsMay p l o f x r b ++ rowsThere (b .image) e r
-    ++ (7 ∕ 0 when any (differs (b .dma) (b .image) (recordAt (blockIn (b .image) e r) r)) recordSize ∷ [])
+-- first 128 DMA bytes differ from the record
+unfoldable pub rowsDiffer : List ℕ → List ℕ → ℕ → ℕ → List Row
+rowsDiffer dma s block r = 7 ∕ 0 when any (differs dma s (recordAt block r)) recordSize ∷ []
+
+unfoldable pub rows41 : ℕ → LockList → ℕ → File → Found → ℕ → ℕ → List ℕ → List ℕ → List Row
+rows41 p l o f x e r dma s = rowsMay p l o f x r s ++ (rowsThere s e r ++ rowsDiffer dma s (blockIn s e r) r)
 
 -- ---- 42, 43
 
@@ -153,11 +155,11 @@ unfoldable pub isFileId : List ℕ → ℕ → Bool
 isFileId dma o = eqb (byte dma 0) o and eqb (byte dma 1) 0
 
 -- In modes 0 and 2 it is success, and no row after it is looked at.
-unfoldable pub rowsRun : LockList → ℕ → ℕ → ℕ → Buffers → List Row → List Row
-rowsRun l o r n b more =
+unfoldable pub rowsRun : LockList → ℕ → ℕ → ℕ → List ℕ → List Row → List Row
+rowsRun l o r n dma more =
     10 ∕ 0 when not (isOpened o)
     ∷ onlyIf (eqb (itemAt l o .mode) unlocked)
-    (13 ∕ 0 when not (isFileId (b .dma) o)
+    (13 ∕ 0 when not (isFileId dma o)
     ∷ 6 ∕ 0 when ltb highest (lastOf r n)
     ∷ more)
 
@@ -188,9 +190,8 @@ rowsTake p l f r n =
     ∷ 14 ∕ 0 when ltb (freePlaces l) (count (isNew l p f r) n)
     ∷ []
 
-unfoldable pub rows42 : ℕ → LockList → ℕ → File → ℕ → ℕ → Buffers → List Row
-rows42 p l o f r n b =
-    rowsRun l o r n b (rowsLacking (b .image) f r n (firstLacking (b .image) f r n) ++ rowsTake p l f r n)
+unfoldable pub rows42 : ℕ → LockList → ℕ → File → ℕ → ℕ → List ℕ → List ℕ → List Row
+rows42 p l o f r n dma s = rowsRun l o r n dma (rowsLacking s f r n (firstLacking s f r n) ++ rowsTake p l f r n)
 
-unfoldable pub rows43 : LockList → ℕ → ℕ → ℕ → Buffers → List Row
-rows43 l o r n b = rowsRun l o r n b []
+unfoldable pub rows43 : LockList → ℕ → ℕ → ℕ → List ℕ → List Row
+rows43 l o r n dma = rowsRun l o r n dma []

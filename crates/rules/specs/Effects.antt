@@ -30,7 +30,7 @@ fileId o = o ∷ 0 ∷ 0 ∷ []
 
 -- Open and Make set FCB bytes 12 to 14 to 0 and 15 to 31 to extent 0's count and map; ..
 unfoldable pub fcbMapped : List ℕ → ℕ → List ℕ → List ℕ
-fcbMapped s e fcb = put 12 (0 ∷ 0 ∷ 0 ∷ part (entrySize * e + 15) 17 s) fcb
+fcbMapped s e fcb = put 15 (part (entrySize * e + 15) 17 s) (put 12 (0 ∷ 0 ∷ 0 ∷ []) fcb)
 
 -- .. in unlocked mode bytes 33 to 35 become the File ID.
 unfoldable pub fcbNumbered : ℕ → ℕ → List ℕ → List ℕ

@@ -1,7 +1,9 @@
 // The values that the paper names, as the code holds them.
 pub mod answer;
+pub mod bytes;
 pub mod file;
 pub mod item;
 pub mod list;
 pub mod routine;
 pub mod spot;
+pub mod tests;

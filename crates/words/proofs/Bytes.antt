@@ -6,7 +6,7 @@ use mathlib.Core.Logic.{_⊎_, ⊎-elim}
 use native.Mathlib.Numerals.{add-one}
 use native.Mathlib.Omega.{arith}
 use lib.ListN.{length, getD, set, take, drop, replicate, length-append, length-take, length-drop, length-replicate, List·getD-append, List·getD-eq-default}
-use lib.Seq.{getD-append-add, getD-take, getD-drop, length-take-le, take-length, drop-drop, paste, paste-suc}
+use lib.Seq.{getD-append-add, getD-take, getD-drop, length-take-le, take-length, take-at, drop-at, drop-drop, paste, paste-suc}
 use borrow.Rule.Slice.PartMut.{putMid}
 use Rattle.words.specs.Bytes.{byte, part, put, word}
 
@@ -52,6 +52,13 @@ module _ (at : ℕ) (v s : List ℕ) (fits : at + length v ≤ length s) where
 
   pub length-put : length (put at v s) ≡ length s
   length-put = ap length opened ∙ simp (length-append, length-drop) (omega (arith, front))
+
+  -- what was put is there
+  pub part-put : part at (length v) (put at v s) ≡ v
+  part-put =
+      ap (λ (m : List ℕ). part at (length v) m) opened
+      ∙ ap (λ (m : List ℕ). take (length v) m) (drop-at (take at s) (v ++ drop (at + length v) s) at front)
+      ∙ take-at v (drop (at + length v) s) (length v) refl
 
 -- ---- loops and loans that put bytes
 

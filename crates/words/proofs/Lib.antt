@@ -4,3 +4,4 @@ pub mod Bytes
 pub mod Tables
 pub mod Counts
 pub mod Sets
+pub mod Items

@@ -136,7 +136,7 @@ module _ {A : Type 0} (f : A → List ℕ) (g : List ℕ → A) (w : ℕ) where
 
 -- ---- turns
 
-pub turns-none : {A : Type 0} (step : ℕ → A → A) (x : A) → turns step 0 x ≡ x
+pub turns-none : {A : Type 0} (step : ℕ → A → A) (x : A) → x ≡ turns step 0 x
 unfolding turns
 turns-none step x = refl
 
@@ -144,3 +144,6 @@ turns-none step x = refl
 pub turns-more : {A : Type 0} (step : ℕ → A → A) (i : ℕ) (x y z : A) → y ≡ turns step i x → z ≡ step i y → z ≡ turns step (i + 1) x
 unfolding turns
 turns-more {A} step i x y z h e = rw add-one (e ∙ ap (λ (t : A). step i t) h)
+
+pub turns-ends : {A : Type 0} (step : ℕ → A → A) (n i : ℕ) (x y : A) → y ≡ turns step i x → n ≤ i → i ≤ n → y ≡ turns step n x
+turns-ends step n i x y h g l = let q : i ≡ n = omega arith in rw q at h

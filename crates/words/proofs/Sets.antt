@@ -2,18 +2,19 @@
 use Prim.Native.Nat.{ℕ, _+_, _-_, _≤_, _<_}
 use mathlib.Core.Path.{_≡_, refl, sym, ap, _∙_}
 use mathlib.Core.Bool.{Bool, true, false, not}
-use mathlib.Core.List.{List, [], _∷_}
+use mathlib.Core.List.{List, [], _∷_, _++_}
 use native.Mathlib.Numerals.{add-one}
 use native.Mathlib.Omega.{arith}
 use borrow.Author.Needs.{needs}
 use borrow.Author.Tests.{lt-leb, le-leb, lt-ltb, le-ltb, eq-eqb, ne-eqb, not-true, not-false}
-use lib.Dec.{eqb}
+use lib.Dec.{eqb, leb, ltb}
 use lib.ListN.{length}
 use Rattle.words.specs.Tests.{_and_, _or_, _if_else_, all, any, lowest, count}
 use Rattle.words.specs.Lists.{tab}
-use Rattle.words.specs.Tables.{Row, _when_, firstOf}
+use Rattle.words.specs.Tables.{Row, _when_, firstOf, noneZero, onlyIf}
 use Rattle.words.proofs.Tests.{all-none, all-more, all-fails, any-none, any-skip, any-found, lowest-none, lowest-found}
-use Rattle.words.proofs.Lists.{filled, filled-turn, filled-all, turns-none, turns-more}
+use Rattle.words.proofs.Tables.{first-then, first-stays}
+use Rattle.words.proofs.Lists.{filled, filled-turn, filled-all, turns-none, turns-more, turns-ends}
 
 -- ---- what a callee's answer r says of the definition x that its contract cites
 
@@ -39,6 +40,12 @@ not-as r x y e t = ne-eqb x y (λ q. t (e ∙ q))
 
 pub test-as : (a r x : ℕ) → r ≡ x → eqb a r ≡ eqb a x
 test-as a r x e = rw e
+
+pub less-as : (r x a : ℕ) → r ≡ x → ltb r a ≡ ltb x a
+less-as r x a e = rw e
+
+pub most-as : (r x a : ℕ) → r ≡ x → leb r a ≡ leb x a
+most-as r x a e = rw e
 
 -- handed on, negated
 pub not-answer : (r x : Bool) → r ≡ x → not r ≡ not x
@@ -158,6 +165,22 @@ pub row-none : (r : ℕ) → r ≡ 0 → r ≡ firstOf []
 unfolding firstOf
 row-none r h = h
 
+-- rows that are looked at only where a test holds
+pub only-on : (r : ℕ) (t : Bool) (rows : List Row) → t ≡ true → r ≡ firstOf rows → r ≡ firstOf (onlyIf t rows)
+unfolding onlyIf _if_else_
+only-on r t rows e h = rw e h
+
+pub only-off : (r : ℕ) (t : Bool) (rows : List Row) → t ≡ false → r ≡ 0 → r ≡ firstOf (onlyIf t rows)
+unfolding onlyIf firstOf _if_else_
+only-off r t rows e h = rw e h
+
+-- a table in two parts: c is the code of the first
+pub part-first : (c : ℕ) (xs ys : List Row) → c ≡ firstOf xs → (c ≡ 0 → ⊥) → c ≡ firstOf (xs ++ ys)
+part-first c xs ys e n = e ∙ sym (first-stays xs ys (λ q. n (e ∙ q)))
+
+pub part-then : (c r : ℕ) (xs ys : List Row) → c ≡ firstOf xs → c ≡ 0 → noneZero xs ≡ true → r ≡ firstOf ys → r ≡ firstOf (xs ++ ys)
+part-then c r xs ys e z k h = h ∙ sym (first-then xs ys (sym e ∙ z) k)
+
 -- ---- a match on a number
 
 -- in the arm for k, a number is no other number m
@@ -180,11 +203,16 @@ pub ruleset counts = (needs, answers, count-none, count-more, count-ends)
 
 pub ruleset fills = (needs, refl, filled-none, filled-turn, filled-ends)
 
+pub ruleset turning = (needs, refl, turns-none, turns-more, turns-ends)
+
 -- a function that tests one thing after the other
 pub ruleset choices = (if-yes, if-no, and-first, and-then, and-left, and-right, and-both, or-first, or-then, not-of-false, not-of-true, not-answer, same-as, not-as, test-as, tests, answers)
 
+-- .. where a byte was made wider
+pub ruleset wides = (less-as, most-as, and-first, and-then, or-first, or-then, tests)
+
 -- a table of codes
-pub ruleset codes = (row-yes, row-no, row-none, or-left, or-right, or-none, not-of-false, not-of-true, same-as, not-as, test-as, tests, answers)
+pub ruleset codes = (row-yes, row-no, row-none, only-on, only-off, or-left, or-right, or-none, not-of-false, not-of-true, same-as, not-as, test-as, tests, answers)
 
 -- a match over numbers
 pub ruleset keys = (if-yes, if-no, eq-eqb, ne-eqb, key-not, refl)

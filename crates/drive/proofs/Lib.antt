@@ -1,0 +1,3 @@
+pub mod Marks
+pub mod Begun
+pub mod Looking

@@ -1,0 +1,13 @@
+use borrow.Author.Needs.{needs}
+use Rattle.words.proofs.Sets.{wides}
+use Rattle.drive.proofs.check.module_fits.Statement.{statement}
+use Rattle.drive.proofs.check.module_fits.Tie as tie
+
+pub module-fits-spec : {M : Type 1} → statement M
+module-fits-spec =
+    tie.close
+    (tie.spec
+    -- wide-requires src/check.rt:34:5
+    (λ c κs. search needs)
+    -- returns src/check.rt:31:1
+    (λ c. search wides depth 8 fits 20000))

@@ -1,0 +1,19 @@
+use borrow.Author.Needs.{needs}
+use Rattle.words.proofs.Sets.{choices}
+use Rattle.rules.specs.Drive.{soundDirectory}
+use Rattle.drive.proofs.check.sound_directory.Statement.{statement}
+use Rattle.drive.proofs.check.sound_directory.Tie as tie
+
+pub sound-directory-spec : {M : Type 1} → statement M
+unfolding soundDirectory
+sound-directory-spec =
+    tie.close
+    (tie.spec
+    -- good-entries-requires src/check.rt:199:9
+    (λ c κs. search needs)
+    -- returns src/check.rt:200:9
+    (λ c. search choices depth 8 fits 20000)
+    -- all-begun-requires src/check.rt:202:5
+    (λ c κs. search needs)
+    -- returns-2 src/check.rt:195:1
+    (λ c. search choices depth 8 fits 20000))

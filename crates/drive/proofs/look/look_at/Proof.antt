@@ -1,0 +1,15 @@
+use borrow.Author.Needs.{needs}
+use Rattle.drive.proofs.Looking.{look-begins}
+use Rattle.drive.proofs.look.look_at.Statement.{statement}
+use Rattle.drive.proofs.look.look_at.Tie as tie
+
+pub look-at-spec : {M : Type 1} → statement M
+look-at-spec =
+    tie.close
+    (tie.spec
+    -- look-block-requires src/look.rt:53:13
+    (λ c κs. search needs)
+    -- part-at-requires src/look.rt:53:5
+    (λ c κs. search needs)
+    -- returns src/look.rt:50:1
+    (λ c. search look-begins))

@@ -1,0 +1,22 @@
+use borrow.Author.Needs.{needs}
+use native.Mathlib.Omega.{arith}
+use Rattle.drive.proofs.Looking.{looked-image, looked-user, looked-long, looked-block, looked-not}
+use Rattle.drive.proofs.look.look_block.Statement.{statement}
+use Rattle.drive.proofs.look.look_block.Tie as tie
+
+pub look-block-spec : {M : Type 1} → statement M
+look-block-spec =
+    tie.close
+    (tie.spec
+    -- may-look-requires src/look.rt:31:9
+    (λ c κs. search needs)
+    -- returns src/look.rt:32:9
+    (λ c. search (looked-not, needs))
+    -- cast-file-from src/look.rt:34:23
+    (λ c. omega (arith, looked-user _ _ _ _ _ (c .before .may-look .ensures) (c .if1 .left)))
+    -- file-from-requires src/look.rt:34:9
+    (λ c κs. search looked-long)
+    -- block-of-requires src/look.rt:35:5
+    (λ c κs. search looked-image)
+    -- returns-2 src/look.rt:28:1
+    (λ c. search (looked-block, needs)))

@@ -1,0 +1,56 @@
+-- The ends of a routine: what its answer and its buffers are is the outcome of a table and an effect. Assumes nothing.
+use Prim.Native.Nat.{ℕ}
+use mathlib.Core.Path.{_≡_, refl, sym, ap, _∙_}
+use mathlib.Core.Bool.{Bool, true, false}
+use mathlib.Core.List.{List, _++_}
+use lib.Dec.{eqb}
+use borrow.Author.Tests.{eq-eqb, ne-eqb}
+use Rattle.words.specs.Tests.{_if_else_}
+use Rattle.words.specs.Tables.{Row, firstOf, noneZero}
+use Rattle.words.proofs.Tables.{first-then, first-stays}
+use Rattle.rules.specs.Serves.{Buffers, Outcome, Did, outcome}
+use Rattle.rules.specs.declared.file.File.{File}
+use Rattle.rules.specs.declared.list.LockList.{LockList}
+use Rattle.rules.specs.declared.routine.Chosen.{Chosen}
+use Rattle.rules.specs.Locks.{unpack}
+use Rattle.rules.specs.Asks.{callerFile, recordOf}
+use Rattle.rules.specs.Call.{ends, unless, askedBy, asked, rowsOf, effectOf, served}
+
+-- an outcome by another name
+pub did-as : (o o′ : Outcome) (r : ℕ) (fcb dma list image : List ℕ) → o ≡ o′ → Did o r fcb dma list image → Did o′ r fcb dma list image
+did-as o o′ r fcb dma list image e d = rw e at d
+
+-- nothing changed
+pub did-none : (code : ℕ) (b : Buffers) → Did (outcome code b) code (b .fcb) (b .dma) (b .list) (b .image)
+did-none code b = record { gives = refl; leaves-fcb = refl; leaves-dma = refl; leaves-list = refl; leaves-image = refl }
+
+module _ (rows : List Row) (b : Buffers) (o : Outcome) (code : ℕ) (e : code ≡ firstOf rows) where
+  -- some row applies
+  pub did-refuse : (code ≡ 0 → ⊥) → Did (unless rows b o) code (b .fcb) (b .dma) (b .list) (b .image)
+  unfolding unless ends _if_else_
+  did-refuse n = rw (ne-eqb (firstOf rows) 0 (λ q. n (e ∙ q)), ← e) (did-none code b)
+
+  -- none does
+  pub did-pass : (r : ℕ) (fcb dma list image : List ℕ) → code ≡ 0 → Did o r fcb dma list image → Did (unless rows b o) r fcb dma list image
+  unfolding unless ends _if_else_
+  did-pass r fcb dma list image z d = rw (eq-eqb (firstOf rows) 0 (sym e ∙ z)) d
+
+-- a table in two parts
+module _ (xs ys : List Row) (b : Buffers) (o : Outcome) (code : ℕ) (e : code ≡ firstOf xs) where
+  pub did-refuse-first : (code ≡ 0 → ⊥) → Did (unless (xs ++ ys) b o) code (b .fcb) (b .dma) (b .list) (b .image)
+  did-refuse-first n = did-refuse (xs ++ ys) b o code (e ∙ sym (first-stays xs ys (λ q. n (e ∙ q)))) n
+
+  pub did-go-on : (r : ℕ) (fcb dma list image : List ℕ) → code ≡ 0 → noneZero xs ≡ true → Did (unless ys b o) r fcb dma list image → Did (unless (xs ++ ys) b o) r fcb dma list image
+  unfolding unless
+  did-go-on r fcb dma list image z h d =
+      did-as _ _ r fcb dma list image (ap (λ (c : ℕ). ends c b o) (sym (first-then xs ys (sym e ∙ z) h))) d
+
+-- ---- a call on the buffers, from what its routine found in them
+
+pub served-as : (k : Chosen) (p c : ℕ) (b : Buffers) (l : LockList) (f : File) (r : ℕ) → l ≡ unpack (b .list) → f ≡ callerFile p l (b .fcb) → r ≡ recordOf (b .fcb) → unless (rowsOf k (askedBy p c l f r (b .image)) b) b (effectOf k (askedBy p c l f r (b .image)) b) ≡ served k p c b
+unfolding served asked
+served-as k p c b l f r hl hf hr =
+    let g : f ≡ callerFile p (unpack (b .list)) (b .fcb) = hf ∙ ap (λ (m : LockList). callerFile p m (b .fcb)) hl in
+    ap (λ (m : LockList). unless (rowsOf k (askedBy p c m f r (b .image)) b) b (effectOf k (askedBy p c m f r (b .image)) b)) hl
+    ∙ ap (λ (m : File). unless (rowsOf k (askedBy p c (unpack (b .list)) m r (b .image)) b) b (effectOf k (askedBy p c (unpack (b .list)) m r (b .image)) b)) g
+    ∙ ap (λ (m : ℕ). unless (rowsOf k (askedBy p c (unpack (b .list)) (callerFile p (unpack (b .list)) (b .fcb)) m (b .image)) b) b (effectOf k (askedBy p c (unpack (b .list)) (callerFile p (unpack (b .list)) (b .fcb)) m (b .image)) b)) hr

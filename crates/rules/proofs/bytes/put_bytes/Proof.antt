@@ -1,0 +1,34 @@
+use Prim.Native.Nat.{_-_, _≤_}
+use lib.ListN.{length}
+use Rattle.words.proofs.Items.{Pasted, pastes}
+use Rattle.rules.proofs.bytes.put_bytes.Statement.{statement}
+use Rattle.rules.proofs.bytes.put_bytes.Tie as tie
+
+abbrev Inv-loop : tie.InvT-loop
+Inv-loop s₀ at v i₀ s i = (i ≤ length v) × Pasted s₀ at v s i
+
+abbrev μ-loop : tie.MeasureT-loop
+μ-loop s₀ at v i₀ s i = length v - i
+
+pub put-bytes-spec : {M : Type 1} → statement M
+put-bytes-spec =
+    tie.close
+    (tie.spec Inv-loop μ-loop
+    -- loop-holds src/bytes.rt:12:5
+    (λ c. search pastes)
+    -- shared-slice-read-s src/bytes.rt:13:21
+    (λ c. search pastes)
+    -- add-s src/bytes.rt:13:11
+    (λ c. search pastes)
+    -- slice-write-s src/bytes.rt:13:9
+    (λ c. search pastes)
+    -- add-i src/bytes.rt:14:9
+    (λ c. search pastes)
+    -- loop-less src/bytes.rt:12:5
+    (λ c. search pastes)
+    -- loop-again src/bytes.rt:12:5
+    (λ c. search pastes)
+    -- same-length src/bytes.rt:7:1
+    (λ c. search pastes)
+    -- returns src/bytes.rt:7:1
+    (λ c. search pastes))

@@ -1,0 +1,21 @@
+use borrow.Author.Needs.{needs}
+use Rattle.rules.specs.Effects.{isInRun}
+use Rattle.rules.proofs.Lists.{runs}
+use Rattle.rules.proofs.item.Item.is_in_run.Statement.{statement}
+use Rattle.rules.proofs.item.Item.is_in_run.Tie as tie
+
+pub is-in-run-spec : {M : Type 1} → statement M
+unfolding isInRun
+is-in-run-spec =
+    tie.close
+    (tie.spec
+    -- returns src/item.rt:182:13
+    (λ c. search runs depth 8 fits 20000)
+    -- returns-2 src/item.rt:185:13
+    (λ c. search runs depth 8 fits 20000)
+    -- returns-3 src/item.rt:188:13
+    (λ c. search runs depth 8 fits 20000)
+    -- is-of-file-requires src/item.rt:190:9
+    (λ c κs. search needs)
+    -- returns-4 src/item.rt:178:5
+    (λ c. search runs depth 8 fits 20000))

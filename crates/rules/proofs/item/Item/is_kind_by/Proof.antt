@@ -1,0 +1,14 @@
+use Rattle.words.proofs.Sets.{choices}
+use Rattle.rules.specs.Locks.{isKindBy}
+use Rattle.rules.proofs.item.Item.is_kind_by.Statement.{statement}
+use Rattle.rules.proofs.item.Item.is_kind_by.Tie as tie
+
+pub is-kind-by-spec : {M : Type 1} → statement M
+unfolding isKindBy
+is-kind-by-spec =
+    tie.close
+    (tie.spec
+    -- returns src/item.rt:134:13
+    (λ c. search choices depth 8 fits 20000)
+    -- returns-2 src/item.rt:130:5
+    (λ c. search choices depth 8 fits 20000))

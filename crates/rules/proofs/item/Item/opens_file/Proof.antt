@@ -1,0 +1,21 @@
+use borrow.Author.Needs.{needs}
+use Rattle.words.proofs.Sets.{choices}
+use Rattle.rules.specs.Locks.{opensFile}
+use Rattle.rules.proofs.item.Item.opens_file.Statement.{statement}
+use Rattle.rules.proofs.item.Item.opens_file.Tie as tie
+
+pub opens-file-spec : {M : Type 1} → statement M
+unfolding opensFile
+opens-file-spec =
+    tie.close
+    (tie.spec
+    -- returns src/item.rt:83:13
+    (λ c. search choices depth 8 fits 20000)
+    -- user-in-requires src/item.rt:85:12
+    (λ c κs. search needs)
+    -- returns-2 src/item.rt:86:13
+    (λ c. search choices depth 8 fits 20000)
+    -- same-name-requires src/item.rt:90:9
+    (λ c κs. search needs)
+    -- returns-3 src/item.rt:79:5
+    (λ c. search choices depth 8 fits 20000))

@@ -1,0 +1,18 @@
+use mathlib.Core.Path.{refl}
+use borrow.Author.Needs.{needs}
+use Rattle.words.proofs.Sets.{choices}
+use Rattle.rules.specs.Effects.{unlessInRun}
+use Rattle.rules.proofs.item.Item.unless_in_run.Statement.{statement}
+use Rattle.rules.proofs.item.Item.unless_in_run.Tie as tie
+
+pub unless-in-run-spec : {M : Type 1} → statement M
+unfolding unlessInRun
+unless-in-run-spec =
+    tie.close
+    (tie.spec
+    -- is-in-run-requires src/item.rt:207:12
+    (λ c κs. search needs)
+    -- returns src/item.rt:208:13
+    (λ c. search (choices, refl) depth 8 fits 20000)
+    -- returns-2 src/item.rt:204:5
+    (λ c. search (choices, refl) depth 8 fits 20000))

@@ -1,0 +1,18 @@
+use mathlib.Core.Path.{refl}
+use borrow.Author.Needs.{needs}
+use Rattle.words.proofs.Sets.{choices}
+use Rattle.rules.specs.Effects.{unlessOfFile}
+use Rattle.rules.proofs.item.Item.unless_of_file.Statement.{statement}
+use Rattle.rules.proofs.item.Item.unless_of_file.Tie as tie
+
+pub unless-of-file-spec : {M : Type 1} → statement M
+unfolding unlessOfFile
+unless-of-file-spec =
+    tie.close
+    (tie.spec
+    -- is-of-file-requires src/item.rt:197:12
+    (λ c κs. search needs)
+    -- returns src/item.rt:198:13
+    (λ c. search (choices, refl) depth 8 fits 20000)
+    -- returns-2 src/item.rt:194:5
+    (λ c. search (choices, refl) depth 8 fits 20000))

@@ -1,0 +1,39 @@
+use Prim.Native.Nat.{_-_, _≤_}
+use mathlib.Core.Path.{_≡_}
+use Rattle.words.specs.Tests.{count}
+use Rattle.words.proofs.Items.{adds}
+use Rattle.rules.specs.Locks.{isKindByAt}
+use Rattle.rules.proofs.list.LockList.kinds_by.Statement.{statement}
+use Rattle.rules.proofs.list.LockList.kinds_by.Tie as tie
+
+abbrev Inv-loop : tie.InvT-loop
+Inv-loop kind p self n₀ i₀ n i = (i ≤ 64) × ((n ≤ i) × (n ≡ count (isKindByAt self kind p) i))
+
+abbrev μ-loop : tie.MeasureT-loop
+μ-loop kind p self n₀ i₀ n i = 64 - i
+
+pub kinds-by-spec : {M : Type 1} → statement M
+unfolding isKindByAt
+kinds-by-spec =
+    tie.close
+    (tie.spec Inv-loop μ-loop
+    -- loop-holds src/list.rt:207:9
+    (λ c. search adds)
+    -- mul-it src/list.rt:208:22
+    (λ c. search adds)
+    -- element-copy-out-it src/list.rt:208:22
+    (λ c. search adds)
+    -- is-kind-by-requires src/list.rt:209:25
+    (λ c κs. search adds)
+    -- one-if-requires src/list.rt:209:18
+    (λ c κs. search adds)
+    -- add-n src/list.rt:209:13
+    (λ c. search adds)
+    -- add-i src/list.rt:210:13
+    (λ c. search adds)
+    -- loop-less src/list.rt:207:9
+    (λ c. search adds)
+    -- loop-again src/list.rt:207:9
+    (λ c. search adds)
+    -- returns src/list.rt:202:5
+    (λ c. search adds))

@@ -1,0 +1,14 @@
+use borrow.Author.Needs.{needs}
+use Rattle.rules.specs.Locks.{locksBy}
+use Rattle.rules.proofs.list.LockList.locks_by.Statement.{statement}
+use Rattle.rules.proofs.list.LockList.locks_by.Tie as tie
+
+pub locks-by-spec : {M : Type 1} → statement M
+unfolding locksBy
+locks-by-spec =
+    tie.close
+    (tie.spec
+    -- kinds-by-requires src/list.rt:222:9
+    (λ c κs. search needs)
+    -- returns src/list.rt:219:5
+    (λ c. search needs))

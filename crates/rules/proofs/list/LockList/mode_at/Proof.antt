@@ -1,0 +1,18 @@
+use borrow.Author.Needs.{needs}
+use Rattle.words.proofs.Lists.{length-mapped}
+use Rattle.rules.proofs.Lists.{past-mode}
+use Rattle.rules.proofs.list.LockList.mode_at.Statement.{statement}
+use Rattle.rules.proofs.list.LockList.mode_at.Tie as tie
+
+pub mode-at-spec : {M : Type 1} → statement M
+mode-at-spec =
+    tie.close
+    (tie.spec
+    -- mul-result src/list.rt:112:20
+    (λ c. search needs)
+    -- element-copy-out-result src/list.rt:112:13
+    (λ c. search needs)
+    -- returns src/list.rt:112:13
+    (λ c. search needs)
+    -- returns-2 src/list.rt:108:5
+    (λ c. search (needs, length-mapped, past-mode)))

@@ -1,0 +1,16 @@
+use borrow.Author.Needs.{needs}
+use Rattle.rules.specs.Effects.{opened}
+use Rattle.rules.proofs.list.LockList.open.Statement.{statement}
+use Rattle.rules.proofs.list.LockList.open.Tie as tie
+
+pub open-spec : {M : Type 1} → statement M
+unfolding opened
+open-spec =
+    tie.close
+    (tie.spec
+    -- open-requires src/list.rt:96:20
+    (λ c κs. search needs)
+    -- place-requires src/list.rt:96:9
+    (λ c κs. search needs)
+    -- returns src/list.rt:92:5
+    (λ c. cc))

@@ -1,0 +1,14 @@
+use borrow.Author.Needs.{needs}
+use Rattle.rules.specs.Locks.{opensBy}
+use Rattle.rules.proofs.list.LockList.opens_by.Statement.{statement}
+use Rattle.rules.proofs.list.LockList.opens_by.Tie as tie
+
+pub opens-by-spec : {M : Type 1} → statement M
+unfolding opensBy
+opens-by-spec =
+    tie.close
+    (tie.spec
+    -- kinds-by-requires src/list.rt:215:9
+    (λ c κs. search needs)
+    -- returns src/list.rt:212:5
+    (λ c. search needs))

@@ -1,0 +1,37 @@
+use Prim.Native.Nat.{_-_, _≤_}
+use Rattle.rules.specs.Effects.{unlessInRun, unlockedRun}
+use Rattle.rules.proofs.Lists.{Gone, gones}
+use Rattle.rules.proofs.list.LockList.unlock.Statement.{statement}
+use Rattle.rules.proofs.list.LockList.unlock.Tie as tie
+
+abbrev Inv-loop : tie.InvT-loop
+Inv-loop p f r n self₀ i₀ self i = (i ≤ 64) × Gone (unlessInRun p f r n) self₀ self i
+
+abbrev μ-loop : tie.MeasureT-loop
+μ-loop p f r n self₀ i₀ self i = 64 - i
+
+pub unlock-spec : {M : Type 1} → statement M
+unfolding unlockedRun
+unlock-spec =
+    tie.close
+    (tie.spec Inv-loop μ-loop
+    -- loop-holds src/list.rt:40:9
+    (λ c. search gones)
+    -- mul-it src/list.rt:41:22
+    (λ c. search gones)
+    -- element-copy-out-it src/list.rt:41:22
+    (λ c. search gones)
+    -- unless-in-run-requires src/list.rt:42:29
+    (λ c κs. search gones)
+    -- mul-t10 src/list.rt:42:13
+    (λ c. search gones)
+    -- element-set-from-self src/list.rt:42:13
+    (λ c. search gones)
+    -- add-i src/list.rt:43:13
+    (λ c. search gones)
+    -- loop-less src/list.rt:40:9
+    (λ c. search gones)
+    -- loop-again src/list.rt:40:9
+    (λ c. search gones)
+    -- returns src/list.rt:36:5
+    (λ c. search gones))

@@ -1,0 +1,27 @@
+use mathlib.Core.Path.{refl}
+use borrow.Author.Needs.{needs}
+use Rattle.words.proofs.Bytes.{put-as}
+use Rattle.words.proofs.Sets.{choices}
+use Rattle.rules.specs.Effects.{entered}
+use Rattle.writing.proofs.record.enter.Statement.{statement}
+use Rattle.writing.proofs.record.enter.Tie as tie
+
+pub enter-spec : {M : Type 1} → statement M
+unfolding entered
+enter-spec =
+    tie.close
+    (tie.spec
+    -- mul-at src/record.rt:62:18
+    (λ c. search needs)
+    -- new-entry-requires src/record.rt:63:17
+    (λ c κs. search needs)
+    -- slice-aggregate-put-bytes src/record.rt:64:30
+    (λ c. search needs)
+    -- put-bytes-requires src/record.rt:64:9
+    (λ c κs. search needs)
+    -- same-length src/record.rt:57:1
+    (λ c. search needs)
+    -- returns src/record.rt:57:1
+    (λ c. search (choices, refl, put-as) depth 8 fits 20000)
+    -- returns-2 src/record.rt:57:1
+    (λ c. search (choices, refl, put-as) depth 8 fits 20000))
