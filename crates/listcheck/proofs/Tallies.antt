@@ -1,0 +1,111 @@
+-- Laws of counting each process's items in one pass. Assumes nothing.
+use Prim.Native.Nat.{ℕ, _+_, _≤_, _<_}
+use mathlib.Core.Path.{_≡_, refl, sym, ap, _∙_}
+use mathlib.Core.Bool.{Bool, true, false}
+use mathlib.Core.List.{List}
+use mathlib.Core.Logic.{⊎-elim}
+use native.Mathlib.Numerals.{add-one}
+use native.Mathlib.Omega.{arith}
+use lib.ListN.{length, getD, set, replicate, length-set, getD-replicate}
+use lib.Seq.{getD-set-same, getD-set-other}
+use lib.Dec.{leb, eqb}
+use borrow.Author.Needs.{needs}
+use borrow.Author.Tests.{lt-leb, le-leb, eq-eqb, ne-eqb}
+use Rattle.words.specs.Tests.{_and_, _if_else_, all, count}
+use Rattle.words.proofs.Tests.{equal?, all-ext}
+use Rattle.words.proofs.Counts.{count-within}
+use Rattle.words.proofs.Sets.{and-left, and-right, and-both, and-first, and-then, answers, alls}
+use Rattle.rules.specs.declared.list.LockList.{LockList}
+use Rattle.rules.specs.Locks.{itemAt, isKindBy, isKindByAt, opensBy, locksBy, keepsLimits}
+use Rattle.listcheck.specs.Check.{Tally, atMost, keepsKind}
+use Rattle.listcheck.proofs.Checks.{all-both}
+
+module _ (l : LockList) (kind : ℕ) where
+  pub tally-none : Tally l kind (replicate 16 0) 0
+  unfolding count
+  tally-none = record { long = refl; each = λ p h. getD-replicate 16 p 0 0 h }
+
+  -- one place more, of which a process has an item or not
+  skip : (p i : ℕ) → isKindByAt l kind p i ≡ false → count (isKindByAt l kind p) (i + 1) ≡ count (isKindByAt l kind p) i
+  unfolding count _if_else_
+  skip p i e = rw (add-one, e) (omega arith)
+
+  take-one : (p i : ℕ) → isKindByAt l kind p i ≡ true → count (isKindByAt l kind p) (i + 1) ≡ count (isKindByAt l kind p) i + 1
+  unfolding count _if_else_
+  take-one p i e = rw (add-one, e)
+
+  module _ (c : List ℕ) (i : ℕ) (t : Tally l kind c i) where
+    -- an item of another kind
+    pub tally-kind : (itemAt l i .kind ≡ kind → ⊥) → Tally l kind c (i + 1)
+    unfolding isKindByAt isKindBy
+    tally-kind h = record {
+      long = t .long;
+      each = λ p m. t .each p m ∙ sym (skip p i (and-left _ _ (ne-eqb _ _ h)));
+    }
+
+    -- .. of no process
+    pub tally-past : itemAt l i .kind ≡ kind → 16 ≤ itemAt l i .process → Tally l kind c (i + 1)
+    unfolding isKindByAt isKindBy
+    tally-past k h = record {
+      long = t .long;
+      each = λ p m. t .each p m ∙ sym (skip p i (and-right _ _ (eq-eqb _ _ k) (ne-eqb (itemAt l i .process) p (λ q. absurd (omega arith)))));
+    }
+
+    -- .. of that kind and of a process
+    pub tally-more : itemAt l i .kind ≡ kind → itemAt l i .process < 16 → Tally l kind (set c (itemAt l i .process) (getD c (itemAt l i .process) 0 + 1)) (i + 1)
+    unfolding isKindByAt isKindBy
+    tally-more k h =
+        let q = itemAt l i .process in
+        let w : q < length c = omega (arith, t .long) in
+        record {
+          long = length-set c q (getD c q 0 + 1) ∙ t .long;
+          each = λ p m. ⊎-elim
+              (λ (e : p ≡ q).
+              let y : isKindByAt l kind p i ≡ true = and-both _ _ (eq-eqb _ _ k) (eq-eqb _ _ (sym e)) in
+              ap (λ (j : ℕ). getD (set c q (getD c q 0 + 1)) j 0) e ∙ getD-set-same c q (getD c q 0 + 1) 0 w
+              ∙ ap (λ (j : ℕ). getD c j 0 + 1) (sym e) ∙ ap (λ (j : ℕ). j + 1) (t .each p m) ∙ sym (take-one p i y))
+              (λ (e : p ≡ q → ⊥).
+              let y : isKindByAt l kind p i ≡ false = and-right _ _ (eq-eqb _ _ k) (ne-eqb q p (λ z. e (sym z))) in
+              getD-set-other c q p (getD c q 0 + 1) 0 e ∙ t .each p m ∙ sym (skip p i y))
+              (equal? p q);
+        }
+
+    -- a count is at most the number of places
+    pub tally-fits : (p : ℕ) → p < 16 → i < 64 → getD c p 0 + 1 < 256
+    tally-fits p m h = omega (arith, t .each p m, count-within (isKindByAt l kind p) i)
+
+    pub tally-ends : 64 ≤ i → i ≤ 64 → Tally l kind c 64
+    tally-ends g h = let q : i ≡ 64 = omega arith in rw q at t
+
+  pub keeps-as : (c : List ℕ) (most : ℕ) (r : Bool) → Tally l kind c 64 → r ≡ all (atMost c most) 16 → r ≡ all (keepsKind l kind most) 16
+  unfolding atMost keepsKind
+  keeps-as c most r t e =
+      e ∙ all-ext (atMost c most) (keepsKind l kind most) 16 (λ p m. ap (λ (n : ℕ). leb n most) (t .each p m))
+
+module _ (c : List ℕ) (most p : ℕ) where
+  pub at-most-yes : getD c p 0 ≤ most → atMost c most p ≡ true
+  unfolding atMost
+  at-most-yes h = le-leb _ _ h
+
+  pub at-most-no : most < getD c p 0 → atMost c most p ≡ false
+  unfolding atMost
+  at-most-no h = lt-leb _ _ h
+
+pub ruleset mosts = (alls, at-most-yes, at-most-no)
+
+pub ruleset tallies = (needs, tally-none, tally-kind, tally-past, tally-more, tally-ends)
+
+-- ---- both limits
+
+module _ (l : LockList) where
+  both : all (keepsLimits l) 16 ≡ (all (keepsKind l 1 (l .openlimit)) 16 and all (keepsKind l 2 (l .locklimit)) 16)
+  unfolding keepsLimits keepsKind opensBy locksBy
+  both = all-both (keepsLimits l) (keepsKind l 1 (l .openlimit)) (keepsKind l 2 (l .locklimit)) 16 (λ p. refl)
+
+  pub keeps-not : all (keepsKind l 1 (l .openlimit)) 16 ≡ false → false ≡ all (keepsLimits l) 16
+  keeps-not h = and-first _ _ h ∙ sym both
+
+  pub keeps-if : (r : Bool) → all (keepsKind l 1 (l .openlimit)) 16 ≡ true → r ≡ all (keepsKind l 2 (l .locklimit)) 16 → r ≡ all (keepsLimits l) 16
+  keeps-if r h e = and-then r _ _ h e ∙ sym both
+
+pub ruleset limits = (answers, keeps-not, keeps-if)

@@ -1,0 +1,19 @@
+use borrow.Author.Needs.{needs}
+use Rattle.words.proofs.Sets.{choices}
+use Rattle.rules.specs.Locks.{clash}
+use Rattle.listcheck.proofs.apart.clash.Statement.{statement}
+use Rattle.listcheck.proofs.apart.clash.Tie as tie
+
+pub clash-spec : {M : Type 1} → statement M
+unfolding clash
+clash-spec =
+    tie.close
+    (tie.spec
+    -- opens-clash-requires src/apart.rt:69:8
+    (λ c κs. search needs)
+    -- returns src/apart.rt:70:9
+    (λ c. search choices depth 8 fits 20000)
+    -- locks-clash-requires src/apart.rt:72:5
+    (λ c κs. search needs)
+    -- returns-2 src/apart.rt:66:1
+    (λ c. search choices depth 8 fits 20000))

@@ -1,0 +1,14 @@
+use Rattle.words.proofs.Sets.{choices}
+use Rattle.listcheck.proofs.apart.locks_clash.Statement.{statement}
+use Rattle.listcheck.proofs.apart.locks_clash.Tie as tie
+
+pub locks-clash-spec : {M : Type 1} → statement M
+locks-clash-spec =
+    tie.close
+    (tie.spec
+    -- returns src/apart.rt:57:9
+    (λ c. search choices depth 8 fits 20000)
+    -- returns-2 src/apart.rt:60:9
+    (λ c. search choices depth 8 fits 20000)
+    -- returns-3 src/apart.rt:53:1
+    (λ c. search choices depth 8 fits 20000))

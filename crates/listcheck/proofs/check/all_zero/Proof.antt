@@ -1,0 +1,39 @@
+use Prim.Native.Nat.{_-_, _≤_}
+use mathlib.Core.Path.{_≡_}
+use mathlib.Core.Bool.{true}
+use Rattle.words.specs.Tests.{all}
+use Rattle.rules.specs.Locks.{zeroAt}
+use Rattle.listcheck.proofs.Checks.{zeros}
+use Rattle.listcheck.proofs.check.all_zero.Statement.{statement}
+use Rattle.listcheck.proofs.check.all_zero.Tie as tie
+
+abbrev Inv-loop : tie.InvT-loop
+Inv-loop list i₀ i = (i ≤ 64) × (all (zeroAt list) i ≡ true)
+
+abbrev μ-loop : tie.MeasureT-loop
+μ-loop list i₀ i = 64 - i
+
+pub all-zero-spec : {M : Type 1} → statement M
+all-zero-spec =
+    tie.close
+    (tie.spec Inv-loop μ-loop
+    -- loop-holds src/check.rt:23:5
+    (λ c. search zeros)
+    -- mul-if1 src/check.rt:24:22
+    (λ c. search zeros)
+    -- add-if1 src/check.rt:24:17
+    (λ c. search zeros)
+    -- add-if1-2 src/check.rt:24:17
+    (λ c. search zeros)
+    -- shared-slice-read-if1 src/check.rt:24:12
+    (λ c. search zeros)
+    -- returns src/check.rt:25:13
+    (λ c. search zeros)
+    -- add-i src/check.rt:27:9
+    (λ c. search zeros)
+    -- loop-less src/check.rt:23:5
+    (λ c. search zeros)
+    -- loop-again src/check.rt:23:5
+    (λ c. search zeros)
+    -- returns-2 src/check.rt:18:1
+    (λ c. search zeros))

@@ -1,0 +1,17 @@
+use borrow.Author.Needs.{needs}
+use Rattle.words.proofs.Sets.{choices}
+use Rattle.listcheck.proofs.place.kind_alone.Statement.{statement}
+use Rattle.listcheck.proofs.place.kind_alone.Tie as tie
+
+pub kind-alone-spec : {M : Type 1} → statement M
+kind-alone-spec =
+    tie.close
+    (tie.spec
+    -- open-alone-requires src/place.rt:107:9
+    (λ c κs. search needs)
+    -- returns src/place.rt:107:9
+    (λ c. search choices)
+    -- lock-alone-requires src/place.rt:109:5
+    (λ c κs. search needs)
+    -- returns-2 src/place.rt:102:1
+    (λ c. search choices))

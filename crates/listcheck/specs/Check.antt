@@ -1,0 +1,59 @@
+-- The list check in the order in which the code goes: what an item shows by itself, then what it needs of the others.
+-- Assumes nothing.
+use Prim.Native.Nat.{ℕ, _<_}
+use mathlib.Core.Path.{_≡_}
+use mathlib.Core.Bool.{Bool, true, false, not}
+use mathlib.Core.List.{List}
+use lib.ListN.{length, getD}
+use lib.Dec.{leb, ltb, eqb}
+use Rattle.words.specs.Tests.{_and_, _if_else_, all, count}
+use Rattle.rules.specs.declared.file.File.{File}
+use Rattle.rules.specs.declared.item.Item.{Item}
+use Rattle.rules.specs.declared.list.LockList.{LockList}
+use Rattle.rules.specs.Drive.{highest, legalName, lookUp, missing, blockOf}
+use Rattle.rules.specs.Locks.{unlocked, itemAt, fileOf, isLow, goodEmpty, openOf, opensUnlocked, isKindByAt}
+
+-- the file that an item names, of each process's user
+abbrev pub fileBy : List ℕ → Item → File
+fileBy users it = record { user = getD users (it .process) 0; name = it .name }
+
+-- an open: modes 0 to 2, record 0, its file on the image
+unfoldable pub openAlone : List ℕ → List ℕ → Item → Bool
+openAlone s users it = leb (it .mode) 2 and eqb (it .number) 0 and not (missing (lookUp s (fileBy users it)))
+
+-- a lock: mode 1, its record has a block
+unfoldable pub lockAlone : List ℕ → List ℕ → Item → Bool
+lockAlone s users it = eqb (it .mode) unlocked and not (eqb (blockOf s (fileBy users it) (it .number)) 0)
+
+-- an item: a process to 15, a legal name with high bits zero, a record below 262,144
+unfoldable pub itemAlone : List ℕ → List ℕ → Item → Bool
+itemAlone s users it =
+    leb (it .process) 15 and legalName (it .name) 0 and all (isLow (it .name)) 11 and leb (it .number) highest
+    and (openAlone s users it if eqb (it .kind) 1 else lockAlone s users it)
+
+-- a place: empty, or below the capacity with an item
+unfoldable pub placeAlone : List ℕ → List ℕ → ℕ → ℕ → Item → Bool
+placeAlone s users capacity i it =
+    goodEmpty it if eqb (it .kind) 0 else (ltb i capacity and leb (it .kind) 2 and itemAlone s users it)
+
+unfoldable pub placeAloneAt : List ℕ → LockList → ℕ → Bool
+placeAloneAt s l i = placeAlone s (l .users) (l .capacity) i (itemAt l i)
+
+-- a lock's process has that file open unlocked
+unfoldable pub lockOpened : LockList → Item → Bool
+lockOpened l it = opensUnlocked l (openOf l (it .process) (fileOf l it)) if eqb (it .kind) 2 else true
+
+unfoldable pub lockOpenedAt : LockList → ℕ → Bool
+lockOpenedAt l i = lockOpened l (itemAt l i)
+
+-- how many items of that kind each process has, of the first n places
+pub record Tally (l : LockList) (kind : ℕ) (counts : List ℕ) (n : ℕ) : Type 0 where
+  pub long : length counts ≡ 16
+  pub each : (p : ℕ) → p < 16 → getD counts p 0 ≡ count (isKindByAt l kind p) n
+
+unfoldable pub atMost : List ℕ → ℕ → ℕ → Bool
+atMost counts most p = leb (getD counts p 0) most
+
+-- a process has at most so many items of that kind
+unfoldable pub keepsKind : LockList → ℕ → ℕ → ℕ → Bool
+keepsKind l kind most p = leb (count (isKindByAt l kind p) 64) most

@@ -1,0 +1,121 @@
+use crate::place::file_by;
+use rules::file::File;
+use rules::item::Item;
+use rules::list::LockList;
+use rules::tests::same_name;
+ghost use mathlib.Core.Path.{_≡_};
+ghost use mathlib.Core.Bool.{not};
+ghost use Prim.Native.Nat.{_<_};
+ghost use lib.Dec.{eqb};
+ghost use Rattle.words.specs.Tests.{_and_, all, any};
+ghost use Rattle.rules.specs.Locks.{sameFile, standBeside, clash, clashAt, isApart};
+ghost use Rattle.listcheck.specs.Check.{fileBy};
+
+// Two files are the same.
+fn same_file(f: File, g: File) -> bool
+    ensures { λ r. ⌜ r ≡ sameFile f g ⌝ }
+{
+    if f.user != g.user {
+        return false;
+    }
+    let a = f.name;
+    let b = g.name;
+    same_name(a, b)
+}
+
+// Opens of two processes, both unlocked or both read-only.
+fn stand_beside(a: Item, b: Item) -> bool
+    ensures { λ r. ⌜ r ≡ standBeside a b ⌝ }
+{
+    if a.process == b.process {
+        return false;
+    }
+    if a.mode != b.mode {
+        return false;
+    }
+    a.mode != 0
+}
+
+// Two opens that cannot stand beside each other on one file.
+fn opens_clash(a: Item, b: Item) -> bool
+    ensures { λ r. ⌜ r ≡ (eqb (a .kind) 1 and eqb (b .kind) 1 and not (standBeside a b)) ⌝ }
+{
+    if a.kind != 1 {
+        return false;
+    }
+    if b.kind != 1 {
+        return false;
+    }
+    !stand_beside(a, b)
+}
+
+// Two locks of the same record.
+fn locks_clash(a: Item, b: Item) -> bool
+    ensures { λ r. ⌜ r ≡ (eqb (a .kind) 2 and eqb (b .kind) 2 and eqb (a .number) (b .number)) ⌝ }
+{
+    if a.kind != 2 {
+        return false;
+    }
+    if b.kind != 2 {
+        return false;
+    }
+    a.number == b.number
+}
+
+// What two items of one file may not be.
+fn clash(a: Item, b: Item) -> bool
+    ensures { λ r. ⌜ r ≡ clash a b ⌝ }
+{
+    if opens_clash(a, b) {
+        return true;
+    }
+    locks_clash(a, b)
+}
+
+// Two items clash, and are of one file.
+fn file_clash(a: Item, b: Item, users: [u8; 16]) -> bool
+    ensures { λ r. ⌜ r ≡ (clash a b and sameFile (fileBy users a) (fileBy users b)) ⌝ }
+{
+    if !clash(a, b) {
+        return false;
+    }
+    let f = file_by(users, a);
+    let g = file_by(users, b);
+    same_file(f, g)
+}
+
+// The item at a place clashes with one before it.
+fn any_clash(l: LockList, i: usize) -> bool
+    requires { ⌜ i < 64 ⌝ }
+    ensures { λ r. ⌜ r ≡ any (clashAt l i) i ⌝ }
+{
+    let users = l.users;
+    let it = l.items[i];
+    let mut j = 0;
+    while j < i {
+        let other = l.items[j];
+        if file_clash(it, other, users) {
+            return true;
+        }
+        j += 1;
+    }
+    false
+}
+
+// No item clashes with one before it.
+pub fn all_apart(l: LockList) -> bool
+    ensures { λ r. ⌜ r ≡ all (isApart l) 64 ⌝ }
+{
+    let mut i: usize = 0;
+    while i < 64 {
+        if l.items[i].kind == 0 {
+            i += 1;
+            continue;
+        }
+        if any_clash(l, i) {
+            return false;
+        }
+        i += 1;
+    }
+    true
+}

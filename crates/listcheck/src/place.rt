@@ -1,0 +1,148 @@
+use drive::find::block_of;
+use drive::find::is_missing;
+use drive::find::look_up;
+use drive::name::legal_name;
+use rules::file::File;
+use rules::item::Item;
+use rules::tests::user_in;
+ghost use mathlib.Core.Path.{_≡_};
+ghost use Prim.Native.Nat.{_≤_};
+ghost use lib.ListN.{length};
+ghost use lib.Dec.{eqb};
+ghost use Rattle.words.specs.Tests.{_if_else_, all};
+ghost use Rattle.rules.specs.Locks.{isLow, isZero, goodEmpty};
+ghost use Rattle.listcheck.specs.Check.{fileBy, openAlone, lockAlone, itemAlone, placeAlone};
+
+// Eleven zeros.
+fn zero_name(name: [u8; 11]) -> bool
+    ensures { λ r. ⌜ r ≡ all (isZero name) 11 ⌝ }
+{
+    let mut k = 0;
+    while k < 11 {
+        if name[k] != 0 {
+            return false;
+        }
+        k += 1;
+    }
+    true
+}
+
+// Eleven bytes with high bits zero.
+fn low_name(name: [u8; 11]) -> bool
+    ensures { λ r. ⌜ r ≡ all (isLow name) 11 ⌝ }
+{
+    let mut k = 0;
+    while k < 11 {
+        if 128 <= name[k] {
+            return false;
+        }
+        k += 1;
+    }
+    true
+}
+
+// The rest of an empty place is zeros.
+fn good_empty(it: Item) -> bool
+    ensures { λ r. ⌜ r ≡ goodEmpty it ⌝ }
+{
+    if it.process != 0 {
+        return false;
+    }
+    let name = it.name;
+    if !zero_name(name) {
+        return false;
+    }
+    if it.mode != 0 {
+        return false;
+    }
+    it.number == 0
+}
+
+// The file that an item names.
+pub fn file_by(users: [u8; 16], it: Item) -> File
+    ensures { λ r. ⌜ r ≡ fileBy users it ⌝ }
+{
+    let user = user_in(users, it.process);
+    let name = it.name;
+    File {
+        user: user,
+        name: name,
+    }
+}
+
+// An open: its mode and record, and its file on the image.
+fn open_alone(image: &[u8], users: [u8; 16], it: Item) -> bool
+    requires { ⌜ 2048 ≤ length (now image) ⌝ }
+    ensures { λ r. ⌜ r ≡ openAlone (now (image .entry)) users it ⌝ }
+{
+    if 2 < it.mode {
+        return false;
+    }
+    if it.number != 0 {
+        return false;
+    }
+    let f = file_by(users, it);
+    let found = look_up(image, f);
+    !is_missing(found)
+}
+
+// A lock: its mode, and that its record has a block.
+fn lock_alone(image: &[u8], users: [u8; 16], it: Item) -> bool
+    requires { ⌜ 2048 ≤ length (now image) ⌝ }
+    ensures { λ r. ⌜ r ≡ lockAlone (now (image .entry)) users it ⌝ }
+{
+    if it.mode != 1 {
+        return false;
+    }
+    let f = file_by(users, it);
+    block_of(image, f, it.number as usize) != 0
+}
+
+// An open or a lock, by its kind.
+fn kind_alone(image: &[u8], users: [u8; 16], it: Item) -> bool
+    requires { ⌜ 2048 ≤ length (now image) ⌝ }
+    ensures { λ r. ⌜ r ≡ (openAlone (now (image .entry)) users it if eqb (it .kind) 1 else lockAlone (now (image .entry)) users it) ⌝ }
+{
+    if it.kind == 1 {
+        return open_alone(image, users, it);
+    }
+    lock_alone(image, users, it)
+}
+
+// An item, by itself.
+fn item_alone(image: &[u8], users: [u8; 16], it: Item) -> bool
+    requires { ⌜ 2048 ≤ length (now image) ⌝ }
+    ensures { λ r. ⌜ r ≡ itemAlone (now (image .entry)) users it ⌝ }
+{
+    if 15 < it.process {
+        return false;
+    }
+    let name = it.name;
+    if !legal_name(&name, 0) {
+        return false;
+    }
+    if !low_name(name) {
+        return false;
+    }
+    if 262143 < it.number {
+        return false;
+    }
+    kind_alone(image, users, it)
+}
+
+// A place, by itself: empty, or below the capacity with an item.
+pub fn place_alone(image: &[u8], users: [u8; 16], capacity: u8, i: usize, it: Item) -> bool
+    requires { ⌜ 2048 ≤ length (now image) ⌝ }
+    ensures { λ r. ⌜ r ≡ placeAlone (now (image .entry)) users capacity i it ⌝ }
+{
+    if it.kind == 0 {
+        return good_empty(it);
+    }
+    if capacity as usize <= i {
+        return false;
+    }
+    if 2 < it.kind {
+        return false;
+    }
+    item_alone(image, users, it)
+}

@@ -1,0 +1,71 @@
+-- Laws of a list that is written place by place. Assumes nothing.
+use Prim.Native.Nat.{ℕ, _+_, _-_, _*_, _≤_, _<_}
+use mathlib.Core.Path.{_≡_, refl, sym, ap, _∙_}
+use mathlib.Core.List.{List, [], _∷_, _++_, append-nil, append-assoc}
+use native.Mathlib.Omega.{arith}
+use lib.ListN.{length, take, drop}
+use lib.Seq.{take-all}
+use borrow.Author.Needs.{needs}
+use Rattle.words.specs.Lists.{tab, flat}
+use Rattle.words.specs.Bytes.{put, le}
+use Rattle.words.proofs.Lists.{length-mapped}
+use Rattle.words.proofs.Bytes.{length-put}
+use Rattle.words.proofs.Items.{take-put, flat-more}
+use Rattle.rules.specs.declared.item.Item.{Item}
+use Rattle.rules.specs.declared.list.LockList.{LockList}
+use Rattle.rules.specs.Locks.{blank, itemAt, itemFrom, placeOf, packItem, pack}
+use Rattle.locklist.specs.Heads.{heads}
+
+-- the head and the first i places of s are those of the list
+pub record Packed (l : LockList) (s : List ℕ) (i : ℕ) : Type 0 where
+  pub long : length s ≡ 1299
+  pub so : take (19 + 20 * i) s ≡ heads l ++ flat packItem (take i (l .items))
+
+item-long : (it : Item) → length (packItem it) ≡ 20
+unfolding packItem tab le
+item-long it = refl
+
+heads-long : (l : LockList) → length (heads l) ≡ 19
+unfolding heads tab
+heads-long l = refl
+
+pub packed-none : (l : LockList) (s t h : List ℕ) → length s ≡ 1299 → h ≡ heads l → t ≡ put 0 h s → Packed l t 0
+unfolding flat
+packed-none l s t h n e p =
+    let k : length h ≡ 19 = ap length e ∙ heads-long l in
+    let z : 0 + length h ≤ length s = omega arith in
+    let y : 19 ≡ 0 + length h = omega arith in
+    record {
+      long = ap length p ∙ length-put 0 h s z ∙ n;
+      so =
+          ap (λ (n : ℕ). take n t) y ∙ ap (take (0 + length h)) p ∙ take-put 0 h s z ∙ e ∙ sym (append-nil (heads l));
+    }
+
+pub packed-more : (l : LockList) (s t b : List ℕ) (i : ℕ) → length (l .items) ≡ 64 → i < 64 → Packed l s i → b ≡ packItem (itemAt l i) → t ≡ put (19 + 20 * i) b s → Packed l t (i + 1)
+packed-more l s t b i m h g e p =
+    let k : length b ≡ 20 = ap length e ∙ item-long (itemAt l i) in
+    let z : 19 + 20 * i + length b ≤ length s = omega (arith, g .long) in
+    let y : 19 + 20 * (i + 1) ≡ 19 + 20 * i + length b = omega arith in
+    record {
+      long = ap length p ∙ length-put (19 + 20 * i) b s z ∙ g .long;
+      so =
+          rw (p, y)
+          (take-put (19 + 20 * i) b s z ∙ ap (λ (x : List ℕ). x ++ b) (g .so)
+          ∙ append-assoc (heads l) (flat packItem (take i (l .items))) b
+          ∙ ap (λ (x : List ℕ). heads l ++ x) (ap (λ (x : List ℕ). flat packItem (take i (l .items)) ++ x) e ∙ sym (flat-more packItem i (l .items) blank (omega arith))));
+    }
+
+pub packed-ends : (l : LockList) (s : List ℕ) (i : ℕ) → length (l .items) ≡ 64 → Packed l s i → 64 ≤ i → i ≤ 64 → s ≡ pack l
+unfolding pack heads tab
+packed-ends l s i m g h k =
+    let q : i ≡ 64 = omega arith in
+    let a : length s ≤ 19 + 20 * i = omega (arith, g .long) in
+    let b : length (l .items) ≤ i = omega arith in
+    sym (take-all (19 + 20 * i) s a) ∙ g .so ∙ ap (λ (xs : List Item). heads l ++ flat packItem xs) (take-all i (l .items) b)
+
+pub ruleset packs = (needs, length-mapped, packed-none, packed-more, packed-ends)
+
+-- the item that a place's part of the list says
+pub place-as : (s : List ℕ) (i : ℕ) (r : Item) → r ≡ itemFrom (take (19 + 20 * i + 20 - (19 + 20 * i)) (drop (19 + 20 * i) s)) → r ≡ placeOf s i
+unfolding placeOf
+place-as s i r h = let q : 19 + 20 * i + 20 - (19 + 20 * i) ≡ 20 = omega arith in rw q at h

@@ -1,0 +1,74 @@
+-- Laws of Start. Assumes nothing.
+use Prim.Native.Nat.{ℕ, _+_, _*_, _≤_, _<_}
+use mathlib.Core.Path.{_≡_, refl, sym, ap, _∙_}
+use mathlib.Core.Bool.{Bool, true, false, not}
+use mathlib.Core.List.{List, [], _∷_, _++_}
+use native.Mathlib.Omega.{arith}
+use lib.ListN.{length, replicate}
+use lib.Dec.{leb, eqb}
+use borrow.Author.Tests.{leb-true, eqb-true, not-false, eq-eqb, ne-eqb}
+use Rattle.words.specs.Tests.{_and_, _or_, _if_else_, all}
+use Rattle.words.specs.Lists.{tab, flat}
+use Rattle.words.specs.Bytes.{byteFrom, le}
+use Rattle.words.specs.Tables.{Row, firstOf}
+use Rattle.words.proofs.Tests.{and-snd, or-fst, or-snd}
+use Rattle.words.proofs.Lists.{tab-getD}
+use Rattle.words.proofs.Sets.{answers, or-first, or-then, not-of-false, not-of-true}
+use Rattle.rules.specs.declared.list.LockList.{LockList}
+use Rattle.rules.specs.Locks.{emptyPlace, firstMark, secondMark, packItem, pack, isLimit, isUser, badStart, rowsStart, freshList, Started, startEnds, start}
+use Rattle.locklist.specs.Start.{DidStart, MayStart}
+
+limit-fits : (n : ℕ) → isLimit n ≡ true → n ≤ 64
+unfolding isLimit
+limit-fits n h = leb-true n 64 (and-snd (leb 1 n) (leb n 64) h)
+
+module _ (c o k : ℕ) (users list : List ℕ) where
+  pub may-start : badStart c o k users list ≡ false → MayStart c o k users list
+  unfolding badStart
+  may-start h =
+      let h₁ = or-snd _ _ h in
+      let h₂ = or-snd _ _ h₁ in
+      let h₃ = or-snd _ _ h₂ in
+      record {
+        capacity-fits = limit-fits c (not-false _ (or-fst _ _ h));
+        opens-fit = limit-fits o (not-false _ (or-fst _ _ h₁));
+        locks-fit = limit-fits k (not-false _ (or-fst _ _ h₂));
+        users-long = eqb-true _ _ (not-false _ (or-fst _ _ h₃));
+        list-long = eqb-true _ _ (not-false _ (or-snd _ _ (or-snd _ _ h₃)));
+      }
+
+  pub start-refused : badStart c o k users list ≡ true → DidStart (start c o k users list) 3583 list
+  unfolding start startEnds rowsStart firstOf _if_else_
+  start-refused h = rw h (record { gives = refl; leaves = refl })
+
+  pub start-begun : (t : List ℕ) → badStart c o k users list ≡ false → t ≡ freshList c o k users → DidStart (start c o k users list) 0 t
+  unfolding start startEnds rowsStart firstOf _if_else_
+  start-begun t h e = rw h (record { gives = refl; leaves = e })
+
+-- 64 empty places in bytes
+empty-places : flat packItem (replicate 64 emptyPlace) ≡ replicate 1280 0
+unfolding flat packItem firstMark secondMark tab le _if_else_
+empty-places = refl
+
+sixteen : (users : List ℕ) → length users ≡ 16 → tab (byteFrom users 0) 16 ≡ users
+unfolding tab
+sixteen users n = tab-getD users 0 16 n
+
+-- a list with no item, packed
+pub fresh-packed : (c o k : ℕ) (users u t : List ℕ) → length users ≡ 16 → u ≡ tab (byteFrom users 0) 16 → t ≡ pack (record { capacity = c; openlimit = o; locklimit = k; users = u; items = replicate 64 emptyPlace }) → t ≡ freshList c o k users
+unfolding pack freshList
+fresh-packed c o k users u t n e h =
+    let q : u ≡ users = e ∙ sixteen users n in
+    let places : List ℕ = flat packItem (replicate 64 emptyPlace) in
+    h ∙ ap (λ (v : List ℕ). c ∷ o ∷ k ∷ (tab (byteFrom v 0) 16 ++ places)) q
+    ∙ ap (λ (v : List ℕ). c ∷ o ∷ k ∷ (v ++ places)) (sixteen users n)
+    ∙ ap (λ (v : List ℕ). c ∷ o ∷ k ∷ (users ++ v)) empty-places
+
+-- two outcomes of one start are equal
+pub start-one : (o : Started) (a b : ℕ) (s t : List ℕ) → DidStart o a s → DidStart o b t → (a ≡ b) × (s ≡ t)
+start-one o a b s t d e = (d .gives ∙ sym (e .gives), d .leaves ∙ sym (e .leaves))
+
+pub ruleset starts = (answers, may-start, start-refused, start-begun)
+
+-- refusals one after the other
+pub ruleset bads = (or-first, or-then, not-of-false, not-of-true, eq-eqb, ne-eqb, answers)

@@ -1,0 +1,18 @@
+use mathlib.Core.Path.{refl}
+use borrow.Author.Needs.{needs}
+use Rattle.words.proofs.Sets.{choices}
+use Rattle.rules.specs.Asks.{makeMode}
+use Rattle.locklist.proofs.ask.make_mode.Statement.{statement}
+use Rattle.locklist.proofs.ask.make_mode.Tie as tie
+
+pub make-mode-spec : {M : Type 1} → statement M
+unfolding makeMode
+make-mode-spec =
+    tie.close
+    (tie.spec
+    -- shared-slice-read-if1 src/ask.rt:59:15
+    (λ c. search needs)
+    -- returns src/ask.rt:60:9
+    (λ c. search (choices, refl) depth 8 fits 20000)
+    -- returns-2 src/ask.rt:55:1
+    (λ c. search (choices, refl) depth 8 fits 20000))

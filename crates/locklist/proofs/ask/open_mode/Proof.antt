@@ -1,0 +1,22 @@
+use mathlib.Core.Path.{refl}
+use borrow.Author.Needs.{needs}
+use Rattle.words.proofs.Sets.{choices}
+use Rattle.rules.specs.Asks.{openMode}
+use Rattle.locklist.proofs.ask.open_mode.Statement.{statement}
+use Rattle.locklist.proofs.ask.open_mode.Tie as tie
+
+pub open-mode-spec : {M : Type 1} → statement M
+unfolding openMode
+open-mode-spec =
+    tie.close
+    (tie.spec
+    -- shared-slice-read-if1 src/ask.rt:45:15
+    (λ c. search needs)
+    -- returns src/ask.rt:46:9
+    (λ c. search (choices, refl) depth 8 fits 20000)
+    -- shared-slice-read-if2 src/ask.rt:48:15
+    (λ c. search needs)
+    -- returns-2 src/ask.rt:49:9
+    (λ c. search (choices, refl) depth 8 fits 20000)
+    -- returns-3 src/ask.rt:41:1
+    (λ c. search (choices, refl) depth 8 fits 20000))

@@ -1,0 +1,12 @@
+use Rattle.words.proofs.Sets.{choices}
+use Rattle.locklist.proofs.mark.is_mark.Statement.{statement}
+use Rattle.locklist.proofs.mark.is_mark.Tie as tie
+
+pub is-mark-spec : {M : Type 1} → statement M
+is-mark-spec =
+    tie.close
+    (tie.spec
+    -- returns src/mark.rt:17:9
+    (λ c. search choices)
+    -- returns-2 src/mark.rt:13:1
+    (λ c. search choices))

@@ -1,0 +1,17 @@
+use borrow.Author.Needs.{needs}
+use Rattle.locklist.proofs.Starts.{bads}
+use Rattle.locklist.proofs.start.bad_buffers.Statement.{statement}
+use Rattle.locklist.proofs.start.bad_buffers.Tie as tie
+
+pub bad-buffers-spec : {M : Type 1} → statement M
+bad-buffers-spec =
+    tie.close
+    (tie.spec
+    -- returns src/start.rt:44:9
+    (λ c. search bads depth 10 fits 20000)
+    -- all-users-requires src/start.rt:46:9
+    (λ c κs. search needs)
+    -- returns-2 src/start.rt:47:9
+    (λ c. search bads depth 10 fits 20000)
+    -- returns-3 src/start.rt:40:1
+    (λ c. search bads depth 10 fits 20000))

@@ -1,0 +1,14 @@
+use Rattle.words.proofs.Sets.{choices}
+use Rattle.rules.specs.Locks.{isLimit}
+use Rattle.locklist.proofs.start.is_limit.Statement.{statement}
+use Rattle.locklist.proofs.start.is_limit.Tie as tie
+
+pub is-limit-spec : {M : Type 1} → statement M
+unfolding isLimit
+is-limit-spec =
+    tie.close
+    (tie.spec
+    -- returns src/start.rt:17:9
+    (λ c. search choices)
+    -- returns-2 src/start.rt:13:1
+    (λ c. search choices))

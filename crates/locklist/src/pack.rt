@@ -1,0 +1,85 @@
+use crate::mark::first_mark;
+use crate::mark::second_mark;
+use rules::bytes::put_bytes;
+use rules::item::Item;
+use rules::list::LockList;
+ghost use mathlib.Core.Path.{_≡_};
+ghost use lib.ListN.{length};
+ghost use Rattle.rules.specs.Locks.{packItem, pack};
+ghost use Rattle.locklist.specs.Heads.{heads};
+
+// The twenty bytes of an item.
+pub fn item_bytes(it: Item) -> [u8; 20]
+    ensures { λ r. ⌜ r ≡ packItem it ⌝ }
+{
+    let first = first_mark(it.kind);
+    let second = second_mark(it.kind);
+    let n = it.name;
+    let r = it.number;
+    [
+        first,
+        second,
+        it.process,
+        n[0],
+        n[1],
+        n[2],
+        n[3],
+        n[4],
+        n[5],
+        n[6],
+        n[7],
+        n[8],
+        n[9],
+        n[10],
+        it.mode,
+        0,
+        (r % 256) as u8,
+        (r / 256 % 256) as u8,
+        (r / 256 / 256 % 256) as u8,
+        (r / 256 / 256 / 256 % 256) as u8,
+    ]
+}
+
+// The list's first nineteen bytes: its limits and each process's user.
+fn head_bytes(l: LockList) -> [u8; 19]
+    ensures { λ r. ⌜ r ≡ heads l ⌝ }
+{
+    let u = l.users;
+    [
+        l.capacity,
+        l.openlimit,
+        l.locklimit,
+        u[0],
+        u[1],
+        u[2],
+        u[3],
+        u[4],
+        u[5],
+        u[6],
+        u[7],
+        u[8],
+        u[9],
+        u[10],
+        u[11],
+        u[12],
+        u[13],
+        u[14],
+        u[15],
+    ]
+}
+
+// Writes the list's bytes.
+pub fn pack(l: LockList, list: &mut [u8])
+    requires { ⌜ length (now list) ≡ 1299 ⌝ }
+    ensures { λ _. ⌜ now (list .exit) ≡ pack l ⌝ }
+{
+    let head = head_bytes(l);
+    put_bytes(&mut *list, 0, &head);
+    let mut i: usize = 0;
+    while i < 64 {
+        let it = l.items[i];
+        let b = item_bytes(it);
+        put_bytes(&mut *list, 19 + 20 * i, &b);
+        i += 1;
+    }
+}

@@ -1,0 +1,93 @@
+use crate::pack::pack;
+use crate::unpack::users_from;
+use rules::item::Item;
+use rules::list::LockList;
+ghost use mathlib.Core.Path.{_≡_};
+ghost use Prim.Native.Nat.{_≤_};
+ghost use lib.ListN.{length};
+ghost use mathlib.Core.Bool.{not};
+ghost use lib.Dec.{eqb};
+ghost use Rattle.words.specs.Tests.{_or_, all};
+ghost use Rattle.rules.specs.Locks.{isLimit, isUser, badStart, freshList, start};
+ghost use Rattle.locklist.specs.Start.{DidStart, MayStart};
+
+// A limit is 1 to 64.
+pub fn is_limit(n: u32) -> bool
+    ensures { λ r. ⌜ r ≡ isLimit n ⌝ }
+{
+    if n < 1 {
+        return false;
+    }
+    n <= 64
+}
+
+// Each of the sixteen users is 0 to 15.
+pub fn all_users(users: &[u8]) -> bool
+    requires { ⌜ length (now users) ≡ 16 ⌝ }
+    ensures { λ r. ⌜ r ≡ all (isUser (now (users .entry))) 16 ⌝ }
+{
+    let mut p = 0;
+    while p < 16 {
+        if 15 < users[p] {
+            return false;
+        }
+        p += 1;
+    }
+    true
+}
+
+// A buffer's length is wrong, or a user out of range.
+fn bad_buffers(users: &[u8], list: &[u8]) -> bool
+    ensures { λ r. ⌜ r ≡ (not (eqb (length (now (users .entry))) 16) or not (all (isUser (now (users .entry))) 16) or not (eqb (length (now (list .entry))) 1299)) ⌝ }
+{
+    if users.len() != 16 {
+        return true;
+    }
+    if !all_users(users) {
+        return true;
+    }
+    list.len() != 1299
+}
+
+// A value is out of range, or a buffer's length is wrong.
+fn bad_start(capacity: u32, opens: u32, locks: u32, users: &[u8], list: &[u8]) -> bool
+    ensures { λ r. ⌜ r ≡ badStart capacity opens locks (now (users .entry)) (now (list .entry)) ⌝ }
+{
+    if !is_limit(capacity) {
+        return true;
+    }
+    if !is_limit(opens) {
+        return true;
+    }
+    if !is_limit(locks) {
+        return true;
+    }
+    bad_buffers(users, list)
+}
+
+// Writes a fresh list, its 64 places empty.
+fn begin(capacity: u32, opens: u32, locks: u32, users: &[u8], list: &mut [u8])
+    requires { ⌜ MayStart capacity opens locks (now users) (now list) ⌝ }
+    ensures { λ _. ⌜ now (list .exit) ≡ freshList capacity opens locks (now (users .entry)) ⌝ }
+{
+    let sixteen = users_from(users, 0);
+    let l = LockList {
+        capacity: capacity as u8,
+        openlimit: opens as u8,
+        locklimit: locks as u8,
+        users: sixteen,
+        items: [Item::EMPTY; 64],
+    };
+    pack(l, list);
+}
+
+// Starts a list from three numbers and sixteen users: 0/0, or 255/13 and the list unchanged.
+pub fn start(capacity: u32, opens: u32, locks: u32, users: &[u8], list: &mut [u8]) -> u32
+    ensures { λ r. ⌜ DidStart (start capacity opens locks (now (users .entry)) (now (list .entry))) r (now (list .exit)) ⌝ }
+{
+    if bad_start(capacity, opens, locks, users, &*list) {
+        return 255 + 256 * 13;
+    }
+    begin(capacity, opens, locks, users, list);
+    0
+}

@@ -1,0 +1,80 @@
+use crate::mark::kind_of;
+use drive::name::eleven_from;
+use rules::item::Item;
+use rules::list::LockList;
+ghost use mathlib.Core.Path.{_≡_};
+ghost use Prim.Native.Nat.{_+_, _*_, _≤_, _<_};
+ghost use lib.ListN.{length};
+ghost use Rattle.words.specs.Lists.{tab};
+ghost use Rattle.words.specs.Bytes.{byteFrom, word};
+ghost use Rattle.rules.specs.Locks.{itemFrom, placeOf, unpack};
+
+// The number that four bytes say, low byte first.
+fn word_of(a: u8, b: u8, c: u8, d: u8) -> u32
+    ensures { λ r. ⌜ r ≡ word a b c d ⌝ }
+{
+    (a as u32) + 256 * ((b as u32) + 256 * ((c as u32) + 256 * (d as u32)))
+}
+
+// Sixteen bytes from a place on: each process's user.
+pub fn users_from(s: &[u8], at: usize) -> [u8; 16]
+    requires { ⌜ at + 16 ≤ length (now s) ⌝ }
+    ensures { λ r. ⌜ r ≡ tab (byteFrom (now (s .entry)) at) 16 ⌝ }
+{
+    let mut users = [0u8; 16];
+    let mut i = 0;
+    while i < 16 {
+        users[i] = s[at + i];
+        i += 1;
+    }
+    users
+}
+
+// The item that twenty bytes say.
+pub fn item_from(b: &[u8]) -> Item
+    requires { ⌜ length (now b) ≡ 20 ⌝ }
+    ensures { λ r. ⌜ r ≡ itemFrom (now (b .entry)) ⌝ }
+{
+    let kind = kind_of(b[0], b[1]);
+    let name = eleven_from(b, 3);
+    let number = word_of(b[16], b[17], b[18], b[19]);
+    Item {
+        kind: kind,
+        process: b[2],
+        name: name,
+        mode: b[14],
+        number: number,
+    }
+}
+
+// The 64 places.
+fn items_from(list: &[u8]) -> [Item; 64]
+    requires { ⌜ length (now list) ≡ 1299 ⌝ }
+    ensures { λ r. ⌜ r ≡ tab (placeOf (now (list .entry))) 64 ⌝ }
+{
+    let mut items = [Item::EMPTY; 64];
+    let mut i: usize = 0;
+    while i < 64 {
+        let at = 19 + 20 * i;
+        let end = at + 20;
+        items[i] = item_from(&list[at..end]);
+        i += 1;
+    }
+    items
+}
+
+// The list that 1,299 bytes say.
+pub fn unpack(list: &[u8]) -> LockList
+    requires { ⌜ length (now list) ≡ 1299 ⌝ }
+    ensures { λ r. ⌜ r ≡ unpack (now (list .entry)) ⌝ }
+{
+    let users = users_from(list, 3);
+    let items = items_from(list);
+    LockList {
+        capacity: list[0],
+        openlimit: list[1],
+        locklimit: list[2],
+        users: users,
+        items: items,
+    }
+}
