@@ -1,0 +1,83 @@
+// The general refusals, the choice of a call's routine, and the functions that a C host calls.
+mod choose;
+mod refuse;
+mod serve;
+
+use choose::routine_of;
+use drive::check::image_check;
+use drive::look::look_at;
+use locklist::start::start;
+use refuse::refusal;
+use rules::answer::image_number;
+use rules::routine::Chosen;
+use serve::serve;
+ghost use mathlib.Core.Path.{_≡_};
+ghost use Rattle.rules.specs.Serves.{Did, buffers};
+ghost use Rattle.rules.specs.Drive.{highest, imageCheck, imageNumber};
+ghost use Rattle.rules.specs.Locks.{start};
+ghost use Rattle.rules.specs.Look.{lookAt};
+ghost use Rattle.rules.specs.Call.{call};
+ghost use Rattle.locklist.specs.Start.{DidStart};
+
+// A call: three numbers and four separate buffers in, A + 256 H out.
+#[no_mangle]
+pub extern "C" fn mpm_call(
+    function: u32,
+    process: u32,
+    count: u32,
+    fcb: &mut [u8],
+    dma: &mut [u8],
+    list: &mut [u8],
+    image: &mut [u8],
+) -> u32
+    ensures { λ r. ⌜ Did (call function process count (buffers (now (fcb .entry)) (now (dma .entry)) (now (list .entry)) (now (image .entry)))) r (now (fcb .exit)) (now (dma .exit)) (now (list .exit)) (now (image .exit)) ⌝ }
+{
+    let chosen = routine_of(function);
+    let Chosen::Call(routine) = chosen else {
+        return 3583;
+    };
+    let code = refusal(
+        function,
+        routine,
+        process,
+        count,
+        &*fcb,
+        &*dma,
+        &*list,
+        &*image,
+    );
+    if code != 0 {
+        return code;
+    }
+    serve(routine, process as u8, count, fcb, dma, list, image)
+}
+
+// Start: a fresh list from three numbers and sixteen users, or 255/13 and the list unchanged.
+#[no_mangle]
+pub extern "C" fn mpm_start(
+    capacity: u32,
+    opens: u32,
+    locks: u32,
+    users: &[u8],
+    list: &mut [u8],
+) -> u32
+    ensures { λ r. ⌜ DidStart (start capacity opens locks (now (users .entry)) (now (list .entry))) r (now (list .exit)) ⌝ }
+{
+    start(capacity, opens, locks, users, list)
+}
+
+// The image check: 0 sound, 1 wrong length, 2 unsound directory.
+#[no_mangle]
+pub extern "C" fn mpm_check(image: &[u8]) -> u32
+    ensures { λ r. ⌜ r ≡ imageNumber (imageCheck highest (now (image .entry))) ⌝ }
+{
+    image_number(image_check(image, 262143))
+}
+
+// Look: where the record's 128 bytes begin in the image, or 0 where there are none to show.
+#[no_mangle]
+pub extern "C" fn mpm_look(user: u32, name: &[u8], number: u32, image: &[u8]) -> u32
+    ensures { λ r. ⌜ r ≡ lookAt highest user (now (name .entry)) number (now (image .entry)) ⌝ }
+{
+    look_at(user, name, number, image) as u32
+}

@@ -1,0 +1,70 @@
+-- 22: the outcome at each end of its routine. Assumes nothing.
+use Prim.Native.Nat.{ℕ, _+_, _-_, _*_, _≤_, _<_}
+use mathlib.Core.Path.{_≡_, refl, sym, ap, _∙_}
+use mathlib.Core.Bool.{Bool, true, false, not}
+use mathlib.Core.List.{List, [], _∷_}
+use native.Mathlib.Omega.{arith}
+use lib.ListN.{length, take, drop}
+use lib.Dec.{leb, ltb, eqb}
+use borrow.Author.Tests.{leb-false, le-ltb, lt-ltb}
+use Rattle.words.specs.Tests.{_if_else_, all}
+use Rattle.words.specs.Bytes.{put, part, lowFrom}
+use Rattle.words.specs.Lists.{tab}
+use Rattle.words.specs.Tables.{firstOf}
+use Rattle.words.proofs.Tests.{lowest-within, all-make}
+use Rattle.words.proofs.Lists.{tab-at}
+use Rattle.words.proofs.Tables.{row-off, row-rest}
+use Rattle.words.proofs.Sets.{row-yes, row-no, row-none, not-of-false, not-of-true}
+use Rattle.rules.specs.declared.file.File.{File}
+use Rattle.rules.specs.declared.file.Found.{Found}
+use Rattle.rules.specs.declared.list.LockList.{LockList}
+use Rattle.rules.specs.declared.routine.Chosen.the-variants.{Call}
+use Rattle.rules.specs.Serves.{Buffers, Did}
+use Rattle.rules.specs.Drive.{lookUp, freeEntry, fileFrom}
+use Rattle.rules.specs.Locks.{unpack, pack, openOf, isOpened, freePlace, isEmptyAt, isLow}
+use Rattle.rules.specs.Asks.{callerFile, newFile, recordOf, openMode, makeMode}
+use Rattle.rules.specs.Call.{askedBy, rowsOf, effectOf, served}
+use Rattle.rules.proofs.Ends.{did-as, did-refuse, did-pass, served-as}
+use Rattle.rules.specs.declared.routine.Routine.the-variants.{Make}
+use Rattle.rules.specs.Codes.{rows22}
+use Rattle.rules.specs.Effects.{fcbOpened, opened, made, makes, does22}
+use Rattle.files.specs.By.{by22}
+
+-- the lowest empty entry is there
+pub make-room : (p : ℕ) (l : LockList) (x : Found) (fcb s : List ℕ) (c e : ℕ) → c ≡ firstOf (rows22 p l x fcb s) → c ≡ 0 → e ≡ freeEntry s → e < 64
+unfolding rows22
+make-room p l x fcb s c e hc z he =
+    let k = leb-false 64 (freeEntry s)
+    (row-off 255 _ _ (λ y. omega arith)
+    (row-rest 3071 _ _ (λ y. omega arith) (row-rest 2815 _ _ (λ y. omega arith) (row-rest 2303 _ _ (λ y. omega arith) (row-rest 2559 _ _ (λ y. omega arith) (sym hc ∙ z)))))) in
+    omega (arith, he)
+
+module _ (p : ℕ) (l : LockList) (f : File) (b : Buffers) (x : Found) (c : ℕ) (hx : x ≡ lookUp (b .image) f) (hc : c ≡ firstOf (rows22 p l x (b .fcb) (b .image))) where
+  table : c ≡ firstOf (rows22 p l (lookUp (b .image) f) (b .fcb) (b .image))
+  table = hc ∙ ap (λ (y : Found). firstOf (rows22 p l y (b .fcb) (b .image))) hx
+
+  pub make-refused : (c ≡ 0 → ⊥) → Did (by22 p l f b) c (b .fcb) (b .dma) (b .list) (b .image)
+  unfolding by22
+  make-refused n = did-refuse _ b _ c table n
+
+  pub make-done : (mode e at : ℕ) (image fcb : List ℕ) (m : LockList) (list : List ℕ) → c ≡ 0 → mode ≡ makeMode (b .fcb) → e ≡ freeEntry (b .image) → at ≡ freePlace l → image ≡ made e f (b .image) → fcb ≡ fcbOpened image e mode at (b .fcb) → m ≡ opened p f mode l → list ≡ pack m → Did (by22 p l f b) 0 fcb (b .dma) list image
+  unfolding by22 does22 makes
+  make-done mode e at image fcb m list z hm he ha hi hf hl hp =
+      let i : image ≡ made (freeEntry (b .image)) f (b .image) = hi ∙ ap (λ (k : ℕ). made k f (b .image)) he in
+      did-pass _ b _ c table 0 _ _ _ _ z
+      (record {
+        gives = refl;
+        leaves-fcb =
+            hf ∙ ap (λ (s : List ℕ). fcbOpened s e mode at (b .fcb)) i
+            ∙ ap (λ (k : ℕ). fcbOpened (made (freeEntry (b .image)) f (b .image)) k mode at (b .fcb)) he
+            ∙ ap (λ (k : ℕ). fcbOpened (made (freeEntry (b .image)) f (b .image)) (freeEntry (b .image)) k at (b .fcb)) hm
+            ∙ ap (λ (k : ℕ). fcbOpened (made (freeEntry (b .image)) f (b .image)) (freeEntry (b .image)) (makeMode (b .fcb)) k (b .fcb)) ha;
+        leaves-dma = refl;
+        leaves-list = hp ∙ ap pack hl ∙ ap (λ (k : ℕ). pack (opened p f k l)) hm;
+        leaves-image = i;
+      })
+
+pub make-called : (p c : ℕ) (b : Buffers) (l : LockList) (f : File) (a : ℕ) (fcb dma list image : List ℕ) → l ≡ unpack (b .list) → f ≡ callerFile p l (b .fcb) → Did (by22 p l f b) a fcb dma list image → Did (served (Call Make) p c b) a fcb dma list image
+unfolding by22 rowsOf effectOf askedBy
+make-called p c b l f a fcb dma list image hl hf d =
+    did-as _ _ a fcb dma list image (served-as (Call Make) p c b l f (recordOf (b .fcb)) hl hf refl) d

@@ -1,0 +1,83 @@
+-- 19 and 23: the outcome at each end of their routines. Assumes nothing.
+use Prim.Native.Nat.{ℕ, _+_, _-_, _*_, _≤_, _<_}
+use mathlib.Core.Path.{_≡_, refl, sym, ap, _∙_}
+use mathlib.Core.Bool.{Bool, true, false, not}
+use mathlib.Core.List.{List, [], _∷_}
+use native.Mathlib.Omega.{arith}
+use lib.ListN.{length, getD, take, drop}
+use lib.Dec.{leb, ltb, eqb}
+use borrow.Author.Tests.{leb-false, le-ltb, lt-ltb}
+use Rattle.words.specs.Tests.{_if_else_, all}
+use Rattle.words.specs.Bytes.{put, part, lowFrom}
+use Rattle.words.specs.Lists.{tab}
+use Rattle.words.specs.Tables.{firstOf}
+use Rattle.words.proofs.Tests.{lowest-within, all-make}
+use Rattle.words.proofs.Lists.{tab-at}
+use Rattle.words.proofs.Tables.{row-off, row-rest}
+use Rattle.words.proofs.Sets.{row-yes, row-no, row-none, not-of-false, not-of-true}
+use Rattle.rules.specs.declared.file.File.{File}
+use Rattle.rules.specs.declared.file.Found.{Found}
+use Rattle.rules.specs.declared.list.LockList.{LockList}
+use Rattle.rules.specs.declared.routine.Chosen.the-variants.{Call}
+use Rattle.rules.specs.Serves.{Buffers, Did}
+use Rattle.rules.specs.Drive.{lookUp, freeEntry, fileFrom}
+use Rattle.rules.specs.Locks.{unpack, pack, openOf, isOpened, freePlace, isEmptyAt, isLow}
+use Rattle.rules.specs.Asks.{callerFile, newFile, recordOf, openMode, makeMode}
+use Rattle.rules.specs.Call.{askedBy, rowsOf, effectOf, served}
+use Rattle.rules.proofs.Ends.{did-as, did-refuse, did-pass, served-as}
+use Rattle.rules.specs.declared.routine.Routine.the-variants.{Delete, Rename}
+use Rattle.rules.specs.Codes.{rows19, rows23}
+use Rattle.rules.specs.Effects.{erased, renamed, does19, does23}
+use Rattle.files.specs.By.{by19, by23}
+
+-- ---- the ends of 19
+
+module _ (l : LockList) (f : File) (b : Buffers) (x : Found) (c : ℕ) (hx : x ≡ lookUp (b .image) f) (hc : c ≡ firstOf (rows19 l f x (b .fcb) (b .image))) where
+  table : c ≡ firstOf (rows19 l f (lookUp (b .image) f) (b .fcb) (b .image))
+  table = hc ∙ ap (λ (y : Found). firstOf (rows19 l f y (b .fcb) (b .image))) hx
+
+  pub delete-refused : (c ≡ 0 → ⊥) → Did (by19 l f b) c (b .fcb) (b .dma) (b .list) (b .image)
+  unfolding by19
+  delete-refused n = did-refuse _ b _ c table n
+
+  pub delete-done : (image : List ℕ) → c ≡ 0 → image ≡ erased f (b .image) → Did (by19 l f b) 0 (b .fcb) (b .dma) (b .list) image
+  unfolding by19 does19
+  delete-done image z h =
+      did-pass _ b _ c table 0 _ _ _ _ z
+      (record { gives = refl; leaves-fcb = refl; leaves-dma = refl; leaves-list = refl; leaves-image = h })
+
+pub delete-called : (p c : ℕ) (b : Buffers) (l : LockList) (f : File) (a : ℕ) (fcb dma list image : List ℕ) → l ≡ unpack (b .list) → f ≡ callerFile p l (b .fcb) → Did (by19 l f b) a fcb dma list image → Did (served (Call Delete) p c b) a fcb dma list image
+unfolding by19 rowsOf effectOf askedBy
+delete-called p c b l f a fcb dma list image hl hf d =
+    did-as _ _ a fcb dma list image (served-as (Call Delete) p c b l f (recordOf (b .fcb)) hl hf refl) d
+
+-- ---- the ends of 23
+
+-- a name that was read has its high bits clear
+pub name-low : (p : ℕ) (l : LockList) (fcb : List ℕ) (new : File) → new ≡ newFile p l fcb → all (isLow (new .name)) 11 ≡ true
+unfolding newFile fileFrom isLow
+name-low p l fcb new h =
+    ap (λ (g : File). all (isLow (g .name)) 11) h
+    ∙ all-make (isLow (tab (lowFrom fcb 17) 11)) 11
+    (λ k m. let e : getD (tab (lowFrom fcb 17) 11) k 0 ≡ lowFrom fcb 17 k = tab-at (lowFrom fcb 17) 11 k 0 m in lt-ltb (getD (tab (lowFrom fcb 17) 11) k 0) 128 (omega (arith, e)))
+
+module _ (l : LockList) (f new : File) (b : Buffers) (x y : Found) (c : ℕ) (hx : x ≡ lookUp (b .image) f) (hy : y ≡ lookUp (b .image) new) (hc : c ≡ firstOf (rows23 l f x y (b .fcb) (b .image))) where
+  renaming : c ≡ firstOf (rows23 l f (lookUp (b .image) f) (lookUp (b .image) new) (b .fcb) (b .image))
+  renaming =
+      hc ∙ ap (λ (v : Found). firstOf (rows23 l f v y (b .fcb) (b .image))) hx
+      ∙ ap (λ (v : Found). firstOf (rows23 l f (lookUp (b .image) f) v (b .fcb) (b .image))) hy
+
+  pub rename-refused : (c ≡ 0 → ⊥) → Did (by23 l f new b) c (b .fcb) (b .dma) (b .list) (b .image)
+  unfolding by23
+  rename-refused n = did-refuse _ b _ c renaming n
+
+  pub rename-done : (image : List ℕ) → c ≡ 0 → image ≡ renamed f (new .name) (b .image) → Did (by23 l f new b) 0 (b .fcb) (b .dma) (b .list) image
+  unfolding by23 does23
+  rename-done image z h =
+      did-pass _ b _ c renaming 0 _ _ _ _ z
+      (record { gives = refl; leaves-fcb = refl; leaves-dma = refl; leaves-list = refl; leaves-image = h })
+
+pub rename-called : (p c : ℕ) (b : Buffers) (l : LockList) (f new : File) (a : ℕ) (fcb dma list image : List ℕ) → l ≡ unpack (b .list) → f ≡ callerFile p l (b .fcb) → new ≡ newFile p l (b .fcb) → Did (by23 l f new b) a fcb dma list image → Did (served (Call Rename) p c b) a fcb dma list image
+unfolding by23 rowsOf effectOf askedBy
+rename-called p c b l f new a fcb dma list image hl hf hn d =
+    did-as _ _ a fcb dma list image (served-as (Call Rename) p c b l f (recordOf (b .fcb)) hl hf refl) (rw hn at d)

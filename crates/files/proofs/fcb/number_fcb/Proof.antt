@@ -1,0 +1,24 @@
+use mathlib.Core.Path.{refl}
+use borrow.Author.Needs.{needs}
+use Rattle.words.proofs.Sets.{choices}
+use Rattle.rules.specs.Effects.{fcbNumbered}
+use Rattle.files.proofs.fcb.number_fcb.Statement.{statement}
+use Rattle.files.proofs.fcb.number_fcb.Tie as tie
+
+pub number-fcb-spec : {M : Type 1} → statement M
+unfolding fcbNumbered
+number-fcb-spec =
+    tie.close
+    (tie.spec
+    -- cast-t6 src/fcb.rt:25:19
+    (λ c. search needs)
+    -- slice-aggregate-put-bytes src/fcb.rt:26:28
+    (λ c. search needs)
+    -- put-bytes-requires src/fcb.rt:26:9
+    (λ c κs. search needs)
+    -- same-length src/fcb.rt:20:1
+    (λ c. search needs)
+    -- returns src/fcb.rt:20:1
+    (λ c. search (choices, refl) depth 8 fits 20000)
+    -- returns-2 src/fcb.rt:20:1
+    (λ c. search (choices, refl) depth 8 fits 20000))

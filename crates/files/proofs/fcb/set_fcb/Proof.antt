@@ -1,0 +1,18 @@
+use borrow.Author.Needs.{needs}
+use Rattle.rules.specs.Effects.{fcbOpened}
+use Rattle.files.proofs.fcb.set_fcb.Statement.{statement}
+use Rattle.files.proofs.fcb.set_fcb.Tie as tie
+
+pub set-fcb-spec : {M : Type 1} → statement M
+unfolding fcbOpened
+set-fcb-spec =
+    tie.close
+    (tie.spec
+    -- map-fcb-requires src/fcb.rt:35:5
+    (λ c κs. search needs)
+    -- number-fcb-requires src/fcb.rt:36:5
+    (λ c κs. search needs)
+    -- same-length src/fcb.rt:31:1
+    (λ c. search needs)
+    -- returns src/fcb.rt:31:1
+    (λ c. cc))

@@ -1,0 +1,14 @@
+use borrow.Author.Needs.{needs}
+use Rattle.files.proofs.limit.at_open_limit.Statement.{statement}
+use Rattle.files.proofs.limit.at_open_limit.Tie as tie
+
+pub at-open-limit-spec : {M : Type 1} → statement M
+at-open-limit-spec =
+    tie.close
+    (tie.spec
+    -- wide-requires src/limit.rt:11:5
+    (λ c κs. search needs)
+    -- opens-by-requires src/limit.rt:11:26
+    (λ c κs. search needs)
+    -- returns src/limit.rt:8:1
+    (λ c. cc))

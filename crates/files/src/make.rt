@@ -1,0 +1,95 @@
+use crate::fcb::set_fcb;
+use crate::limit::at_open_limit;
+use crate::limit::no_place;
+use drive::find::free_entry;
+use drive::find::is_missing;
+use drive::find::look_up;
+use drive::name::legal_name;
+use locklist::ask::caller_file;
+use locklist::ask::make_mode;
+use locklist::pack::pack;
+use locklist::unpack::unpack;
+use rules::file::File;
+use rules::file::Found;
+use rules::list::LockList;
+use writing::directory::make_entry;
+ghost use mathlib.Core.Path.{_≡_};
+ghost use lib.ListN.{length};
+ghost use Rattle.words.specs.Tables.{firstOf};
+ghost use Rattle.rules.specs.Serves.{Did, buffers};
+ghost use Rattle.rules.specs.Call.{Ready, served};
+ghost use Rattle.rules.specs.declared.routine.Chosen.the-variants.{Call};
+ghost use Prim.Native.Nat.{_≤_};
+ghost use Rattle.rules.specs.declared.routine.Routine.the-variants.{Make};
+ghost use lib.Dec.{leb};
+ghost use Rattle.rules.specs.Drive.{freeEntry};
+ghost use Rattle.rules.specs.Codes.{rows22};
+ghost use Rattle.files.specs.By.{by22};
+
+// There is no empty entry.
+fn no_entry(image: &[u8]) -> bool
+    requires { ⌜ 2048 ≤ length (now image) ⌝ }
+    ensures { λ t. ⌜ t ≡ leb 64 (freeEntry (now (image .entry))) ⌝ }
+{
+    64 <= free_entry(image)
+}
+
+// The code of the first refusal of 22, or 0.
+fn make_refusal(p: u8, l: LockList, x: Found, fcb: &[u8], image: &[u8]) -> u32
+    requires { ⌜ (length (now fcb) ≡ 36) × (2048 ≤ length (now image)) ⌝ }
+    ensures { λ c. ⌜ c ≡ firstOf (rows22 p l x (now (fcb .entry)) (now (image .entry))) ⌝ }
+{
+    if !legal_name(fcb, 1) {
+        return 2559;
+    }
+    if !is_missing(x) {
+        return 2303;
+    }
+    if at_open_limit(l, p) {
+        return 2815;
+    }
+    if no_place(l) {
+        return 3071;
+    }
+    if no_entry(image) {
+        return 255;
+    }
+    0
+}
+
+// 22 on what was found: decide first, then make the entry, the FCB and the item.
+fn make_by(
+    p: u8,
+    l: LockList,
+    f: File,
+    fcb: &mut [u8],
+    dma: &[u8],
+    list: &mut [u8],
+    image: &mut [u8],
+) -> u32
+    requires { ⌜ Ready (buffers (now fcb) (now dma) (now list) (now image)) ⌝ }
+    ensures { λ c. ⌜ Did (by22 p l f (buffers (now (fcb .entry)) (now (dma .entry)) (now (list .entry)) (now (image .entry)))) c (now (fcb .exit)) (now (dma .entry)) (now (list .exit)) (now (image .exit)) ⌝ }
+{
+    let x = look_up(&*image, f);
+    let code = make_refusal(p, l, x, &*fcb, &*image);
+    if code != 0 {
+        return code;
+    }
+    let mode = make_mode(&*fcb);
+    let e = free_entry(&*image);
+    let at = l.free_place();
+    make_entry(&mut *image, e, f);
+    set_fcb(fcb, &*image, e, mode, at);
+    pack(l.open(p, f, mode), list);
+    0
+}
+
+// 22 on the buffers.
+pub fn make_file(p: u8, fcb: &mut [u8], dma: &[u8], list: &mut [u8], image: &mut [u8]) -> u32
+    requires { ⌜ Ready (buffers (now fcb) (now dma) (now list) (now image)) ⌝ }
+    ensures { λ c. ⌜ Did (served (Call Make) p 1 (buffers (now (fcb .entry)) (now (dma .entry)) (now (list .entry)) (now (image .entry)))) c (now (fcb .exit)) (now (dma .entry)) (now (list .exit)) (now (image .exit)) ⌝ }
+{
+    let l = unpack(&*list);
+    let f = caller_file(l, p, &*fcb);
+    make_by(p, l, f, fcb, dma, list, image)
+}

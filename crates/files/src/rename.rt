@@ -1,0 +1,101 @@
+use drive::find::is_missing;
+use drive::find::look_up;
+use drive::find::read_only;
+use drive::name::legal_name;
+use locklist::ask::caller_file;
+use locklist::ask::new_file;
+use locklist::unpack::unpack;
+use rules::file::File;
+use rules::file::Found;
+use rules::list::LockList;
+use writing::directory::rename;
+ghost use mathlib.Core.Path.{_≡_};
+ghost use lib.ListN.{length};
+ghost use Rattle.words.specs.Tables.{firstOf};
+ghost use Rattle.rules.specs.Serves.{Did, buffers};
+ghost use Rattle.rules.specs.Call.{Ready, served};
+ghost use Rattle.rules.specs.declared.routine.Chosen.the-variants.{Call};
+ghost use mathlib.Core.Bool.{true, not};
+ghost use Prim.Native.Nat.{_≤_};
+ghost use Rattle.words.specs.Tests.{_or_, all};
+ghost use Rattle.rules.specs.declared.routine.Routine.the-variants.{Rename};
+ghost use Rattle.rules.specs.Drive.{legalName, missing};
+ghost use Rattle.rules.specs.Locks.{isLow};
+ghost use Rattle.rules.specs.Codes.{rows23};
+ghost use Rattle.files.specs.By.{by23};
+
+// Either name is illegal.
+fn illegal_names(fcb: &[u8]) -> bool
+    requires { ⌜ length (now fcb) ≡ 36 ⌝ }
+    ensures { λ t. ⌜ t ≡ (not (legalName (now (fcb .entry)) 1) or not (legalName (now (fcb .entry)) 17)) ⌝ }
+{
+    if !legal_name(fcb, 1) {
+        return true;
+    }
+    !legal_name(fcb, 17)
+}
+
+// There is such a file.
+fn is_there(y: Found) -> bool
+    ensures { λ t. ⌜ t ≡ not (missing y) ⌝ }
+{
+    !is_missing(y)
+}
+
+// The code of the first refusal of 23, or 0; `y` is what looking up the new name tells.
+fn rename_refusal(l: LockList, f: File, x: Found, y: Found, fcb: &[u8], image: &[u8]) -> u32
+    requires { ⌜ (length (now fcb) ≡ 36) × (x .entry ≤ 64) × (3072 ≤ length (now image)) ⌝ }
+    ensures { λ c. ⌜ c ≡ firstOf (rows23 l f x y (now (fcb .entry)) (now (image .entry))) ⌝ }
+{
+    if illegal_names(fcb) {
+        return 2559;
+    }
+    if is_missing(x) {
+        return 255;
+    }
+    if l.any_open(f) {
+        return 1535;
+    }
+    if read_only(image, x) {
+        return 1023;
+    }
+    if is_there(y) {
+        return 2303;
+    }
+    0
+}
+
+// 23 on what was found: decide first, then rename the file's entries.
+fn rename_by(
+    l: LockList,
+    f: File,
+    new: File,
+    fcb: &[u8],
+    dma: &[u8],
+    list: &[u8],
+    image: &mut [u8],
+) -> u32
+    requires { ⌜ (all (isLow (new .name)) 11 ≡ true) × Ready (buffers (now fcb) (now dma) (now list) (now image)) ⌝ }
+    ensures { λ c. ⌜ Did (by23 l f new (buffers (now (fcb .entry)) (now (dma .entry)) (now (list .entry)) (now (image .entry)))) c (now (fcb .entry)) (now (dma .entry)) (now (list .entry)) (now (image .exit)) ⌝ }
+{
+    let x = look_up(&*image, f);
+    let y = look_up(&*image, new);
+    let code = rename_refusal(l, f, x, y, fcb, &*image);
+    if code != 0 {
+        return code;
+    }
+    let name = new.name;
+    rename(image, f, name);
+    0
+}
+
+// 23 on the buffers.
+pub fn rename_file(p: u8, fcb: &[u8], dma: &[u8], list: &[u8], image: &mut [u8]) -> u32
+    requires { ⌜ Ready (buffers (now fcb) (now dma) (now list) (now image)) ⌝ }
+    ensures { λ c. ⌜ Did (served (Call Rename) p 1 (buffers (now (fcb .entry)) (now (dma .entry)) (now (list .entry)) (now (image .entry)))) c (now (fcb .entry)) (now (dma .entry)) (now (list .entry)) (now (image .exit)) ⌝ }
+{
+    let l = unpack(list);
+    let f = caller_file(l, p, fcb);
+    let new = new_file(l, p, fcb);
+    rename_by(l, f, new, fcb, dma, list, image)
+}

@@ -1,0 +1,12 @@
+use borrow.Author.Needs.{needs}
+use Rattle.locking.proofs.run.is_number.Statement.{statement}
+use Rattle.locking.proofs.run.is_number.Tie as tie
+
+pub is-number-spec : {M : Type 1} → statement M
+is-number-spec =
+    tie.close
+    (tie.spec
+    -- wide-requires src/run.rt:26:5
+    (λ c κs. search needs)
+    -- returns src/run.rt:23:1
+    (λ c. cc))

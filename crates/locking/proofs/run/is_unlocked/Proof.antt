@@ -1,0 +1,12 @@
+use borrow.Author.Needs.{needs}
+use Rattle.locking.proofs.run.is_unlocked.Statement.{statement}
+use Rattle.locking.proofs.run.is_unlocked.Tie as tie
+
+pub is-unlocked-spec : {M : Type 1} → statement M
+is-unlocked-spec =
+    tie.close
+    (tie.spec
+    -- mode-at-requires src/run.rt:19:5
+    (λ c κs. search needs)
+    -- returns src/run.rt:16:1
+    (λ c. cc))

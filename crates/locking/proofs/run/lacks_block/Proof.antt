@@ -1,0 +1,16 @@
+use borrow.Author.Needs.{needs}
+use Rattle.rules.specs.Codes.{lacks}
+use Rattle.locking.proofs.run.lacks_block.Statement.{statement}
+use Rattle.locking.proofs.run.lacks_block.Tie as tie
+
+pub lacks-block-spec : {M : Type 1} → statement M
+unfolding lacks
+lacks-block-spec =
+    tie.close
+    (tie.spec
+    -- add-block-of src/run.rt:53:24
+    (λ c. search needs)
+    -- block-of-requires src/run.rt:53:5
+    (λ c κs. search needs)
+    -- returns src/run.rt:49:1
+    (λ c. cc))

@@ -1,0 +1,14 @@
+use borrow.Author.Needs.{needs}
+use Rattle.locking.proofs.run.too_few_places.Statement.{statement}
+use Rattle.locking.proofs.run.too_few_places.Tie as tie
+
+pub too-few-places-spec : {M : Type 1} → statement M
+too-few-places-spec =
+    tie.close
+    (tie.spec
+    -- free-places-requires src/run.rt:107:5
+    (λ c κs. search needs)
+    -- count-new-requires src/run.rt:107:23
+    (λ c κs. search needs)
+    -- returns src/run.rt:103:1
+    (λ c. cc))

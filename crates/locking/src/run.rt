@@ -1,0 +1,125 @@
+use drive::byte::wide;
+use drive::find::block_of;
+use drive::find::entry_of;
+use rules::file::File;
+use rules::list::LockList;
+ghost use mathlib.Core.Path.{_≡_};
+ghost use Prim.Native.Nat.{_+_, _<_, _≤_};
+ghost use lib.ListN.{length};
+ghost use lib.Dec.{eqb, ltb};
+ghost use Rattle.words.specs.Tests.{any, count};
+ghost use Rattle.words.specs.Tables.{firstOf};
+ghost use Rattle.rules.specs.Locks.{itemAt, locksBy, freePlaces};
+ghost use Rattle.rules.specs.Codes.{isFileId, noExtent, lacks, firstLacking, rowsLacking, isNew, rowsTake};
+
+// The open at place `o` is unlocked.
+pub fn is_unlocked(l: LockList, o: usize) -> bool
+    ensures { λ t. ⌜ t ≡ eqb (itemAt l o .mode) 1 ⌝ }
+{
+    l.mode_at(o) == 1
+}
+
+// A byte is that number.
+fn is_number(b: u8, n: usize) -> bool
+    ensures { λ t. ⌜ t ≡ eqb b n ⌝ }
+{
+    wide(b) == n
+}
+
+// DMA bytes 0 and 1 are the File ID of the open at place `o`.
+pub fn is_file_id(dma: &[u8], o: usize) -> bool
+    requires { ⌜ length (now dma) ≡ 256 ⌝ }
+    ensures { λ t. ⌜ t ≡ isFileId (now (dma .entry)) o ⌝ }
+{
+    if !is_number(dma[0], o) {
+        return false;
+    }
+    dma[1] == 0
+}
+
+// Record `r + k` lacks its extent.
+fn no_extent(image: &[u8], f: File, r: usize, k: usize) -> bool
+    requires { ⌜ (r + k < 4294967296) × (2048 ≤ length (now image)) ⌝ }
+    ensures { λ t. ⌜ t ≡ noExtent (now (image .entry)) f r k ⌝ }
+{
+    64 <= entry_of(image, f, (r + k) / 128)
+}
+
+// Record `r + k` lacks its extent or block.
+fn lacks_block(image: &[u8], f: File, r: usize, k: usize) -> bool
+    requires { ⌜ (r + k < 4294967296) × (2048 ≤ length (now image)) ⌝ }
+    ensures { λ t. ⌜ t ≡ lacks (now (image .entry)) f r k ⌝ }
+{
+    block_of(image, f, r + k) == 0
+}
+
+// How far into the run the first record is that lacks its extent or block, `n` where none does.
+fn first_lacking(image: &[u8], f: File, r: usize, n: usize) -> usize
+    requires { ⌜ (r + n < 4294967296) × (2048 ≤ length (now image)) ⌝ }
+    ensures { λ k. ⌜ (k ≡ firstLacking (now (image .entry)) f r n) × (k ≤ n) ⌝ }
+{
+    let mut k = 0;
+    while k < n {
+        if lacks_block(image, f, r, k) {
+            return k;
+        }
+        k += 1;
+    }
+    k
+}
+
+// The code for record `r + k`, the first of the run that lacks its extent or block, or 0 where `k` is past the run.
+fn lacking_code(image: &[u8], f: File, r: usize, n: usize, k: usize) -> u32
+    requires { ⌜ (r + k < 4294967296) × (2048 ≤ length (now image)) ⌝ }
+    ensures { λ c. ⌜ c ≡ firstOf (rowsLacking (now (image .entry)) f r n k) ⌝ }
+{
+    if n <= k {
+        return 0;
+    }
+    if no_extent(image, f, r, k) {
+        return 4;
+    }
+    1
+}
+
+// The code for a run of which a record is not there, or 0.
+pub fn lacking(image: &[u8], f: File, r: usize, n: usize) -> u32
+    requires { ⌜ (r + n < 4294967296) × (2048 ≤ length (now image)) ⌝ }
+    ensures { λ c. ⌜ c ≡ firstOf (rowsLacking (now (image .entry)) f r n (firstLacking (now (image .entry)) f r n)) ⌝ }
+{
+    let k = first_lacking(image, f, r, n);
+    lacking_code(image, f, r, n, k)
+}
+
+// The caller's records and the run exceed the lock limit.
+fn over_limit(p: u8, l: LockList, n: u32) -> bool
+    requires { ⌜ n ≤ 16 ⌝ }
+    ensures { λ t. ⌜ t ≡ ltb (l .locklimit) (locksBy l p + n) ⌝ }
+{
+    wide(l.locklimit) < l.locks_by(p) + n as usize
+}
+
+// There are fewer empty places than records not yet held.
+fn too_few_places(p: u8, l: LockList, f: File, r: u32, n: u32) -> bool
+    requires { ⌜ (l .capacity ≤ 64) × (r + n < 4294967296) ⌝ }
+    ensures { λ t. ⌜ t ≡ ltb (freePlaces l) (count (isNew l p f r) n) ⌝ }
+{
+    l.free_places() < l.count_new(p, f, r, n)
+}
+
+// The code of the first refusal to take the run's records, or 0.
+pub fn not_to_take(p: u8, l: LockList, f: File, r: u32, n: u32) -> u32
+    requires { ⌜ (l .capacity ≤ 64) × (n ≤ 16) × (r + n < 4294967296) ⌝ }
+    ensures { λ c. ⌜ c ≡ firstOf (rowsTake p l f r n) ⌝ }
+{
+    if l.any_others(p, f, r, n) {
+        return 8;
+    }
+    if over_limit(p, l, n) {
+        return 12;
+    }
+    if too_few_places(p, l, f, r, n) {
+        return 14;
+    }
+    0
+}

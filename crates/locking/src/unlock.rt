@@ -1,0 +1,84 @@
+use crate::run::is_file_id;
+use crate::run::is_unlocked;
+use locklist::ask::caller_file;
+use locklist::ask::record_of;
+use locklist::pack::pack;
+use locklist::unpack::unpack;
+use rules::file::File;
+use rules::list::LockList;
+ghost use mathlib.Core.Path.{_≡_};
+ghost use lib.ListN.{length};
+ghost use Rattle.words.specs.Tables.{firstOf};
+ghost use Rattle.rules.specs.Serves.{Did, buffers};
+ghost use Rattle.rules.specs.Call.{Ready, served};
+ghost use Rattle.rules.specs.declared.routine.Chosen.the-variants.{Call};
+ghost use Prim.Native.Nat.{_+_, _<_, _≤_};
+ghost use Rattle.rules.specs.declared.routine.Routine.the-variants.{Unlock};
+ghost use Rattle.rules.specs.Codes.{rows43};
+ghost use Rattle.locking.specs.By.{by43};
+
+// The code of the first refusal of 43, or 0. The caller's open is at place `o` (64: none); modes 0 and 2 pass.
+fn unlock_refusal(l: LockList, o: usize, r: u32, n: u32, dma: &[u8]) -> u32
+    requires { ⌜ (1 ≤ n) × (n ≤ 16) × (r < 16777216) × (length (now dma) ≡ 256) ⌝ }
+    ensures { λ c. ⌜ c ≡ firstOf (rows43 l o r n (now (dma .entry))) ⌝ }
+{
+    if 64 <= o {
+        return 10;
+    }
+    if !is_unlocked(l, o) {
+        return 0;
+    }
+    if !is_file_id(dma, o) {
+        return 13;
+    }
+    if 262143 < r + n - 1 {
+        return 6;
+    }
+    0
+}
+
+// 43 on what was found: decide first, then take the run's locks away.
+fn unlock_by(
+    p: u8,
+    l: LockList,
+    o: usize,
+    f: File,
+    r: u32,
+    n: u32,
+    fcb: &[u8],
+    dma: &[u8],
+    list: &mut [u8],
+    image: &[u8],
+) -> u32
+    requires { ⌜ (1 ≤ n) × (n ≤ 16) × (r < 16777216) × Ready (buffers (now fcb) (now dma) (now list) (now image)) ⌝ }
+    ensures { λ c. ⌜ Did (by43 p l o f r n (buffers (now (fcb .entry)) (now (dma .entry)) (now (list .entry)) (now (image .entry)))) c (now (fcb .entry)) (now (dma .entry)) (now (list .exit)) (now (image .entry)) ⌝ }
+{
+    let code = unlock_refusal(l, o, r, n, dma);
+    if code != 0 {
+        return code;
+    }
+    if !is_unlocked(l, o) {
+        return 0;
+    }
+    pack(l.unlock(p, f, r, n), list);
+    0
+}
+
+// 43 on the buffers.
+pub fn unlock_records(
+    p: u8,
+    count: u32,
+    fcb: &[u8],
+    dma: &[u8],
+    list: &mut [u8],
+    image: &[u8],
+) -> u32
+    requires { ⌜ (1 ≤ count) × (count ≤ 16) × Ready (buffers (now fcb) (now dma) (now list) (now image)) ⌝ }
+    ensures { λ c. ⌜ Did (served (Call Unlock) p count (buffers (now (fcb .entry)) (now (dma .entry)) (now (list .entry)) (now (image .entry)))) c (now (fcb .entry)) (now (dma .entry)) (now (list .exit)) (now (image .entry)) ⌝ }
+{
+    let l = unpack(&*list);
+    let f = caller_file(l, p, fcb);
+    let o = l.open_of(p, f);
+    let r = record_of(fcb);
+    unlock_by(p, l, o, f, r, count, fcb, dma, list, image)
+}

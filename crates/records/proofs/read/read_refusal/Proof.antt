@@ -1,0 +1,20 @@
+use borrow.Author.Needs.{needs}
+use Rattle.words.proofs.Sets.{codes}
+use Rattle.rules.specs.Codes.{rows33}
+use Rattle.rules.specs.Locks.{isOpened}
+use Rattle.records.proofs.read.read_refusal.Statement.{statement}
+use Rattle.records.proofs.read.read_refusal.Tie as tie
+
+pub read-refusal-spec : {M : Type 1} → statement M
+unfolding rows33 isOpened
+read-refusal-spec =
+    tie.close
+    (tie.spec
+    -- returns src/read.rt:26:9
+    (λ c. search codes depth 8 fits 20000)
+    -- returns-2 src/read.rt:29:9
+    (λ c. search codes depth 8 fits 20000)
+    -- not-there-requires src/read.rt:31:5
+    (λ c κs. search needs)
+    -- returns-3 src/read.rt:21:1
+    (λ c. search codes depth 8 fits 20000))

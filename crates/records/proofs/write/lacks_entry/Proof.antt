@@ -1,0 +1,12 @@
+use Rattle.words.proofs.Sets.{choices}
+use Rattle.records.proofs.write.lacks_entry.Statement.{statement}
+use Rattle.records.proofs.write.lacks_entry.Tie as tie
+
+pub lacks-entry-spec : {M : Type 1} → statement M
+lacks-entry-spec =
+    tie.close
+    (tie.spec
+    -- returns src/write.rt:33:9
+    (λ c. search choices depth 8 fits 20000)
+    -- returns-2 src/write.rt:29:1
+    (λ c. search choices depth 8 fits 20000))

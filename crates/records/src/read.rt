@@ -1,0 +1,68 @@
+use crate::there::not_there;
+use drive::find::block_in;
+use drive::find::entry_of;
+use locklist::ask::caller_file;
+use locklist::ask::record_of;
+use locklist::unpack::unpack;
+use rules::bytes::put_bytes;
+use rules::file::File;
+ghost use mathlib.Core.Path.{_≡_};
+ghost use Prim.Native.Nat.{_<_, _≤_};
+ghost use lib.ListN.{length};
+ghost use Rattle.words.specs.Tables.{firstOf};
+ghost use Rattle.rules.specs.Serves.{Did, buffers};
+ghost use Rattle.rules.specs.Codes.{rows33};
+ghost use Rattle.rules.specs.Call.{Ready, served};
+ghost use Rattle.rules.specs.declared.routine.Chosen.the-variants.{Call};
+ghost use Rattle.rules.specs.declared.routine.Routine.the-variants.{Read};
+ghost use Rattle.records.specs.By.{by33};
+
+// The code of the first refusal of 33, or 0. The caller's open is at place `o`, the record's extent at entry `e` (64: none).
+fn read_refusal(o: usize, e: usize, r: usize, image: &[u8]) -> u32
+    requires { ⌜ 2048 ≤ length (now image) ⌝ }
+    ensures { λ c. ⌜ c ≡ firstOf (rows33 o e r (now (image .entry))) ⌝ }
+{
+    if 64 <= o {
+        return 10;
+    }
+    if 262143 < r {
+        return 6;
+    }
+    not_there(image, e, r)
+}
+
+// 33 on what was found: decide first, then copy.
+fn read_by(
+    o: usize,
+    f: File,
+    r: usize,
+    fcb: &[u8],
+    dma: &mut [u8],
+    list: &[u8],
+    image: &[u8],
+) -> u32
+    requires { ⌜ Ready (buffers (now fcb) (now dma) (now list) (now image)) ⌝ }
+    ensures { λ c. ⌜ Did (by33 o f r (buffers (now (fcb .entry)) (now (dma .entry)) (now (list .entry)) (now (image .entry)))) c (now (fcb .entry)) (now (dma .exit)) (now (list .entry)) (now (image .entry)) ⌝ }
+{
+    let e = entry_of(image, f, r / 128);
+    let code = read_refusal(o, e, r, image);
+    if code != 0 {
+        return code;
+    }
+    let at = 1024 * block_in(image, e, r) + 128 * (r % 8);
+    let end = at + 128;
+    put_bytes(dma, 0, &image[at..end]);
+    0
+}
+
+// 33 on the buffers.
+pub fn read_random(p: u8, fcb: &[u8], dma: &mut [u8], list: &[u8], image: &[u8]) -> u32
+    requires { ⌜ Ready (buffers (now fcb) (now dma) (now list) (now image)) ⌝ }
+    ensures { λ c. ⌜ Did (served (Call Read) p 1 (buffers (now (fcb .entry)) (now (dma .entry)) (now (list .entry)) (now (image .entry)))) c (now (fcb .entry)) (now (dma .exit)) (now (list .entry)) (now (image .entry)) ⌝ }
+{
+    let l = unpack(list);
+    let f = caller_file(l, p, fcb);
+    let o = l.open_of(p, f);
+    let r = record_of(fcb) as usize;
+    read_by(o, f, r, fcb, dma, list, image)
+}

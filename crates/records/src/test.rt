@@ -1,0 +1,84 @@
+use crate::may::may_write;
+use crate::there::not_there;
+use drive::find::entry_of;
+use drive::find::look_up;
+use locklist::ask::caller_file;
+use locklist::ask::record_of;
+use locklist::unpack::unpack;
+use rules::file::File;
+use rules::list::LockList;
+use writing::record::write_record;
+use writing::spot::spot_at;
+ghost use mathlib.Core.Path.{_≡_};
+ghost use Prim.Native.Nat.{_+_, _≤_};
+ghost use lib.ListN.{length};
+ghost use Rattle.words.specs.Tests.{any};
+ghost use Rattle.words.specs.Tables.{firstOf};
+ghost use Rattle.rules.specs.Serves.{Did, buffers};
+ghost use Rattle.rules.specs.Codes.{differs};
+ghost use Rattle.rules.specs.Call.{Ready, served};
+ghost use Rattle.rules.specs.declared.routine.Chosen.the-variants.{Call};
+ghost use Rattle.rules.specs.declared.routine.Routine.the-variants.{TestWrite};
+ghost use Rattle.records.specs.By.{by41};
+
+// The first 128 bytes of the DMA differ from those of the image from `at` on.
+fn any_differs(dma: &[u8], image: &[u8], at: usize) -> bool
+    requires { ⌜ (128 ≤ length (now dma)) × (at + 128 ≤ length (now image)) ⌝ }
+    ensures { λ t. ⌜ t ≡ any (differs (now (dma .entry)) (now (image .entry)) at) 128 ⌝ }
+{
+    let mut k = 0;
+    while k < 128 {
+        if dma[k] != image[at + k] {
+            return true;
+        }
+        k += 1;
+    }
+    false
+}
+
+// 41 on what was found: decide first, then write.
+fn test_by(
+    p: u8,
+    l: LockList,
+    o: usize,
+    f: File,
+    r: u32,
+    fcb: &[u8],
+    dma: &[u8],
+    list: &[u8],
+    image: &mut [u8],
+) -> u32
+    requires { ⌜ Ready (buffers (now fcb) (now dma) (now list) (now image)) ⌝ }
+    ensures { λ c. ⌜ Did (by41 p l o f r (buffers (now (fcb .entry)) (now (dma .entry)) (now (list .entry)) (now (image .entry)))) c (now (fcb .entry)) (now (dma .entry)) (now (list .entry)) (now (image .exit)) ⌝ }
+{
+    let x = look_up(&*image, f);
+    let refused = may_write(p, l, o, f, x, r, &*image);
+    if refused != 0 {
+        return refused;
+    }
+    let number = r as usize;
+    let e = entry_of(&*image, f, number / 128);
+    let lacking = not_there(&*image, e, number);
+    if lacking != 0 {
+        return lacking;
+    }
+    let w = spot_at(&*image, e, number);
+    let block = w.block;
+    if any_differs(dma, &*image, 1024 * block + 128 * (number % 8)) {
+        return 7;
+    }
+    write_record(image, false, w, x.entry, f, number, &dma[128..256]);
+    0
+}
+
+// 41 on the buffers.
+pub fn test_write(p: u8, fcb: &[u8], dma: &[u8], list: &[u8], image: &mut [u8]) -> u32
+    requires { ⌜ Ready (buffers (now fcb) (now dma) (now list) (now image)) ⌝ }
+    ensures { λ c. ⌜ Did (served (Call TestWrite) p 1 (buffers (now (fcb .entry)) (now (dma .entry)) (now (list .entry)) (now (image .entry)))) c (now (fcb .entry)) (now (dma .entry)) (now (list .entry)) (now (image .exit)) ⌝ }
+{
+    let l = unpack(list);
+    let f = caller_file(l, p, fcb);
+    let o = l.open_of(p, f);
+    let r = record_of(fcb);
+    test_by(p, l, o, f, r, fcb, dma, list, image)
+}

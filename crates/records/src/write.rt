@@ -1,0 +1,116 @@
+use crate::may::may_write;
+use drive::find::entry_of;
+use drive::find::look_up;
+use locklist::ask::caller_file;
+use locklist::ask::record_of;
+use locklist::unpack::unpack;
+use rules::file::File;
+use rules::list::LockList;
+use rules::spot::Spot;
+use writing::record::write_record;
+use writing::spot::spot_at;
+ghost use mathlib.Core.Path.{_≡_};
+ghost use mathlib.Core.Bool.{true, false};
+ghost use Prim.Native.Nat.{_<_, _≤_, _/_};
+ghost use lib.ListN.{length};
+ghost use lib.Dec.{leb};
+ghost use Rattle.words.specs.Tests.{_and_};
+ghost use Rattle.words.specs.Tables.{firstOf};
+ghost use Rattle.rules.specs.Serves.{Did, buffers};
+ghost use Rattle.rules.specs.Drive.{blocks};
+ghost use Rattle.rules.specs.Effects.{spotAt};
+ghost use Rattle.rules.specs.Codes.{rowsRoom};
+ghost use Rattle.rules.specs.Call.{Ready, served};
+ghost use Rattle.rules.specs.declared.routine.Chosen.the-variants.{Call};
+ghost use Rattle.rules.specs.declared.routine.Routine.the-variants.{Write, WriteZeros};
+ghost use Rattle.records.specs.By.{by34};
+
+// A new entry is wanted and there is no empty one.
+fn lacks_entry(w: Spot) -> bool
+    ensures { λ t. ⌜ t ≡ (w .fresh and leb 64 (w .entry)) ⌝ }
+{
+    if w.fresh {
+        return 64 <= w.entry;
+    }
+    false
+}
+
+// A new block is wanted and none of the `n` is free.
+fn lacks_block(w: Spot, n: usize) -> bool
+    ensures { λ t. ⌜ t ≡ (w .taken and leb n (w .block)) ⌝ }
+{
+    if w.taken {
+        return n <= w.block;
+    }
+    false
+}
+
+// The code of a refusal for want of room at the spot, or 0.
+fn no_room(w: Spot, image: &[u8], e: usize, r: usize) -> u32
+    requires { ⌜ w ≡ spotAt (now image) e r ⌝ }
+    ensures { λ c. ⌜ c ≡ firstOf (rowsRoom (now (image .entry)) e r) ⌝ }
+{
+    if lacks_entry(w) {
+        return 5;
+    }
+    if lacks_block(w, image.len() / 1024) {
+        return 2;
+    }
+    0
+}
+
+// 34 and 40 on what was found: decide first, then write.
+fn write_by(
+    zeros: bool,
+    p: u8,
+    l: LockList,
+    o: usize,
+    f: File,
+    r: u32,
+    fcb: &[u8],
+    dma: &[u8],
+    list: &[u8],
+    image: &mut [u8],
+) -> u32
+    requires { ⌜ Ready (buffers (now fcb) (now dma) (now list) (now image)) ⌝ }
+    ensures { λ c. ⌜ Did (by34 zeros p l o f r (buffers (now (fcb .entry)) (now (dma .entry)) (now (list .entry)) (now (image .entry)))) c (now (fcb .entry)) (now (dma .entry)) (now (list .entry)) (now (image .exit)) ⌝ }
+{
+    let x = look_up(&*image, f);
+    let refused = may_write(p, l, o, f, x, r, &*image);
+    if refused != 0 {
+        return refused;
+    }
+    let at = r as usize;
+    let e = entry_of(&*image, f, at / 128);
+    let w = spot_at(&*image, e, at);
+    let full = no_room(w, &*image, e, at);
+    if full != 0 {
+        return full;
+    }
+    write_record(image, zeros, w, x.entry, f, at, dma);
+    0
+}
+
+// 34 on the buffers.
+pub fn write_random(p: u8, fcb: &[u8], dma: &[u8], list: &[u8], image: &mut [u8]) -> u32
+    requires { ⌜ Ready (buffers (now fcb) (now dma) (now list) (now image)) ⌝ }
+    ensures { λ c. ⌜ Did (served (Call Write) p 1 (buffers (now (fcb .entry)) (now (dma .entry)) (now (list .entry)) (now (image .entry)))) c (now (fcb .entry)) (now (dma .entry)) (now (list .entry)) (now (image .exit)) ⌝ }
+{
+    let l = unpack(list);
+    let f = caller_file(l, p, fcb);
+    let o = l.open_of(p, f);
+    let r = record_of(fcb);
+    write_by(false, p, l, o, f, r, fcb, dma, list, image)
+}
+
+// 40 on the buffers.
+pub fn write_zero_fill(p: u8, fcb: &[u8], dma: &[u8], list: &[u8], image: &mut [u8]) -> u32
+    requires { ⌜ Ready (buffers (now fcb) (now dma) (now list) (now image)) ⌝ }
+    ensures { λ c. ⌜ Did (served (Call WriteZeros) p 1 (buffers (now (fcb .entry)) (now (dma .entry)) (now (list .entry)) (now (image .entry)))) c (now (fcb .entry)) (now (dma .entry)) (now (list .entry)) (now (image .exit)) ⌝ }
+{
+    let l = unpack(list);
+    let f = caller_file(l, p, fcb);
+    let o = l.open_of(p, f);
+    let r = record_of(fcb);
+    write_by(true, p, l, o, f, r, fcb, dma, list, image)
+}

@@ -1,0 +1,57 @@
+/* mpm.h by itself, as C and as C++: it can be included first and twice, its functions have the types that a host relies
+   on, its sizes fit together, and no two functions and no two answers have the same number. Compiled, never run. */
+
+#include "mpm.h"
+#include "mpm.h"
+
+typedef uint32_t call_type(uint32_t, uint32_t, uint32_t, uint8_t *, size_t, uint8_t *, size_t, uint8_t *, size_t,
+                           uint8_t *, size_t);
+typedef uint32_t start_type(uint32_t, uint32_t, uint32_t, const uint8_t *, size_t, uint8_t *, size_t);
+typedef uint32_t check_type(const uint8_t *, size_t);
+typedef uint32_t look_type(uint32_t, const uint8_t *, size_t, uint32_t, const uint8_t *, size_t);
+
+extern call_type *const header_call;
+extern start_type *const header_start;
+extern check_type *const header_check;
+extern look_type *const header_look;
+call_type *const header_call = mpm_call;
+start_type *const header_start = mpm_start;
+check_type *const header_check = mpm_check;
+look_type *const header_look = mpm_look;
+
+/* An array type cannot have a negative size. */
+#define HOLDS(name, condition) typedef char name[(condition) ? 1 : -1]
+
+HOLDS(byte_is_one, sizeof(uint8_t) == 1 && sizeof(uint32_t) == 4 && sizeof(size_t) == sizeof(void *));
+HOLDS(list_is_whole, MPM_LIST_PLACES + MPM_PLACES * MPM_PLACE_LEN == MPM_LIST_LEN);
+HOLDS(users_fit, MPM_LIST_USERS + MPM_USERS_LEN == MPM_LIST_PLACES && MPM_USERS_LEN == MPM_PROCESSES);
+HOLDS(place_is_whole, MPM_PLACE_NAME + MPM_NAME_LEN == MPM_PLACE_MODE && MPM_PLACE_RECORD + 4u == MPM_PLACE_LEN);
+HOLDS(directory_is_whole, MPM_ENTRIES * MPM_ENTRY_LEN == MPM_DIRECTORY_BLOCKS * MPM_BLOCK_LEN);
+HOLDS(block_is_whole, MPM_BLOCK_RECORDS * MPM_RECORD_LEN == MPM_BLOCK_LEN);
+HOLDS(fcb_is_whole, MPM_FCB_RECORD + 3u == MPM_FCB_LEN && MPM_FCB_NEW_NAME + MPM_NAME_LEN <= MPM_FCB_RECORD);
+HOLDS(dma_is_whole, MPM_DMA_NEW + MPM_RECORD_LEN == MPM_DMA_LEN);
+HOLDS(answer_is_a_and_256_h, MPM_BAD_CALL == 3583u && MPM_LOCK_LIST_FULL == 14u && MPM_OK == 0u);
+
+uint32_t header_function(uint32_t number);
+uint32_t header_answer(uint32_t answer);
+
+uint32_t header_function(uint32_t number) {
+    switch (number) {
+    case MPM_OPEN: case MPM_CLOSE: case MPM_DELETE: case MPM_MAKE: case MPM_RENAME: case MPM_READ: case MPM_WRITE:
+    case MPM_WRITE_ZEROS: case MPM_TEST_WRITE: case MPM_LOCK: case MPM_UNLOCK: case MPM_FREE_SPACE:
+    case MPM_TERMINATE: return 1u;
+    default: return 0u;
+    }
+}
+
+uint32_t header_answer(uint32_t answer) {
+    switch (answer) {
+    case MPM_OK: case MPM_BAD_CALL: case MPM_BAD_IMAGE: case MPM_BAD_LIST: case MPM_BAD_DRIVE: case MPM_NOT_FOUND:
+    case MPM_READ_ONLY: case MPM_IN_USE: case MPM_CLOSE_NOT_OPEN: case MPM_EXISTS: case MPM_BAD_NAME:
+    case MPM_OPEN_LIMIT: case MPM_OPEN_LIST_FULL: case MPM_NO_BLOCK: case MPM_DISK_FULL: case MPM_NO_EXTENT:
+    case MPM_DIRECTORY_FULL: case MPM_PAST_END: case MPM_DIFFERS: case MPM_LOCKED: case MPM_NOT_OPEN:
+    case MPM_LOCK_LIMIT: case MPM_BAD_FILE_ID: case MPM_LOCK_LIST_FULL:
+        return mpm_a(answer) + mpm_h(answer);
+    default: return 0u;
+    }
+}

@@ -1,0 +1,55 @@
+# shellcheck shell=bash
+# Sourced by the scripts beside it. Sets
+#   root     the repository        out   the folder that they write to
+#   kit      the Rattle kit        own   its part for this kind of machine
+#   archive  the engine's archive: the file that MPM_ARCHIVE names, else the proved one
+# and has the functions below.
+
+root=$(cd "$(dirname "${BASH_SOURCE[0]}")/.." && pwd -P)
+out=$root/target/host
+archive=${MPM_ARCHIVE:-$root/target/staticlib/libengine.a}
+
+find_kit() {
+    local rt
+    if [ -n "${RATTLE_HOME:-}" ]; then
+        kit=$RATTLE_HOME
+    elif rt=$(command -v rt); then
+        kit=$(cd "$(dirname "$(readlink -f "$rt")")/.." && pwd -P)
+    else
+        echo "the Rattle kit is missing: put its rt on the path" >&2
+        exit 2
+    fi
+    own=$kit/on/$(uname -m)
+    if [ ! -d "$own" ]; then
+        echo "the kit at $kit has nothing for this machine, $(uname -m)" >&2
+        exit 2
+    fi
+}
+
+# Something under crates/ is newer than the archive, or there is none. A file gone makes its folder newer.
+archive_is_old() {
+    [ ! -f "$archive" ] ||
+        [ -n "$(find "$root/crates" "$root/crates.txt" -name must-fail -prune -o -newer "$archive" -print -quit)" ]
+}
+
+# Proves the engine and makes its archive, if need be. The archive is dated to the start, so that a source changed
+# meanwhile counts as newer.
+make_archive() {
+    if [ -n "${MPM_ARCHIVE:-}" ] || ! archive_is_old; then return; fi
+    mkdir -p "$out"
+    : >"$out/started"
+    (cd "$root" && "$kit/bin/rt" staticlib engine) >&2
+    touch -r "$out/started" "$archive"
+}
+
+# kit_clang WORDS..: the kit's C compiler for x86-64, with the headers of libc/ and the engine's alone. A system header
+# could be another machine's, and would compile into something wrong without a word.
+kit_clang() {
+    "$own/toolchain/bin/clang" --target=x86_64-unknown-linux-gnu -march=x86-64 --no-default-config -nostdinc \
+        -isystem "$root/host/libc" -I "$root/include" "$@"
+}
+
+# shellcheck disable=SC2034 # the scripts that source this use it
+warnings=(-Wall -Wextra -Wpedantic -Wshadow -Wconversion -Werror)
+
+find_kit

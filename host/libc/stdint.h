@@ -1,0 +1,6 @@
+/* See stddef.h. */
+#ifndef HOST_STDINT_H
+#define HOST_STDINT_H
+typedef __UINT8_TYPE__ uint8_t;
+typedef __UINT32_TYPE__ uint32_t;
+#endif

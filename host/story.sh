@@ -1,0 +1,12 @@
+#!/usr/bin/env bash
+# story.sh: builds the host and plays the story of the order book. From a fresh clone the engine is proved first, which
+# takes minutes. The book stays in target/host/book/ORDERS.IMG.
+set -euo pipefail
+here=$(cd "$(dirname "${BASH_SOURCE[0]}")" && pwd -P)
+# shellcheck source=kit.sh
+. "$here/kit.sh"
+
+"$here/build.sh"
+mkdir -p "$out/book"
+rm -f "$out/book/ORDERS.IMG"
+"$here/run.sh" "$out/story" "$out/book"

@@ -1,0 +1,84 @@
+#!/usr/bin/env bash
+# test.sh [ARCHIVE]: tests the C side; a line for each test, exit status 1 at the first that fails.
+# With the kit alone: mpm.h as C and as C++, the story against expected.txt, and the story over bad engines, which it
+# must not take for good ones.
+# With ARCHIVE, an engine for this machine's own processor (of native.sh, or the reference of tests/pipe/exports): the
+# same with the system's compilers (CC, CXX), and the story under the sanitizers of addresses and undefined behaviour.
+set -euo pipefail
+here=$(cd "$(dirname "${BASH_SOURCE[0]}")" && pwd -P)
+# shellcheck source=kit.sh
+. "$here/kit.sh"
+work=$out/test
+story=$work/story
+stub=$root/tests/pipe/stub.c
+
+system_cc() { "${CC:-cc}" -I "$root/include" "$@"; }
+system_cxx() { "${CXX:-c++}" -I "$root/include" "$@"; }
+
+# Runs a test quietly; shows what it said only if it failed. Inside it `set -e` is off: tests are chains of &&.
+try() {
+    local name=$1
+    shift
+    if ! "$@" >"$work/log" 2>&1; then
+        cat "$work/log"
+        echo "$name: FAILED"
+        exit 1
+    fi
+    echo "$name: ok"
+}
+
+ends_with() { # STATUS WORDS..
+    local want=$1 status=0
+    shift
+    "$@" || status=$?
+    echo "exit status $status, to be $want"
+    [ "$status" -eq "$want" ]
+}
+
+fresh_book() {
+    rm -rf "$work/book" && mkdir "$work/book"
+}
+
+tells_the_story() { # RUN..
+    local status=0
+    fresh_book && "$@" "$work/book" >"$work/told" || status=$?
+    diff -u "$here/expected.txt" "$work/told" && [ "$status" -eq 0 ]
+}
+
+keeps_an_old_book() { # RUN..
+    fresh_book && echo old >"$work/book/ORDERS.IMG" && ends_with 2 "$@" "$work/book" &&
+        [ "$(cat "$work/book/ORDERS.IMG")" = old ]
+}
+
+sees_a_bad_engine() { # STUB
+    kit_clang -std=c99 -O2 -fPIC -DSTUB="$1" -c "$stub" -o "$work/stub.o" &&
+        MPM_ARCHIVE=$work/stub.o "$here/build.sh" "$here/story.c" "$work/bad" &&
+        fresh_book && ends_with 1 "$here/run.sh" "$work/bad" "$work/book"
+}
+
+with_the_kit() {
+    try "mpm.h as C99" kit_clang -std=c99 "${warnings[@]}" -c "$here/header.c" -o "$work/header.o"
+    try "mpm.h as freestanding C99" kit_clang -std=c99 -ffreestanding "${warnings[@]}" -c "$here/header.c" -o "$work/header.o"
+    try "mpm.h as C++" kit_clang -x c++ -std=c++98 "${warnings[@]}" -c "$here/header.c" -o "$work/header.o"
+    "$here/build.sh" "$here/story.c" "$story"
+    try "the story" tells_the_story "$here/run.sh" "$story"
+    try "an old book is kept" keeps_an_old_book "$here/run.sh" "$story"
+    try "no folder" ends_with 2 "$here/run.sh" "$story" "$work/none"
+    try "an engine that refuses all is seen" sees_a_bad_engine 1
+    try "an engine that accepts all is seen" sees_a_bad_engine 2
+    try "an engine that spoils the image is seen" sees_a_bad_engine 6
+}
+
+with_the_system() { # ARCHIVE
+    try "mpm.h as C99" system_cc -std=c99 "${warnings[@]}" -c "$here/header.c" -o "$work/header.o"
+    try "mpm.h as C++" system_cxx -x c++ -std=c++98 "${warnings[@]}" -c "$here/header.c" -o "$work/header.o"
+    try "the story compiles" system_cc -std=c99 -O1 -g "${warnings[@]}" -fsanitize=address,undefined \
+        -fno-sanitize-recover=all "$here/story.c" "$1" -lpthread -ldl -lm -o "$story"
+    try "the story" tells_the_story "$story"
+    try "an old book is kept" keeps_an_old_book "$story"
+    try "no folder" ends_with 2 "$story" "$work/none"
+}
+
+rm -rf "$work"
+mkdir -p "$work"
+if [ $# -eq 0 ]; then with_the_kit; else with_the_system "$1"; fi

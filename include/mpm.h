@@ -1,0 +1,231 @@
+/* The engine's C interface: the files of MP/M II programs, on one drive that sixteen processes share.
+
+   The engine is four functions on numbers and lent bytes. It keeps nothing between two calls: the drive is the bytes of
+   the image, who has opened and locked what is the bytes of the list, and both are the host's.
+
+   What is promised, for all numbers and for buffers of every length and content:
+   - Every call ends with a defined answer. The host need not test anything first.
+   - A call is accepted exactly when no refusal applies, and then has exactly its effect; otherwise the answer is the
+     first refusal that applies.
+   - A refusal leaves every buffer unchanged.
+
+   What the host owes, and nothing else:
+   - Each pointer is valid for the length given with it. With a length of 0 it may be any pointer.
+   - The buffers of one call do not overlap, and nobody else uses them until it returns. */
+#ifndef MPM_H
+#define MPM_H
+
+#include <stddef.h>
+#include <stdint.h>
+
+#ifdef __cplusplus
+extern "C" {
+#endif
+
+/* ---- Sizes, in bytes where the name ends in LEN ---- */
+
+#define MPM_FCB_LEN 36u
+#define MPM_DMA_LEN 256u
+#define MPM_LIST_LEN 1299u
+#define MPM_USERS_LEN 16u /* a user for each process */
+#define MPM_NAME_LEN 11u  /* name 8, type 3, filled up with blanks */
+
+#define MPM_PROCESSES 16u /* numbers 0 to 15 */
+#define MPM_USERS 16u     /* numbers 0 to 15 */
+#define MPM_MAX_COUNT 16u /* records that one 42 or 43 can name */
+
+#define MPM_RECORD_LEN 128u
+#define MPM_RECORDS 262144u /* a file has the records 0 to 262,143 */
+
+/* The image is 3 to 256 blocks. Blocks 0 and 1 are the directory. An empty drive is E5h in every byte. */
+#define MPM_BLOCK_LEN 1024u
+#define MPM_BLOCK_RECORDS 8u
+#define MPM_MIN_BLOCKS 3u
+#define MPM_MAX_BLOCKS 256u
+#define MPM_DIRECTORY_BLOCKS 2u
+#define MPM_ENTRIES 64u
+#define MPM_ENTRY_LEN 32u
+#define MPM_EMPTY 0xE5u /* byte 0 of an empty entry */
+
+/* The list has 64 places, of which it uses those below its capacity. */
+#define MPM_PLACES 64u
+#define MPM_PLACE_LEN 20u
+
+/* ---- Where things stand in the buffers; numbers are stored low byte first ---- */
+
+#define MPM_HIGH_BIT 0x80u
+
+#define MPM_FCB_DRIVE 0u     /* 0 or 1, both the one drive */
+#define MPM_FCB_NAME 1u      /* 11 bytes; high bits take no part in comparing */
+#define MPM_FCB_UNLOCKED 5u  /* 15, 22: high bit set asks for unlocked mode */
+#define MPM_FCB_READ_ONLY 6u /* 15: high bit set asks for read-only mode, before unlocked */
+#define MPM_FCB_COUNT 15u    /* 15, 22 set it: record count of extent 0, then its 16 block numbers */
+#define MPM_FCB_NEW_NAME 17u /* 23: 11 bytes */
+#define MPM_FCB_RECORD 33u   /* 3 bytes: the record number; 15 and 22 leave the File ID here in unlocked mode */
+
+#define MPM_DMA_FILE_ID 0u /* 42, 43: 2 bytes, the caller's File ID of the file */
+#define MPM_DMA_RECORD 0u  /* 33 puts the record here; 34 and 40 take it; 41 compares it */
+#define MPM_DMA_NEW 128u   /* 41 takes the new record from here */
+#define MPM_DMA_FREE 0u    /* 46: 3 bytes, the number of free records */
+
+#define MPM_LIST_CAPACITY 0u   /* 1 to 64 */
+#define MPM_LIST_OPEN_LIMIT 1u /* 1 to 64 for each process */
+#define MPM_LIST_LOCK_LIMIT 2u /* 1 to 64 for each process */
+#define MPM_LIST_USERS 3u      /* 16 bytes */
+#define MPM_LIST_PLACES 19u    /* 64 places; an empty one is 20 zeros */
+
+#define MPM_PLACE_MARK 0u    /* 2 bytes: MPM_MARK_OPEN or MPM_MARK_LOCK */
+#define MPM_PLACE_PROCESS 2u /* 1 byte */
+#define MPM_PLACE_NAME 3u    /* 11 bytes, high bits zero */
+#define MPM_PLACE_MODE 14u   /* 1 byte; then a zero */
+#define MPM_PLACE_RECORD 16u /* 4 bytes; 0 for an open */
+
+#define MPM_MARK_OPEN 0x464Fu /* the bytes 4F 46 */
+#define MPM_MARK_LOCK 0x524Cu /* the bytes 4C 52 */
+
+#define MPM_MODE_LOCKED 0u
+#define MPM_MODE_UNLOCKED 1u
+#define MPM_MODE_READ_ONLY 2u
+
+/* ---- Answers of mpm_call and mpm_start: A + 256 H. After each A/H, which function gives it when ---- */
+
+#define MPM_ANSWER(a, h) ((a) + 256u * (h))
+
+static inline uint32_t mpm_a(uint32_t answer) { return answer % 256u; }
+static inline uint32_t mpm_h(uint32_t answer) { return answer / 256u; }
+
+/* 0/0: accepted. All that is not 0/0 is a refusal. */
+#define MPM_OK MPM_ANSWER(0u, 0u)
+
+/* Tested first, in this order.
+   255/13: unknown function, process over 15, count outside 1 to 16, FCB, DMA or list of wrong length;
+           start: a number or a user out of range, users or list of wrong length */
+#define MPM_BAD_CALL MPM_ANSWER(255u, 13u)
+/* 255/1: image not sound, wrong length too */
+#define MPM_BAD_IMAGE MPM_ANSWER(255u, 1u)
+/* 255/12: list not sound */
+#define MPM_BAD_LIST MPM_ANSWER(255u, 12u)
+/* 255/4: FCB byte 0 is neither 0 nor 1; not for 46 and 143 */
+#define MPM_BAD_DRIVE MPM_ANSWER(255u, 4u)
+
+/* Of whole files.
+   255/0: 15, 19, 23: no such file; 22: no empty entry in the directory */
+#define MPM_NOT_FOUND MPM_ANSWER(255u, 0u)
+/* 255/3: 19, 23: the file has the read-only attribute; 34, 40, 41: it has, or the caller has it open read-only */
+#define MPM_READ_ONLY MPM_ANSWER(255u, 3u)
+/* 255/5: 15: the caller has it open in another mode, or another process's open cannot stand beside this one;
+          19, 23: open by anybody, the caller too */
+#define MPM_IN_USE MPM_ANSWER(255u, 5u)
+/* 255/6: 16: the caller has it not open */
+#define MPM_CLOSE_NOT_OPEN MPM_ANSWER(255u, 6u)
+/* 255/8: 22: the file exists; 23: the new name exists, the old one included */
+#define MPM_EXISTS MPM_ANSWER(255u, 8u)
+/* 255/9: 15, 19, 22: illegal name; 23: either name */
+#define MPM_BAD_NAME MPM_ANSWER(255u, 9u)
+/* 255/10: 15, 22: the caller is at the open limit */
+#define MPM_OPEN_LIMIT MPM_ANSWER(255u, 10u)
+/* 255/11: 15, 22: no empty place in the list */
+#define MPM_OPEN_LIST_FULL MPM_ANSWER(255u, 11u)
+
+/* Of records.
+   1/0: 33, 41, 42: a record has no block */
+#define MPM_NO_BLOCK MPM_ANSWER(1u, 0u)
+/* 2/0: 34, 40: the block is missing and none is free */
+#define MPM_DISK_FULL MPM_ANSWER(2u, 0u)
+/* 4/0: 33, 41, 42: a record has no extent */
+#define MPM_NO_EXTENT MPM_ANSWER(4u, 0u)
+/* 5/0: 34, 40: the extent is missing and there is no empty entry */
+#define MPM_DIRECTORY_FULL MPM_ANSWER(5u, 0u)
+/* 6/0: 33, 34, 40, 41: FCB byte 35 above 3; 42, 43: a record of the run is 262,144 or more */
+#define MPM_PAST_END MPM_ANSWER(6u, 0u)
+/* 7/0: 41: the first 128 DMA bytes differ from the record */
+#define MPM_DIFFERS MPM_ANSWER(7u, 0u)
+/* 8/0: 34, 40, 41: another process has locked the record; 42: another process holds one of the run */
+#define MPM_LOCKED MPM_ANSWER(8u, 0u)
+/* 10/0: 33, 34, 40, 41, 42, 43: the caller has the file not open */
+#define MPM_NOT_OPEN MPM_ANSWER(10u, 0u)
+/* 12/0: 42: the records that the caller holds plus count exceed the lock limit */
+#define MPM_LOCK_LIMIT MPM_ANSWER(12u, 0u)
+/* 13/0: 42, 43: DMA bytes 0 and 1 are not the File ID */
+#define MPM_BAD_FILE_ID MPM_ANSWER(13u, 0u)
+/* 14/0: 42: fewer empty places than records not yet held by the caller */
+#define MPM_LOCK_LIST_FULL MPM_ANSWER(14u, 0u)
+
+/* ---- Functions of mpm_call. After each, its refusals in the order tested, behind the four that come first ---- */
+
+/* 15: opens a file. If the caller has it open in the same mode, accepted with no new item. Sets FCB bytes 12 to 31
+   and, in unlocked mode, 33 to 35 to the File ID, which is the place of the open in the list.
+   BAD_NAME, NOT_FOUND, IN_USE, OPEN_LIMIT, OPEN_LIST_FULL */
+#define MPM_OPEN 15u
+/* 16: takes away the caller's open of a file and its locks on it.
+   CLOSE_NOT_OPEN */
+#define MPM_CLOSE 16u
+/* 19: empties each entry of a file.
+   BAD_NAME, NOT_FOUND, IN_USE, READ_ONLY */
+#define MPM_DELETE 19u
+/* 22: makes a file with no records in the lowest empty entry and opens it as 15 does, locked or unlocked.
+   BAD_NAME, EXISTS, OPEN_LIMIT, OPEN_LIST_FULL, NOT_FOUND */
+#define MPM_MAKE 22u
+/* 23: gives a file the name in FCB bytes 17 to 27; attributes stay.
+   BAD_NAME, NOT_FOUND, IN_USE, READ_ONLY, EXISTS */
+#define MPM_RENAME 23u
+/* 33: copies a record to DMA bytes 0 to 127. A lock does not stop it.
+   NOT_OPEN, PAST_END, NO_EXTENT, NO_BLOCK */
+#define MPM_READ 33u
+/* 34: stores DMA bytes 0 to 127 as a record, with the lowest empty entry and the lowest free block where its extent or
+   its block is missing.
+   NOT_OPEN, READ_ONLY, PAST_END, LOCKED, DIRECTORY_FULL, DISK_FULL */
+#define MPM_WRITE 34u
+/* 40: as 34, refusals too, and clears the other seven records of a block that it has just taken. */
+#define MPM_WRITE_ZEROS 40u
+/* 41: stores DMA bytes 128 to 255 as a record that was equal to bytes 0 to 127.
+   NOT_OPEN, READ_ONLY, PAST_END, LOCKED, NO_EXTENT, NO_BLOCK, DIFFERS */
+#define MPM_TEST_WRITE 41u
+/* 42: locks count records from the FCB's on, all or none. In modes locked and read-only accepted with no effect, once
+   the file is known to be open.
+   NOT_OPEN, BAD_FILE_ID, PAST_END, NO_EXTENT or NO_BLOCK of the lowest record that lacks one, LOCKED, LOCK_LIMIT,
+   LOCK_LIST_FULL */
+#define MPM_LOCK 42u
+/* 43: takes away the caller's locks on count records from the FCB's on; modes as for 42.
+   NOT_OPEN, BAD_FILE_ID, PAST_END */
+#define MPM_UNLOCK 43u
+/* 46: puts eight times the number of free blocks in DMA bytes 0 to 2. No refusal of its own. */
+#define MPM_FREE_SPACE 46u
+/* 143: takes away all opens and locks of a process, as for a program that died. No refusal of its own. */
+#define MPM_TERMINATE 143u
+
+/* ---- Answers of mpm_check ---- */
+
+#define MPM_SOUND 0u        /* the image is sound */
+#define MPM_WRONG_LENGTH 1u /* it is not 3 to 256 whole blocks */
+#define MPM_UNSOUND 2u      /* its directory is not sound */
+
+/* ---- The engine ---- */
+
+/* One call of an MP/M II program. Gives A + 256 H.
+   Numbers are taken as they come, never cut to a byte: function 271 is unknown. Count must be 1 to 16 for all
+   functions; only 42 and 43 use it. The lengths must be 36, 256, 1,299 and a whole number of blocks. An answer other
+   than MPM_OK leaves all four buffers as they were. A file is a name and the user that the list gives the process. */
+uint32_t mpm_call(uint32_t function, uint32_t process, uint32_t count,
+                  uint8_t *fcb, size_t fcb_len, uint8_t *dma, size_t dma_len,
+                  uint8_t *list, size_t list_len, uint8_t *image, size_t image_len);
+
+/* Writes a fresh list: MPM_OK, whatever the list held before. Or MPM_BAD_CALL and the list as it was, where one of the
+   three numbers is not 1 to 64, a user is not 0 to 15, users_len is not 16 or list_len is not 1,299. */
+uint32_t mpm_start(uint32_t capacity, uint32_t open_limit, uint32_t lock_limit,
+                   const uint8_t *users, size_t users_len, uint8_t *list, size_t list_len);
+
+/* Checks an image: MPM_SOUND, MPM_WRONG_LENGTH or MPM_UNSOUND. Changes nothing. */
+uint32_t mpm_check(const uint8_t *image, size_t image_len);
+
+/* Tells where the 128 bytes of a record begin in the image, for screens. They lie inside the image and behind the
+   directory. Gives 0 where there is nothing to show: the image is not sound, the user over 15, the name illegal (any
+   length but 11 too), or the record has no block. Changes nothing. */
+uint32_t mpm_look(uint32_t user, const uint8_t *name, size_t name_len, uint32_t record,
+                  const uint8_t *image, size_t image_len);
+
+#ifdef __cplusplus
+}
+#endif
+
+#endif
