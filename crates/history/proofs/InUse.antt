@@ -1,0 +1,105 @@
+-- As many blocks are in use as block numbers stand in the maps. Assumes nothing.
+use Prim.Native.Nat.{ℕ, zero, suc, _+_, _*_, _/_, _%_, _≤_, _<_}
+use mathlib.Core.Path.{_≡_, refl, sym, ap, _∙_}
+use mathlib.Core.Bool.{Bool, true, false}
+use mathlib.Core.List.{List}
+use mathlib.Core.Logic.{⊎-elim}
+use native.Mathlib.Omega.{arith}
+use lib.Dec.{eqb, leb}
+use borrow.Author.Tests.{eqb-true, eq-eqb, ne-eqb, le-leb, leb-true, not-true}
+use Rattle.words.specs.Tests.{_and_, _or_, any, count}
+use Rattle.words.proofs.Tests.{either, and-fst, and-snd, any-found, any-some, any-never}
+use Rattle.words.proofs.Counts.{count-ext, count-one}
+use Rattle.words.proofs.Sets.{and-both, and-left, not-of-false, count-none}
+use Rattle.rules.specs.Drive.{highest, blocks, mapNumber, holds, names, isUsed}
+use Rattle.rules.proofs.Sound.{Names, SoundImage}
+use Rattle.soundness.proofs.Items.{same-test}
+use Rattle.soundness.proofs.Counts.{count-yes, count-not, count-zero}
+use Rattle.history.specs.Groups.{isNumbered, isInUse, blocksInUse}
+use Rattle.history.proofs.Positions.{numbered-names, names-flat, flat-entry, flat-place}
+
+-- ---- numbers m i below n, no two the same: each number is met once
+
+module _ (m : ℕ → ℕ) (t : ℕ → Bool) (n : ℕ) (top : ℕ) where
+  -- b stands at one of the first k places
+  met : ℕ → ℕ → Bool
+  met k b = any (λ (i : ℕ). t i and eqb (m i) b) k
+
+  module _ (range : (i : ℕ) → i < top → t i ≡ true → (2 ≤ m i) × (m i < n)) (once : (i j : ℕ) → i < top → j < top → t i ≡ true → t j ≡ true → m i ≡ m j → i ≡ j) where
+    meets : (k : ℕ) → k ≤ top → count (λ (b : ℕ). leb 2 b and met k b) n ≡ count t k
+    unfolding met any
+    meets zero s = count-zero _ n (any-never _ n (λ b l. none (leb 2 b))) ∙ count-none t
+      where
+        none : (x : Bool) → (x and false) ≡ false
+        none true = unfold _and_ in refl
+        none false = unfold _and_ in refl
+    meets (suc k) s =
+        let z = meets k (omega arith) in
+        let below : k < top = omega arith in
+        ⊎-elim
+        (λ (q : t k ≡ true).
+        let w = range k below q in
+        let a = m k in
+        let fresh : (leb 2 a and met k a) ≡ false = absent k a (λ i l. ⊎-elim
+        (λ (d : (t i and eqb (m i) a) ≡ true).
+        let e : i ≡ k = once i k (omega arith) below (and-fst _ _ d) q (eqb-true _ _ (and-snd _ _ d)) in absurd (omega arith)) (λ d. d) (either (t i and eqb (m i) a))) in
+        let here : (leb 2 a and met (suc k) a) ≡ true = and-both _ _ (le-leb 2 a (w .0)) (any-found (λ (i : ℕ). t i and eqb (m i) a) (suc k) k (omega arith) (and-both _ _ q (eq-eqb a a refl))) in
+        count-one (λ (b : ℕ). leb 2 b and met k b) (λ (b : ℕ). leb 2 b and met (suc k) b) a n (w .1) fresh here
+        (λ b l y. ap (λ (x : Bool). leb 2 b and x) (skip (met k b) (t k and eqb (m k) b) (and-off (t k) (eqb (m k) b) (ne-eqb (m k) b (λ d. y (sym d))))))
+        ∙ ap (λ (x : ℕ). x + 1) z ∙ sym (count-yes t k q))
+        (λ (q : t k ≡ false).
+        count-ext (λ (b : ℕ). leb 2 b and met (suc k) b) (λ (b : ℕ). leb 2 b and met k b) n
+        (λ b l. ap (λ (x : Bool). leb 2 b and x) (skip (met k b) (t k and eqb (m k) b) (and-left _ _ q)))
+        ∙ z ∙ sym (count-not t k q))
+        (either (t k))
+      where
+        skip : (x y : Bool) → y ≡ false → (x or y) ≡ x
+        skip true y e = unfold _or_ in refl
+        skip false y e = unfold _or_ in e
+
+        and-off : (x y : Bool) → y ≡ false → (x and y) ≡ false
+        and-off true y e = unfold _and_ in e
+        and-off false y e = unfold _and_ in refl
+
+        absent : (k a : ℕ) → ((i : ℕ) → i < k → (t i and eqb (m i) a) ≡ false) → (leb 2 a and met k a) ≡ false
+        absent k a h = and-off (leb 2 a) (met k a) (any-never (λ (i : ℕ). t i and eqb (m i) a) k h)
+
+-- ---- the numbers in the maps of a sound image
+
+module _ (s : List ℕ) (g : SoundImage highest s) where
+  abbrev number : ℕ → ℕ
+  number i = mapNumber s (i / 16) (i % 16)
+
+  used-met : (b : ℕ) → 2 ≤ b → isUsed s b ≡ met number (isNumbered s) (blocks s) 1024 1024 b
+  unfolding isUsed names holds met isNumbered
+  used-met b l = same-test _ _
+      (λ h.
+      let e = any-some (names s b) 64 h in
+      let k = any-some (holds s b (e .0)) 16 (and-snd _ _ (e .2)) in
+      let q : mapNumber s (e .0) (k .0) ≡ b = eqb-true _ _ (k .2) in
+      let m : e .0 < 64 = e .1 in
+      let j : k .0 < 16 = k .1 in
+      let n : Names s (e .0) (k .0) = record { entry-there = m; place-there = j; entry-used = not-true _ (and-fst _ _ (e .2)); some = λ (z : mapNumber s (e .0) (k .0) ≡ 0). absurd (omega arith) } in
+      any-found (λ (i : ℕ). isNumbered s i and eqb (number i) b) 1024 (16 * e .0 + k .0) (omega arith)
+      (and-both _ _ (names-flat s (e .0) (k .0) n) (rw (flat-entry (e .0) (k .0) j, flat-place (e .0) (k .0) j) (k .2))))
+      (λ h.
+      let w = any-some (λ (i : ℕ). isNumbered s i and eqb (number i) b) 1024 h in
+      let n = numbered-names s (w .0) (w .1) (and-fst _ _ (w .2)) in
+      any-found (names s b) 64 (w .0 / 16) (n .entry-there)
+      (and-both _ _ (not-of-false _ (n .entry-used)) (any-found (holds s b (w .0 / 16)) 16 (w .0 % 16) (n .place-there) (and-snd _ _ (w .2)))))
+
+  pub in-use : blocksInUse s ≡ count (isNumbered s) 1024
+  unfolding blocksInUse isInUse
+  in-use =
+      count-ext (isInUse s) (λ (b : ℕ). leb 2 b and met number (isNumbered s) (blocks s) 1024 1024 b) (blocks s)
+      (λ b l. ⊎-elim
+      (λ (q : leb 2 b ≡ true). ap (λ (x : Bool). leb 2 b and x) (used-met b (leb-true 2 b q)))
+      (λ (q : leb 2 b ≡ false). and-left _ _ q ∙ sym (and-left _ _ q)) (either (leb 2 b)))
+      ∙ meets number (isNumbered s) (blocks s) 1024
+      (λ i l q. g .maps .range (i / 16) (i % 16) (numbered-names s i l q))
+      (λ i j k l p q e.
+      let w = g .maps .once (i / 16) (i % 16) (j / 16) (j % 16) (numbered-names s i k p) (numbered-names s j l q) e in
+      let a : i / 16 ≡ j / 16 = w .0 in
+      let b : i % 16 ≡ j % 16 = w .1 in
+      omega arith)
+      1024 (omega arith)

@@ -1,0 +1,141 @@
+-- Items that are the same, and what is held once. Assumes nothing.
+use Prim.Native.Nat.{ℕ, zero, suc, _≤_}
+use mathlib.Core.Path.{_≡_, refl, sym, _∙_}
+use mathlib.Core.Bool.{Bool, true, false, not}
+use mathlib.Core.List.{List, [], _∷_}
+use mathlib.Core.Logic.{⊎-elim}
+use native.Mathlib.Omega.{arith}
+use borrow.Author.Tests.{eqb-true, eq-eqb}
+use Rattle.words.specs.Tests.{_and_, _or_, _if_else_}
+use Rattle.words.specs.Lists.{turns}
+use Rattle.words.proofs.Tests.{either, never, and-fst, and-snd}
+use Rattle.words.proofs.Sets.{and-both}
+use Rattle.rules.specs.declared.item.Item.{Item}
+use Rattle.rules.specs.Locks.{freshOpen, sameName}
+use Rattle.soundness.proofs.Items.{name-refl, name-sym, name-then}
+use Rattle.history.specs.Deeds.{Deed, nothing, opens, closes, locks, unlocks, ends, touches, drops, carries, tells}
+use Rattle.history.specs.Held.{sameItem, tally, isAmong, granting, grantingAt, grantingRun, without, holding}
+use Rattle.history.proofs.Tallies.{tally-less, tally-without}
+
+-- what two items that are the same have in common
+pub record Alike (a b : Item) : Type 0 where
+  pub kinds : a .kind ≡ b .kind
+  pub processes : a .process ≡ b .process
+  pub names : sameName (a .name) (b .name) ≡ true
+  pub modes : a .mode ≡ b .mode
+  pub numbers : a .number ≡ b .number
+
+pub alike-of : (a b : Item) → sameItem a b ≡ true → Alike a b
+unfolding sameItem
+alike-of a b h =
+    let h₁ = and-snd _ _ h in
+    let h₂ = and-snd _ _ h₁ in
+    let h₃ = and-snd _ _ h₂ in
+    record {
+      kinds = eqb-true _ _ (and-fst _ _ h);
+      processes = eqb-true _ _ (and-fst _ _ h₁);
+      names = and-fst _ _ h₂;
+      modes = eqb-true _ _ (and-fst _ _ h₃);
+      numbers = eqb-true _ _ (and-snd _ _ h₃);
+    }
+
+pub alike-so : (a b : Item) → Alike a b → sameItem a b ≡ true
+unfolding sameItem
+alike-so a b h =
+    and-both _ _ (eq-eqb (a .kind) (b .kind) (h .kinds)) (and-both _ _ (eq-eqb (a .process) (b .process) (h .processes)) (and-both _ _ (h .names)
+    (and-both _ _ (eq-eqb (a .mode) (b .mode) (h .modes)) (eq-eqb (a .number) (b .number) (h .numbers)))))
+
+pub same-refl : (a : Item) → sameItem a a ≡ true
+same-refl a = alike-so a a (record { kinds = refl; processes = refl; names = name-refl (a .name); modes = refl; numbers = refl })
+
+pub same-sym : (a b : Item) → sameItem a b ≡ true → sameItem b a ≡ true
+same-sym a b h =
+    let w = alike-of a b h in
+    alike-so b a (record { kinds = sym (w .kinds); processes = sym (w .processes); names = name-sym _ _ (w .names); modes = sym (w .modes); numbers = sym (w .numbers) })
+
+pub same-then : (a b c : Item) → sameItem a b ≡ true → sameItem b c ≡ true → sameItem a c ≡ true
+same-then a b c h k =
+    let w = alike-of a b h in
+    let v = alike-of b c k in
+    alike-so a c (record {
+      kinds = w .kinds ∙ v .kinds;
+      processes = w .processes ∙ v .processes;
+      names = name-then _ _ _ (w .names) (v .names);
+      modes = w .modes ∙ v .modes;
+      numbers = w .numbers ∙ v .numbers;
+    })
+
+-- ---- among those held
+
+pub among-tally : (x : Item) (g : List Item) → isAmong x g ≡ true → 1 ≤ tally (sameItem x) g
+unfolding isAmong tally _or_ _if_else_
+among-tally x [] h = absurd (never h refl)
+among-tally x (y ∷ ys) h =
+    ⊎-elim (λ (q : sameItem x y ≡ true). rw q (omega arith))
+    (λ (q : sameItem x y ≡ false). rw q (let k = among-tally x ys (rw q at h) in omega arith)) (either (sameItem x y))
+
+pub not-among : (x : Item) (g : List Item) → isAmong x g ≡ false → tally (sameItem x) g ≡ 0
+unfolding isAmong tally _or_ _if_else_
+not-among x [] h = refl
+not-among x (y ∷ ys) h =
+    ⊎-elim (λ (q : sameItem x y ≡ true). absurd (never refl (rw q at h)))
+    (λ (q : sameItem x y ≡ false). rw q (let k = not-among x ys (rw q at h) in omega arith)) (either (sameItem x y))
+
+-- among them exactly where it is counted
+pub among-so : (x : Item) (g : List Item) → 1 ≤ tally (sameItem x) g → isAmong x g ≡ true
+among-so x g h = ⊎-elim (λ q. q) (λ (q : isAmong x g ≡ false). let k = not-among x g q in absurd (omega arith)) (either (isAmong x g))
+
+pub among-not : (x : Item) (g : List Item) → tally (sameItem x) g ≡ 0 → isAmong x g ≡ false
+among-not x g h = ⊎-elim (λ (q : isAmong x g ≡ true). let k = among-tally x g q in absurd (omega arith)) (λ q. q) (either (isAmong x g))
+
+pub granting-held : (x : Item) (g : List Item) → isAmong x g ≡ true → granting x g ≡ g
+unfolding granting _if_else_
+granting-held x g h = rw h refl
+
+pub granting-new : (x : Item) (g : List Item) → isAmong x g ≡ false → granting x g ≡ x ∷ g
+unfolding granting _if_else_
+granting-new x g h = rw h refl
+
+-- ---- each is held once
+
+pub record Once (g : List Item) : Type 0 where
+  pub once : (x : Item) → tally (sameItem x) g ≤ 1
+
+once-granting : (y : Item) (g : List Item) → Once g → Once (granting y g)
+unfolding tally _if_else_
+once-granting y g w =
+    ⊎-elim (λ (q : isAmong y g ≡ true). rw (granting-held y g q) w)
+    (λ (q : isAmong y g ≡ false). rw (granting-new y g q) (record {
+      once = λ x. ⊎-elim
+          (λ (e : sameItem x y ≡ true).
+          let k = tally-less (sameItem x) (sameItem y) g (λ z d. same-then y x z (same-sym x y e) d) in
+          rw e (omega (arith, not-among y g q)))
+          (λ (e : sameItem x y ≡ false). rw e (let k = w .once x in omega arith)) (either (sameItem x y));
+    })) (either (isAmong y g))
+
+once-run : (p : ℕ) (name : List ℕ) (r n : ℕ) (g : List Item) → Once g → Once (turns (grantingAt p name r) n g)
+unfolding turns grantingAt
+once-run p name r zero g w = w
+once-run p name r (suc n) g w = once-granting _ _ (once-run p name r n g w)
+
+once-without : (away : Item → Bool) (g : List Item) → Once g → Once (without away g)
+once-without away g w = record {
+  once = λ x.
+      let k = tally-less (λ (y : Item). sameItem x y and not (away y)) (sameItem x) g (λ y d. and-fst _ _ d) in
+      let m = w .once x in
+      omega (arith, tally-without (sameItem x) away g);
+}
+
+pub once-holding : (d : Deed) (g : List Item) → Once g → Once (holding d g)
+unfolding holding grantingRun _if_else_
+once-holding nothing g w = w
+once-holding (opens p f m) g w = once-granting _ _ w
+once-holding (closes p f) g w = once-without _ g w
+once-holding (locks p f r n) g w =
+    ⊎-elim (λ q. rw q (once-run p (f .name) r n g w)) (λ q. rw q w) (either (isAmong (freshOpen p (f .name) 1) g))
+once-holding (unlocks p f r n) g w = once-without _ g w
+once-holding (ends p) g w = once-without _ g w
+once-holding (touches f r) g w = w
+once-holding (drops f) g w = w
+once-holding (carries f h) g w = w
+once-holding tells g w = w

@@ -1,0 +1,140 @@
+-- The wrong engines fall. Assumes nothing.
+use Prim.Native.Nat.{ℕ}
+use mathlib.Core.Path.{_≡_, refl, sym, ap, _∙_}
+use mathlib.Core.List.{List, [], _∷_}
+use native.Mathlib.Omega.{arith}
+use lib.ListN.{replicate}
+use Rattle.words.specs.Bytes.{byte}
+use Rattle.words.specs.Tables.{_∕_}
+use Rattle.words.specs.Tests.{count}
+use Rattle.rules.specs.Serves.{Outcome, buffers, outcome}
+use Rattle.rules.specs.Locks.{freshOpen}
+use Rattle.rules.specs.Call.{call}
+use Rattle.session.specs.Open.{rules}
+use Rattle.session.specs.Session.{AsListed, session, orders, fcbWith, dmaWith, firstImage, firstList, listWith, openBy, list0, list3, image0, image2, image5}
+use Rattle.session.proofs.Session.{the-session}
+use Rattle.history.specs.History.{Ask, Begun, outcomeOf, stateAfter, eventsOf, after, historyOf}
+use Rattle.history.specs.Deeds.{tells, deed, deedBy, fileBy}
+use Rattle.history.specs.Held.{sameItem, tally, isAmong, granting, holding, heldAfter}
+use Rattle.history.specs.Demands.{Demand2, Demand3, itemsOf, groupsBy, listAfter, isItemAt, outcomeAfter, deedAfter, figureIn}
+use Rattle.history.specs.Groups.{isNumbered, groupAt, groupsBelow, groupsOf, countedAfter}
+use Rattle.rules.specs.Drive.{blocks}
+use Rattle.history.specs.Wrong.{refusing, accepting, idleAfter, idle, pretending, madeUp}
+
+-- ---- the session's beginning, and its first two calls
+
+begun : Begun
+unfolding rules orders firstImage firstList
+begun = record {
+  capacity = 3;
+  openlimit = 2;
+  locklimit = 2;
+  users = replicate 16 0;
+  lent = firstList;
+  image = firstImage;
+  accepted = refl;
+  sound = refl;
+}
+
+makes : Ask
+makes = record { function = 22; process = 1; run = 1; fcb = fcbWith 0; dma = dmaWith 0 }
+
+opens : Ask
+opens = record { function = 15; process = 2; run = 1; fcb = fcbWith 0; dma = dmaWith 0 }
+
+-- ---- demand 3
+
+-- storing nothing, the list fails at the first Make: the history holds an open that the list does not
+idle-listed : count (isItemAt (freshOpen 1 orders 1) (listAfter idle begun (makes ∷ []))) 64 ≡ 0
+unfolding rules orders fcbWith dmaWith firstImage firstList begun makes idle idleAfter isItemAt listAfter after stateAfter outcomeOf sameItem
+idle-listed = refl
+
+idle-held : tally (sameItem (freshOpen 1 orders 1)) (itemsOf idle begun (makes ∷ [])) ≡ 1
+unfolding rules orders fcbWith dmaWith firstImage firstList begun makes idle idleAfter itemsOf historyOf eventsOf outcomeOf sameItem tally heldAfter holding deed deedBy fileBy isAmong granting
+idle-held = refl
+
+zero-one : (a b : ℕ) → a ≡ 0 → b ≡ 1 → a ≡ b → ⊥
+zero-one a b h k e = omega arith
+
+pub not-idle : Demand3 idle → ⊥
+not-idle d =
+    zero-one _ _ idle-listed idle-held
+    (d .list-is-grants begun (makes ∷ []) (freshOpen 1 orders 1) (λ (z : _≡_ {A = ℕ} 1 0). absurd (omega arith)) .as-often)
+
+-- doing the first call's work and then pretending, it fails at the second
+pretending-listed : count (isItemAt (freshOpen 2 orders 1) (listAfter pretending begun (makes ∷ opens ∷ []))) 64 ≡ 0
+unfolding rules orders fcbWith dmaWith firstImage firstList begun makes opens pretending idle idleAfter isItemAt listAfter after stateAfter outcomeOf sameItem
+pretending-listed = refl
+
+pretending-held : tally (sameItem (freshOpen 2 orders 1)) (itemsOf pretending begun (makes ∷ opens ∷ [])) ≡ 1
+unfolding rules orders fcbWith dmaWith firstImage firstList begun makes opens pretending idle idleAfter itemsOf historyOf eventsOf outcomeOf sameItem tally heldAfter holding deed deedBy fileBy isAmong granting
+pretending-held = refl
+
+pub not-pretending : Demand3 pretending → ⊥
+not-pretending d =
+    zero-one _ _ pretending-listed pretending-held
+    (d .list-is-grants begun (makes ∷ opens ∷ []) (freshOpen 2 orders 1) (λ (z : _≡_ {A = ℕ} 1 0). absurd (omega arith)) .as-often)
+
+-- a made-up figure fails at once: of the session's drive two blocks are free
+asks : Ask
+asks = record { function = 46; process = 1; run = 1; fcb = fcbWith 0; dma = dmaWith 0 }
+
+figure-is : byte (outcomeAfter madeUp begun [] asks .left .dma) 0 ≡ 8
+unfolding rules orders fcbWith dmaWith firstImage firstList begun asks madeUp outcomeAfter after stateAfter outcomeOf
+figure-is = refl
+
+figure-due : byte (figureIn (blocks (begun .image)) (groupsBy madeUp begun []) (asks .dma)) 0 ≡ 16
+unfolding rules orders fcbWith dmaWith firstImage firstList begun asks figureIn groupsBy historyOf eventsOf countedAfter groupsOf groupsBelow isNumbered groupAt
+figure-due = refl
+
+figure-asked : deedAfter madeUp begun [] asks ≡ tells
+unfolding rules orders fcbWith dmaWith firstImage firstList begun asks madeUp deedAfter outcomeAfter after stateAfter outcomeOf deed deedBy
+figure-asked = refl
+
+pub not-made-up : Demand3 madeUp → ⊥
+not-made-up d =
+    let e : _≡_ {A = ℕ} 8 16 = sym figure-is ∙ ap (λ (m : List ℕ). byte m 0) (d .figure-told begun [] asks figure-asked) ∙ figure-due in
+    omega arith
+
+-- ---- demand 2
+
+-- S0, S4 and S8 of the session
+s0 : call 22 1 1 (buffers (fcbWith 0) (dmaWith 0) firstList firstImage) ≡ outcome (0 ∕ 0) (buffers (fcbWith 0) (dmaWith 0) list0 image0)
+unfolding AsListed session
+s0 = the-session .0
+
+s4 : call 34 2 1 (buffers (fcbWith 0) (dmaWith 1) list3 image2) ≡ outcome (8 ∕ 0) (buffers (fcbWith 0) (dmaWith 1) list3 image2)
+unfolding AsListed session
+s4 = the-session .1 .1 .1 .1 .0
+
+s8 : call 46 1 1 (buffers (fcbWith 0) (dmaWith 0) list3 image5) ≡ outcome (0 ∕ 0) (buffers (fcbWith 0) (dmaWith 0) list3 image5)
+unfolding AsListed session
+s8 = the-session .1 .1 .1 .1 .1 .1 .1 .1 .0
+
+-- refusing everything fails at S0
+pub refusing-differs : Demand2 refusing → ⊥
+unfolding Demand2 refusing
+refusing-differs d =
+    let e : _≡_ {A = ℕ} (255 ∕ 13) (0 ∕ 0) = ap (λ (o : Outcome). o .answer) (d 22 1 1 (buffers (fcbWith 0) (dmaWith 0) firstList firstImage) ∙ s0) in
+    omega arith
+
+-- answering 0/0 to everything at S4
+pub accepting-differs : Demand2 accepting → ⊥
+unfolding Demand2 accepting
+accepting-differs d =
+    let e : _≡_ {A = ℕ} (0 ∕ 0) (8 ∕ 0) = ap (λ (o : Outcome). o .answer) (d 34 2 1 (buffers (fcbWith 0) (dmaWith 1) list3 image2) ∙ s4) in
+    omega arith
+
+-- storing nothing at S0: byte 19 of the list is the mark of an open
+pub idle-differs : Demand2 idle → ⊥
+unfolding Demand2 idle idleAfter firstList list0 listWith openBy
+idle-differs d =
+    let e : _≡_ {A = ℕ} 0 0x4F = ap (λ (o : Outcome). byte (o .left .list) 19) (d 22 1 1 (buffers (fcbWith 0) (dmaWith 0) firstList firstImage) ∙ s0) in
+    omega arith
+
+-- a made-up figure from 46 at S8: the drive is full
+pub made-up-differs : Demand2 madeUp → ⊥
+unfolding Demand2 madeUp rules dmaWith
+made-up-differs d =
+    let e : _≡_ {A = ℕ} 8 0 = ap (λ (o : Outcome). byte (o .left .dma) 0) (d 46 1 1 (buffers (fcbWith 0) (dmaWith 0) list3 image5) ∙ s8) in
+    omega arith

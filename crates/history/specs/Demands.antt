@@ -1,0 +1,187 @@
+-- Demands 2 and 3, each a statement about an engine. Assumes nothing.
+use Prim.Native.Nat.{ℕ, zero, suc, _+_, _-_, _*_, _≤_, _<_}
+use mathlib.Core.Path.{_≡_}
+use mathlib.Core.Bool.{Bool, true, false, not}
+use mathlib.Core.List.{List, [], _∷_, _++_}
+use mathlib.Core.Logic.{_⊎_}
+use lib.ListN.{length}
+use lib.Dec.{eqb}
+use Rattle.words.specs.Tests.{_and_, count}
+use Rattle.words.specs.Bytes.{byte, part, put, le}
+use Rattle.words.specs.Tables.{_∕_}
+use Rattle.rules.specs.declared.file.File.{File}
+use Rattle.rules.specs.declared.item.Item.{Item}
+use Rattle.rules.specs.declared.list.LockList.{LockList}
+use Rattle.rules.specs.Serves.{Buffers, Outcome, processes, listSize}
+use Rattle.rules.specs.Drive.{highest, entries, entrySize, blocks, blockRecords, recordSize, recordAt, isEmpty, userByte, blockOf, freeBlocks, soundImage}
+use Rattle.rules.specs.Locks.{places, itemAt, unpack, freshLock, isKindBy, opensBy, locksBy, isEmptyAt, freePlaces, soundList}
+use Rattle.rules.specs.Asks.{recordOf}
+use Rattle.rules.specs.Look.{look}
+use Rattle.rules.specs.Call.{call}
+use Rattle.history.specs.History.{Engine, Ask, State, Begun, outcomeOf, kept, eventsOf, after, historyOf, event}
+use Rattle.history.specs.Deeds.{Deed, ends, tells, deed, fileBy}
+use Rattle.history.specs.Held.{sameItem, tally, isAmong, isBy, heldAfter, anyOpenBy}
+use Rattle.history.specs.Groups.{Group, groupOf, hasBlock, isCounted, groupsOf, blocksInUse, countedAfter}
+
+-- ---- Demand 2: for each input one outcome, that of the rules
+
+unfoldable pub Demand2 : Engine → Type 0
+Demand2 e = (n p c : ℕ) (b : Buffers) → e n p c b ≡ call n p c b
+
+-- ---- What the history says
+
+-- the items that it holds
+unfoldable pub itemsOf : Engine → Begun → List Ask → List Item
+itemsOf e g qs = heldAfter (g .users) (historyOf e g qs) []
+
+-- the groups that it counts
+unfoldable pub groupsBy : Engine → Begun → List Ask → List Group
+groupsBy e g qs = countedAfter (g .users) (historyOf e g qs) (groupsOf (g .image))
+
+-- the list that stands after the calls
+unfoldable pub listAfter : Engine → Begun → List Ask → LockList
+listAfter e g qs = unpack (after e g qs .list)
+
+-- ---- 1. Sound stays sound: after every call the image and the list are sound again.
+
+pub record SoundState (s : State) : Type 0 where
+  pub image-sound : soundImage highest (s .image) ≡ true
+  pub list-long : length (s .list) ≡ listSize
+  pub list-sound : soundList highest (s .list) (s .image) ≡ true
+
+-- ---- 2. The list holds just the opens and record locks that the history granted and no later Close, Unlock or process end took
+-- back, each as often as the history holds it, that is once.
+
+unfoldable pub isItemAt : Item → LockList → ℕ → Bool
+isItemAt x l i = sameItem x (itemAt l i)
+
+pub record Holds (x : Item) (l : LockList) (items : List Item) : Type 0 where
+  pub as-often : count (isItemAt x l) places ≡ tally (sameItem x) items
+  pub once : tally (sameItem x) items ≤ 1
+
+-- ---- 3. The items that the history holds and the free places (those that 255/11 and 14/0 count) add up to the capacity; no place
+-- from the capacity on is used; the items are the sum over the processes of their opens and locks.
+
+-- f 0 + .. + f (n - 1)
+unfoldable pub sumBelow : (ℕ → ℕ) → ℕ → ℕ
+sumBelow f zero = 0
+sumBelow f (suc n) = sumBelow f n + f n
+
+-- a process's opens and locks in the list
+unfoldable pub itemsBy : LockList → ℕ → ℕ
+itemsBy l p = opensBy l p + locksBy l p
+
+pub record AddUp (capacity : ℕ) (l : LockList) (items : List Item) : Type 0 where
+  pub adds : length items + freePlaces l ≡ capacity
+  pub beyond : (i : ℕ) → capacity ≤ i → i < places → isEmptyAt l i ≡ true
+  pub opens-by : (p : ℕ) → opensBy l p ≡ tally (isKindBy 1 p) items
+  pub locks-by : (p : ℕ) → locksBy l p ≡ tally (isKindBy 2 p) items
+  pub sum : length items ≡ sumBelow (itemsBy l) processes
+
+-- ---- 4. The blocks in use are as many as the groups that the history counts, and a group has a block exactly when the history
+-- counts it: a record of a file (a user and eleven name bytes) has one exactly when its group is counted.
+
+pub record Groups (s : List ℕ) (groups : List Group) : Type 0 where
+  pub as-many : blocksInUse s ≡ length groups
+  pub each : (f : File) (r : ℕ) → length (f .name) ≡ 11 → hasBlock s f r ≡ isCounted (groupOf f r) groups
+
+-- ---- 5. No block serves two groups. The groups that the history counts and the free blocks add up to n − 2, ..
+
+pub record Figure (n : ℕ) (s : List ℕ) (groups : List Group) : Type 0 where
+  pub no-two : (f h : File) (r q : ℕ) → length (f .name) ≡ 11 → length (h .name) ≡ 11
+      → hasBlock s f r ≡ true → blockOf s f r ≡ blockOf s h q → groupOf f r ≡ groupOf h q
+  pub adds : length groups + freeBlocks s ≡ n - 2
+
+-- .. and 46's figure is eight times the free ones, so the history fixes it.
+unfoldable pub figureIn : ℕ → List Group → List ℕ → List ℕ
+figureIn n groups dma = put 0 (le 3 (blockRecords * (n - 2 - length groups))) dma
+
+-- ---- 6. While a process holds a record lock, no call of another process changes that record: Look shows the same 128 bytes, and
+-- not an empty part, before and after.
+
+pub record Unchanged (user : ℕ) (name : List ℕ) (r : ℕ) (s t : List ℕ) : Type 0 where
+  pub shown : length (look highest user name r s) ≡ recordSize
+  pub same : look highest user name r t ≡ look highest user name r s
+
+-- ---- 7. Isolation: a call of a process changes no byte of any file under another user, no directory entry of it, ..
+
+-- entry e is in use and under that user
+unfoldable pub isUnder : ℕ → List ℕ → ℕ → Bool
+isUnder u s e = not (isEmpty s e) and eqb (userByte s e) u
+
+-- s before a call of a process whose user is another than u, t after it
+pub record FilesApart (u : ℕ) (s t : List ℕ) : Type 0 where
+  pub entry-same : (e : ℕ) → e < entries → (isUnder u s e ≡ true) ⊎ (isUnder u t e ≡ true)
+      → part (entrySize * e) entrySize t ≡ part (entrySize * e) entrySize s
+  pub block-same : (f : File) (r : ℕ) → f .user ≡ u → length (f .name) ≡ 11 → blockOf t f r ≡ blockOf s f r
+  pub bytes-same : (f : File) (r : ℕ) → f .user ≡ u → length (f .name) ≡ 11 → hasBlock s f r ≡ true
+      → part (recordAt (blockOf s f r) r) recordSize t ≡ part (recordAt (blockOf s f r) r) recordSize s
+
+-- .. and no item of another process.
+unfoldable pub isAnothers : ℕ → Item → Bool
+isAnothers p it = not (eqb (it .kind) 0) and not (eqb (it .process) p)
+
+-- l before a call of process p, k after it
+pub record ItemsApart (p : ℕ) (l k : LockList) : Type 0 where
+  pub item-same : (i : ℕ) → i < places
+      → (isAnothers p (itemAt l i) ≡ true) ⊎ (isAnothers p (itemAt k i) ≡ true) → itemAt k i ≡ itemAt l i
+
+-- ---- 8. The dead hold nothing: after an accepted 143 of a process none of its items is left until it is granted one anew.
+
+pub record NoneLeft (p : ℕ) (l : LockList) (items : List Item) : Type 0 where
+  pub none-held : tally (isBy p) items ≡ 0
+  pub none-listed : itemsBy l p ≡ 0
+
+-- 255/11 is given only when the items held by the history are as many as the capacity; 14/0 only when these and the records of
+-- the run not yet held are more than the capacity.
+
+-- the process does not hold record r + k
+unfoldable pub isUnheld : List Item → ℕ → List ℕ → ℕ → ℕ → Bool
+isUnheld items p name r k = not (isAmong (freshLock p name (r + k)) items)
+
+pub record Full (capacity : ℕ) (users : List ℕ) (items : List Item) (q : Ask) (answer : ℕ) : Type 0 where
+  pub no-place : answer ≡ 255 ∕ 11 → length items ≡ capacity
+  pub too-few : answer ≡ 14 ∕ 0
+      → capacity < length items + count (isUnheld items (q .process) (fileBy users q .name) (recordOf (q .fcb))) (q .run)
+
+-- ---- Demand 3: for every beginning g, every list of calls qs, and every call q after them
+
+-- the image after the calls, and after one more; the answer of that one, and what it did
+abbrev pub imageAfter : Engine → Begun → List Ask → List ℕ
+imageAfter e g qs = after e g qs .image
+
+unfoldable pub outcomeAfter : Engine → Begun → List Ask → Ask → Outcome
+outcomeAfter e g qs q = outcomeOf e q (after e g qs)
+
+unfoldable pub deedAfter : Engine → Begun → List Ask → Ask → Deed
+deedAfter e g qs q = deed (g .users) (event q (outcomeAfter e g qs q .answer))
+
+pub record Demand3 (e : Engine) : Type 0 where
+  -- 1
+  pub sound-stays : (g : Begun) (qs : List Ask) → SoundState (after e g qs)
+  -- 2
+  pub list-is-grants : (g : Begun) (qs : List Ask) (x : Item)
+      → (x .kind ≡ 0 → ⊥) → Holds x (listAfter e g qs) (itemsOf e g qs)
+  -- 3
+  pub places-add-up : (g : Begun) (qs : List Ask) → AddUp (g .capacity) (listAfter e g qs) (itemsOf e g qs)
+  -- 4
+  pub blocks-are-groups : (g : Begun) (qs : List Ask) → Groups (imageAfter e g qs) (groupsBy e g qs)
+  -- 5
+  pub figure-fixed : (g : Begun) (qs : List Ask) → Figure (blocks (g .image)) (imageAfter e g qs) (groupsBy e g qs)
+  pub figure-told : (g : Begun) (qs : List Ask) (q : Ask)
+      → deedAfter e g qs q ≡ tells → outcomeAfter e g qs q .left .dma ≡ figureIn (blocks (g .image)) (groupsBy e g qs) (q .dma)
+  -- 6
+  pub locked-stays : (g : Begun) (qs : List Ask) (q : Ask) (p : ℕ) (name : List ℕ) (r : ℕ)
+      → length name ≡ 11 → isAmong (freshLock p name r) (itemsOf e g qs) ≡ true → (q .process ≡ p → ⊥)
+      → Unchanged (byte (g .users) p) name r (imageAfter e g qs) (outcomeAfter e g qs q .left .image)
+  -- 7
+  pub files-apart : (g : Begun) (qs : List Ask) (q : Ask) (u : ℕ)
+      → (byte (g .users) (q .process) ≡ u → ⊥) → FilesApart u (imageAfter e g qs) (outcomeAfter e g qs q .left .image)
+  pub items-apart : (g : Begun) (qs : List Ask) (q : Ask)
+      → ItemsApart (q .process) (listAfter e g qs) (unpack (outcomeAfter e g qs q .left .list))
+  -- 8
+  pub dead-hold-nothing : (g : Begun) (qs later : List Ask) (q : Ask) (p : ℕ)
+      → deedAfter e g qs q ≡ ends p → anyOpenBy (g .users) p (eventsOf e later (kept (outcomeAfter e g qs q))) ≡ false
+      → NoneLeft p (listAfter e g (qs ++ (q ∷ later))) (itemsOf e g (qs ++ (q ∷ later)))
+  pub full-when : (g : Begun) (qs : List Ask) (q : Ask)
+      → Full (g .capacity) (g .users) (itemsOf e g qs) q (outcomeAfter e g qs q .answer)

@@ -1,0 +1,6 @@
+pub mod History
+pub mod Deeds
+pub mod Held
+pub mod Groups
+pub mod Demands
+pub mod Wrong

@@ -1,0 +1,107 @@
+-- A change of the image that takes nothing away: what it leaves, and two of them one after the other. Assumes nothing.
+use Prim.Native.Nat.{ℕ, _+_, _≤_, _<_}
+use mathlib.Core.Path.{_≡_, refl, sym, _∙_}
+use mathlib.Core.Bool.{false}
+use mathlib.Core.List.{List}
+use mathlib.Core.Logic.{_⊎_, inl, inr, ⊎-elim}
+use native.Mathlib.Omega.{arith}
+use lib.ListN.{length}
+use Rattle.words.specs.Bytes.{byte}
+use Rattle.rules.specs.declared.file.File.{File}
+use Rattle.rules.specs.Drive.{highest, isEmpty, fileAt, mapNumber}
+use Rattle.rules.proofs.Sound.{Names, SoundImage}
+use Rattle.soundness.proofs.Steps.{Stays}
+use Rattle.soundness.proofs.Frames.{Head, Same, head-of, head-then, same-refl, same-then, empty-same, file-same}
+
+-- used entries keep their heads and their block numbers
+pub record Grown (s t : List ℕ) : Type 0 where
+  pub head : (e : ℕ) → e < 64 → isEmpty s e ≡ false → Head s e t e
+  pub number : (e k : ℕ) → Names s e k → mapNumber t e k ≡ mapNumber s e k
+
+-- entry e is of f before, and of h after, where it is in use
+pub record Theirs (s t : List ℕ) (f h : File) (e : ℕ) : Type 0 where
+  pub was : isEmpty s e ≡ false → fileAt s e ≡ f
+  pub now : isEmpty t e ≡ false → fileAt t e ≡ h
+
+-- every other entry is the same
+pub record Touches (s t : List ℕ) (f h : File) : Type 0 where
+  pub long : length t ≡ length s
+  pub entry : (e : ℕ) → e < 64 → Same s e t e ⊎ Theirs s t f h e
+
+-- past the directory only the m bytes from a on differ
+pub record Data (s t : List ℕ) (a m : ℕ) : Type 0 where
+  pub at : (i : ℕ) → 2048 ≤ i → (i < a) ⊎ (a + m ≤ i) → byte t i ≡ byte s i
+
+-- a new number stands at place q of entry n at most
+pub record Change (s t : List ℕ) (f : File) (a m n q : ℕ) : Type 0 where
+  pub sound : SoundImage highest t
+  pub rest : (e k : ℕ) → Names t e k → ((e ≡ n) × (k ≡ q)) ⊎ Stays s t e k
+  pub grown : Grown s t
+  pub touches : Touches s t f f
+  pub data-kept : Data s t a m
+
+pub touches-same : (s t : List ℕ) (f h : File) → length t ≡ length s → ((e : ℕ) → e < 64 → Same s e t e) → Touches s t f h
+touches-same s t f h len g = record { long = len; entry = λ e l. inl (g e l) }
+
+pub grown-same : (s t : List ℕ) → ((e : ℕ) → e < 64 → Same s e t e) → Grown s t
+grown-same s t g = record {
+  head = λ e l u. head-of s e t e (g e l);
+  number = λ e k n. let w = n .place-there in g e (n .entry-there) .at (16 + k) (omega arith);
+}
+
+pub no-change : (s : List ℕ) (f : File) (a m n q : ℕ) → SoundImage highest s → Change s s f a m n q
+no-change s f a m n q g = record {
+  sound = g;
+  rest = λ e k w. inr (record { named = w; number = refl });
+  grown = grown-same s s (λ e l. same-refl s e);
+  touches = touches-same s s f f refl (λ e l. same-refl s e);
+  data-kept = record { at = λ i l c. refl };
+}
+
+module _ (s t u : List ℕ) (f : File) (a m n q : ℕ) (x : Change s t f a m n q) (y : Change t u f a m n q) where
+  used-then : (e : ℕ) → e < 64 → isEmpty s e ≡ false → isEmpty t e ≡ false
+  used-then e l w = empty-same s e t e (x .grown .head e l w) ∙ w
+
+  names-then : (e k : ℕ) → Names s e k → Names t e k
+  names-then e k w = record {
+    entry-there = w .entry-there;
+    place-there = w .place-there;
+    entry-used = used-then e (w .entry-there) (w .entry-used);
+    some = λ z. w .some (sym (x .grown .number e k w) ∙ z);
+  }
+
+  entry-then : (e : ℕ) → e < 64 → Same s e u e ⊎ Theirs s u f f e
+  entry-then e l =
+      ⊎-elim
+      (λ (p : Same s e t e). ⊎-elim
+      (λ (z : Same t e u e). inl (same-then s t u e p z))
+      (λ (z : Theirs t u f f e).
+      let h = head-of s e t e p in
+      inr (record { was = λ w. sym (file-same s e t e h) ∙ z .was (empty-same s e t e h ∙ w); now = z .now }))
+      (y .touches .entry e l))
+      (λ (p : Theirs s t f f e). ⊎-elim
+      (λ (z : Same t e u e).
+      let h = head-of t e u e z in
+      inr (record { was = p .was; now = λ w. file-same t e u e h ∙ p .now (sym (empty-same t e u e h) ∙ w) }))
+      (λ (z : Theirs t u f f e). inr (record { was = p .was; now = z .now }))
+      (y .touches .entry e l))
+      (x .touches .entry e l)
+
+  rest-then : (e k : ℕ) → Names u e k → ((e ≡ n) × (k ≡ q)) ⊎ Stays s u e k
+  rest-then e k w =
+      ⊎-elim (λ z. inl z)
+      (λ (z : Stays t u e k). ⊎-elim (λ v. inl v)
+      (λ (v : Stays s t e k). inr (record { named = v .named; number = z .number ∙ v .number })) (x .rest e k (z .named)))
+      (y .rest e k w)
+
+  pub change-then : Change s u f a m n q
+  change-then = record {
+    sound = y .sound;
+    rest = rest-then;
+    grown = record {
+      head = λ e l w. head-then s t u e (x .grown .head e l w) (y .grown .head e l (used-then e l w));
+      number = λ e k w. y .grown .number e k (names-then e k w) ∙ x .grown .number e k w;
+    };
+    touches = record { long = y .touches .long ∙ x .touches .long; entry = entry-then };
+    data-kept = record { at = λ i l c. y .data-kept .at i l c ∙ x .data-kept .at i l c };
+  }

@@ -1,0 +1,133 @@
+-- What a call may do, and what stands when it does: one leaf for each end of the tables. Assumes nothing.
+use Prim.Native.Nat.{ℕ, _+_, _-_, _/_, _≤_, _<_}
+use mathlib.Core.Path.{_≡_}
+use mathlib.Core.Bool.{Bool, true, false}
+use mathlib.Core.List.{List}
+use mathlib.Core.Logic.{_⊎_}
+use lib.ListN.{length}
+use lib.Dec.{eqb, leb}
+use Rattle.words.specs.Tests.{_and_, any, count}
+use Rattle.rules.specs.declared.file.File.{File}
+use Rattle.rules.specs.declared.list.LockList.{LockList}
+use Rattle.rules.specs.declared.routine.Routine.the-variants.{Open, Close, Delete, Make, Rename, Read, Write, WriteZeros, TestWrite, Lock, Unlock, FreeSpace, Terminate}
+use Rattle.rules.specs.declared.routine.Chosen.the-variants.{Call}
+use Rattle.rules.specs.Serves.{Buffers, Outcome, buffers, outcome, chosen, fcbSize, dmaSize, listSize, withDma, withList, withImage}
+use Rattle.rules.specs.Drive.{highest, blocks, legalName, entryOf, freeEntry, freeBlock, blockIn, blockOf, soundImage}
+use Rattle.rules.specs.Locks.{itemAt, unpack, pack, soundList, openOf, anyOpen, lockedByOther, opensBy, locksBy, freePlace, freePlaces}
+use Rattle.rules.specs.Asks.{callerFile, newFile, recordOf, openMode, makeMode}
+use Rattle.rules.specs.Codes.{standsAgainstAt, isNew}
+use Rattle.rules.specs.Effects.{accept, opened, made, erased, renamed, written, spotAt, closed, lockedRun, unlockedRun, terminated}
+
+-- what the general table leaves to rely on
+pub record Given (b : Buffers) : Type 0 where
+  pub fcb-long : length (b .fcb) ≡ fcbSize
+  pub dma-long : length (b .dma) ≡ dmaSize
+  pub list-long : length (b .list) ≡ listSize
+  pub image-sound : soundImage highest (b .image) ≡ true
+  pub list-sound : soundList highest (b .list) (b .image) ≡ true
+
+pub record Passed (p c : ℕ) (b : Buffers) : Type 0 where
+  pub process-fits : p < 16
+  pub run-some : 1 ≤ c
+  pub run-fits : c ≤ 16
+  pub ready : Given b
+
+abbrev pub listOf : Buffers → LockList
+listOf b = unpack (b .list)
+
+abbrev pub fileBy : ℕ → Buffers → File
+fileBy p b = callerFile p (unpack (b .list)) (b .fcb)
+
+abbrev pub newBy : ℕ → Buffers → File
+newBy p b = newFile p (unpack (b .list)) (b .fcb)
+
+-- the place of the caller's open of its file
+abbrev pub openBy : ℕ → Buffers → ℕ
+openBy p b = openOf (unpack (b .list)) p (callerFile p (unpack (b .list)) (b .fcb))
+
+abbrev pub modeBy : ℕ → Buffers → ℕ
+modeBy p b = itemAt (unpack (b .list)) (openOf (unpack (b .list)) p (callerFile p (unpack (b .list)) (b .fcb))) .mode
+
+-- ---- what stands at each
+
+pub record OpensAgain (p : ℕ) (b : Buffers) : Type 0 where
+  pub is-open : openBy p b < 64
+  pub same-mode : modeBy p b ≡ openMode (b .fcb)
+
+pub record MayOpen (p : ℕ) (b : Buffers) : Type 0 where
+  pub legal : legalName (b .fcb) 1 ≡ true
+  pub there : entryOf (b .image) (fileBy p b) 0 < 64
+  pub unopened : 64 ≤ openBy p b
+  pub none-against : any (standsAgainstAt (listOf b) p (fileBy p b) (openMode (b .fcb))) 64 ≡ false
+  pub within : opensBy (listOf b) p < listOf b .openlimit
+  pub room : freePlace (listOf b) < listOf b .capacity
+
+pub record MayMake (p : ℕ) (b : Buffers) : Type 0 where
+  pub legal : legalName (b .fcb) 1 ≡ true
+  pub gone : 64 ≤ entryOf (b .image) (fileBy p b) 0
+  pub within : opensBy (listOf b) p < listOf b .openlimit
+  pub room : freePlace (listOf b) < listOf b .capacity
+  pub entry-room : freeEntry (b .image) < 64
+
+pub record MayDelete (p : ℕ) (b : Buffers) : Type 0 where
+  pub legal : legalName (b .fcb) 1 ≡ true
+  pub there : entryOf (b .image) (fileBy p b) 0 < 64
+  pub unopened : anyOpen (listOf b) (fileBy p b) ≡ false
+
+pub record MayRename (p : ℕ) (b : Buffers) : Type 0 where
+  pub legal : legalName (b .fcb) 1 ≡ true
+  pub legal-new : legalName (b .fcb) 17 ≡ true
+  pub there : entryOf (b .image) (fileBy p b) 0 < 64
+  pub unopened : anyOpen (listOf b) (fileBy p b) ≡ false
+  pub gone-new : 64 ≤ entryOf (b .image) (newBy p b) 0
+
+pub record MayWrite (p : ℕ) (b : Buffers) : Type 0 where
+  pub is-open : openBy p b < 64
+  pub fits : recordOf (b .fcb) ≤ 262143
+  pub unlocked-by-others : lockedByOther (listOf b) p (fileBy p b) (recordOf (b .fcb)) ≡ false
+  pub entry-room : (leb 64 (entryOf (b .image) (fileBy p b) (recordOf (b .fcb) / 128)) and leb 64 (freeEntry (b .image))) ≡ false
+  pub block-room : (eqb (blockIn (b .image) (entryOf (b .image) (fileBy p b) (recordOf (b .fcb) / 128)) (recordOf (b .fcb))) 0 and leb (blocks (b .image)) (freeBlock (b .image))) ≡ false
+
+pub record MayLock (p c : ℕ) (b : Buffers) : Type 0 where
+  pub is-open : openBy p b < 64
+  pub is-unlocked : modeBy p b ≡ 1
+  pub fits : recordOf (b .fcb) + c - 1 ≤ 262143
+  pub have-blocks : (k : ℕ) → k < c → blockOf (b .image) (fileBy p b) (recordOf (b .fcb) + k) ≡ 0 → ⊥
+  pub none-others : (k : ℕ) → k < c → lockedByOther (listOf b) p (fileBy p b) (recordOf (b .fcb) + k) ≡ false
+  pub within : locksBy (listOf b) p + c ≤ listOf b .locklimit
+  pub room : count (isNew (listOf b) p (fileBy p b) (recordOf (b .fcb))) c ≤ freePlaces (listOf b)
+
+pub record MayUnlock (p : ℕ) (b : Buffers) : Type 0 where
+  pub is-open : openBy p b < 64
+  pub is-unlocked : modeBy p b ≡ 1
+
+-- 42 and 43 in modes 0 and 2
+pub record Idle (p : ℕ) (b : Buffers) : Type 0 where
+  pub is-open : openBy p b < 64
+  pub not-unlocked : modeBy p b ≡ 1 → ⊥
+
+-- ---- the image after a write, from the DMA's bytes v
+abbrev pub imageWritten : Bool → ℕ → Buffers → List ℕ → List ℕ
+imageWritten zeros p b v =
+    written zeros (spotAt (b .image) (entryOf (b .image) (fileBy p b) (recordOf (b .fcb) / 128)) (recordOf (b .fcb)))
+    (entryOf (b .image) (fileBy p b) 0) (fileBy p b) (recordOf (b .fcb)) v (b .image)
+
+-- ---- the leaves
+
+pub data Leaf (n p c : ℕ) (b : Buffers) : Outcome → Type 0 where
+  refused : (code : ℕ) → (code ≡ 0 → ⊥) → Leaf n p c b (outcome code b)
+  reopened : chosen n ≡ Call Open → Passed p c b → OpensAgain p b → (fcb : List ℕ) → Leaf n p c b (accept (buffers fcb (b .dma) (b .list) (b .image)))
+  newlyOpened : chosen n ≡ Call Open → Passed p c b → MayOpen p b → (fcb : List ℕ) → Leaf n p c b (accept (buffers fcb (b .dma) (pack (opened p (fileBy p b) (openMode (b .fcb)) (listOf b))) (b .image)))
+  newlyMade : chosen n ≡ Call Make → Passed p c b → MayMake p b → (fcb : List ℕ) → Leaf n p c b (accept (buffers fcb (b .dma) (pack (opened p (fileBy p b) (makeMode (b .fcb)) (listOf b))) (made (freeEntry (b .image)) (fileBy p b) (b .image))))
+  nowClosed : chosen n ≡ Call Close → Passed p c b → openBy p b < 64 → Leaf n p c b (accept (withList b (pack (closed p (fileBy p b) (listOf b)))))
+  nowErased : chosen n ≡ Call Delete → Passed p c b → MayDelete p b → Leaf n p c b (accept (withImage b (erased (fileBy p b) (b .image))))
+  nowRenamed : chosen n ≡ Call Rename → Passed p c b → MayRename p b → Leaf n p c b (accept (withImage b (renamed (fileBy p b) (newBy p b .name) (b .image))))
+  nowRead : chosen n ≡ Call Read → Passed p c b → (dma : List ℕ) → Leaf n p c b (accept (withDma b dma))
+  nowWritten : (chosen n ≡ Call Write) ⊎ (chosen n ≡ Call WriteZeros) → Passed p c b → MayWrite p b → (zeros : Bool) → Leaf n p c b (accept (withImage b (imageWritten zeros p b (b .dma))))
+  nowRewritten : chosen n ≡ Call TestWrite → Passed p c b → MayWrite p b → (blockOf (b .image) (fileBy p b) (recordOf (b .fcb)) ≡ 0 → ⊥) → (v : List ℕ) → 128 ≤ length v → Leaf n p c b (accept (withImage b (imageWritten false p b v)))
+  nowLocked : chosen n ≡ Call Lock → Passed p c b → MayLock p c b → Leaf n p c b (accept (withList b (pack (lockedRun p (fileBy p b) (recordOf (b .fcb)) c (listOf b)))))
+  lockIdle : chosen n ≡ Call Lock → Passed p c b → Idle p b → Leaf n p c b (accept b)
+  nowUnlocked : chosen n ≡ Call Unlock → Passed p c b → MayUnlock p b → Leaf n p c b (accept (withList b (pack (unlockedRun p (fileBy p b) (recordOf (b .fcb)) c (listOf b)))))
+  unlockIdle : chosen n ≡ Call Unlock → Passed p c b → Idle p b → Leaf n p c b (accept b)
+  nowTold : chosen n ≡ Call FreeSpace → Passed p c b → (dma : List ℕ) → Leaf n p c b (accept (withDma b dma))
+  nowEnded : chosen n ≡ Call Terminate → Passed p c b → Leaf n p c b (accept (withList b (pack (terminated p (listOf b)))))

@@ -1,0 +1,187 @@
+-- A sound list, said of its places, and back. Assumes nothing.
+use Prim.Native.Nat.{ℕ, zero, suc, _≤_, _<_}
+use mathlib.Core.Path.{_≡_, refl, ap, _∙_}
+use mathlib.Core.Bool.{Bool, true, false}
+use mathlib.Core.List.{List}
+use mathlib.Core.Logic.{_⊎_, inl, inr, ⊎-elim}
+use native.Mathlib.Omega.{arith}
+use lib.ListN.{length}
+use lib.Dec.{eqb, leb, ltb}
+use borrow.Author.Tests.{eqb-true, eqb-false, leb-true, leb-false, ltb-true, ltb-false, not-true}
+use Rattle.words.specs.Tests.{_and_, _if_else_, all}
+use Rattle.words.proofs.Tests.{either, all-at, any-at, lowest-holds, and-fst, and-snd}
+use Rattle.words.proofs.Lists.{tab-at, length-tab}
+use Rattle.words.proofs.Sets.{and-both}
+use Rattle.rules.specs.declared.file.File.{File}
+use Rattle.rules.specs.declared.item.Item.{Item}
+use Rattle.rules.specs.declared.list.LockList.{LockList}
+use Rattle.rules.specs.Drive.{highest, legalName, entryOf, lookUp, missing, blockOf}
+use Rattle.rules.specs.Locks.{blank, itemAt, userOf, fileOf, opensName, opensNameAt, openOf, isOpened, isLimit, isUser, isLow, goodEmpty, goodOpen, opensUnlocked, goodLock, goodItem, goodPlace, clashAt, isApart, keepsLimits, soundLocks, unpack, placeOf, itemFrom}
+use Rattle.soundness.proofs.Items.{fails-too, clash-at-sym}
+
+-- what reading a list gives, sound or not
+pub record Shape (l : LockList) : Type 0 where
+  pub users-long : length (l .users) ≡ 16
+  pub items-long : length (l .items) ≡ 64
+  pub names-long : (i : ℕ) → i < 64 → length (itemAt l i .name) ≡ 11
+
+pub unpack-shape : (list : List ℕ) → Shape (unpack list)
+unfolding unpack
+unpack-shape list = record {
+  users-long = length-tab _ 16;
+  items-long = length-tab _ 64;
+  names-long = λ i l. ap (λ (it : Item). length (it .name)) (tab-at (placeOf list) 64 i blank l) ∙ from-name list i;
+}
+  where
+    from-name : (s : List ℕ) (i : ℕ) → length (placeOf s i .name) ≡ 11
+    from-name s i = unfold placeOf itemFrom in length-tab _ 11
+
+-- the process has an open of that name, unlocked
+pub record Holder (l : LockList) (p : ℕ) (name : List ℕ) : Type 0 where
+  pub place : ℕ
+  pub below : place < 64
+  pub opens : opensName p name (itemAt l place) ≡ true
+  pub mode : itemAt l place .mode ≡ 1
+
+pub record GoodOpen (s : List ℕ) (l : LockList) (it : Item) : Type 0 where
+  pub kind-one : it .kind ≡ 1
+  pub mode-fits : it .mode ≤ 2
+  pub number-zero : it .number ≡ 0
+  pub there : entryOf s (fileOf l it) 0 < 64
+
+pub record GoodLock (s : List ℕ) (l : LockList) (it : Item) : Type 0 where
+  pub kind-two : it .kind ≡ 2
+  pub mode-one : it .mode ≡ 1
+  pub holder : Holder l (it .process) (it .name)
+  pub block : blockOf s (fileOf l it) (it .number) ≡ 0 → ⊥
+
+-- processes to 15; names legal, high bits zero; records below 262,144
+unfoldable pub isPlain : Item → Bool
+isPlain it = leb (it .process) 15 and legalName (it .name) 0 and all (isLow (it .name)) 11 and leb (it .number) highest
+
+pub record Used (s : List ℕ) (l : LockList) (i : ℕ) : Type 0 where
+  pub below : i < l .capacity
+  pub plain : isPlain (itemAt l i) ≡ true
+  pub good : GoodOpen s l (itemAt l i) ⊎ GoodLock s l (itemAt l i)
+
+pub record Vacant (l : LockList) (i : ℕ) : Type 0 where
+  pub kind-zero : itemAt l i .kind ≡ 0
+  pub zeros : goodEmpty (itemAt l i) ≡ true
+
+pub record Limits (l : LockList) : Type 0 where
+  pub capacity-good : isLimit (l .capacity) ≡ true
+  pub open-good : isLimit (l .openlimit) ≡ true
+  pub lock-good : isLimit (l .locklimit) ≡ true
+  pub users-good : all (isUser (l .users)) 16 ≡ true
+
+pub record SoundLocks (l : LockList) (s : List ℕ) : Type 0 where
+  pub limits : Limits l
+  pub place : (i : ℕ) → i < 64 → Vacant l i ⊎ Used s l i
+  pub apart : (i j : ℕ) → i < 64 → j < 64 → (i ≡ j → ⊥) → clashAt l i j ≡ false
+  pub keeps : (p : ℕ) → p < 16 → keepsLimits l p ≡ true
+
+pub capacity-fits : (l : LockList) → Limits l → l .capacity ≤ 64
+unfolding isLimit
+capacity-fits l h = leb-true _ _ (and-snd _ _ (h .capacity-good))
+
+pub user-fits : (l : LockList) (p : ℕ) → Limits l → p < 16 → userOf l p ≤ 15
+unfolding isUser
+user-fits l p h k = leb-true _ _ (all-at (isUser (l .users)) 16 p (h .users-good) k)
+
+-- ---- from the test
+
+module _ (l : LockList) (s : List ℕ) (h : soundLocks highest l s ≡ true) where
+  pub limits-of : Limits l
+  unfolding soundLocks
+  limits-of = record {
+    capacity-good = and-fst _ _ h;
+    open-good = and-fst _ _ (and-snd _ _ h);
+    lock-good = and-fst _ _ (and-snd _ _ (and-snd _ _ h));
+    users-good = and-fst _ _ (and-snd _ _ (and-snd _ _ (and-snd _ _ h)));
+  }
+
+  places-of : (all (goodPlace highest s l) 64 and all (isApart l) 64 and all (keepsLimits l) 16) ≡ true
+  unfolding soundLocks
+  places-of = and-snd _ _ (and-snd _ _ (and-snd _ _ (and-snd _ _ h)))
+
+  open-of : (it : Item) → eqb (it .kind) 1 ≡ true → goodOpen s l it ≡ true → GoodOpen s l it
+  unfolding goodOpen missing lookUp
+  open-of it k g = record {
+    kind-one = eqb-true _ _ k;
+    mode-fits = leb-true _ _ (and-fst _ _ g);
+    number-zero = eqb-true _ _ (and-fst _ _ (and-snd _ _ g));
+    there = leb-false _ _ (not-true _ (and-snd _ _ (and-snd _ _ g)));
+  }
+
+  holder-of : (p : ℕ) (f : File) → opensUnlocked l (openOf l p f) ≡ true → Holder l p (f .name)
+  unfolding opensUnlocked isOpened openOf opensNameAt
+  holder-of p f g =
+      let k = ltb-true _ _ (and-fst _ _ g) in
+      record { place = openOf l p f; below = k; opens = lowest-holds (opensNameAt l p (f .name)) 64 k; mode = eqb-true _ _ (and-snd _ _ g) }
+
+  lock-of : (it : Item) → it .kind ≡ 2 → goodLock s l it ≡ true → GoodLock s l it
+  unfolding goodLock
+  lock-of it k g = record {
+    kind-two = k;
+    mode-one = eqb-true _ _ (and-fst _ _ g);
+    holder = holder-of (it .process) (fileOf l it) (and-fst _ _ (and-snd _ _ g));
+    block = eqb-false _ _ (not-true _ (and-snd _ _ (and-snd _ _ g)));
+  }
+
+  used-of : (i : ℕ) → eqb (itemAt l i .kind) 0 ≡ false → (ltb i (l .capacity) and leb (itemAt l i .kind) 2 and goodItem highest s l (itemAt l i)) ≡ true → Used s l i
+  unfolding goodItem isPlain _if_else_
+  used-of i z g =
+      let it = itemAt l i in
+      let g₁ = and-snd _ _ (and-snd _ _ g) in
+      let g₂ = and-snd _ _ g₁ in
+      let g₃ = and-snd _ _ g₂ in
+      let g₄ = and-snd _ _ g₃ in
+      record {
+        below = ltb-true _ _ (and-fst _ _ g);
+        plain = and-both _ _ (and-fst _ _ g₁) (and-both _ _ (and-fst _ _ g₂) (and-both _ _ (and-fst _ _ g₃) (and-fst _ _ g₄)));
+        good = ⊎-elim
+            (λ (q : eqb (it .kind) 1 ≡ true). inl (open-of it q (rw q at (and-snd _ _ g₄))))
+            (λ (q : eqb (it .kind) 1 ≡ false).
+            let a : it .kind ≤ 2 = leb-true _ _ (and-fst _ _ (and-snd _ _ g)) in
+            let b = eqb-false _ _ q in
+            let c = eqb-false _ _ z in
+            inr (lock-of it (two (it .kind) a b c) (rw q at (and-snd _ _ g₄))))
+            (either (eqb (it .kind) 1));
+      }
+    where
+      two : (k : ℕ) → k ≤ 2 → (k ≡ 1 → ⊥) → (k ≡ 0 → ⊥) → k ≡ 2
+      two zero a b c = absurd (c refl)
+      two (suc zero) a b c = absurd (b refl)
+      two (suc (suc k)) a b c = omega arith
+
+  place-of : (i : ℕ) → i < 64 → Vacant l i ⊎ Used s l i
+  unfolding goodPlace _if_else_
+  place-of i m =
+      let g = all-at (goodPlace highest s l) 64 i (and-fst _ _ places-of) m in
+      ⊎-elim
+      (λ (q : eqb (itemAt l i .kind) 0 ≡ true). inl (record { kind-zero = eqb-true _ _ q; zeros = rw q at g }))
+      (λ (q : eqb (itemAt l i .kind) 0 ≡ false). inr (used-of i q (rw q at g)))
+      (either (eqb (itemAt l i .kind) 0))
+
+  before-of : (i j : ℕ) → i < 64 → j < i → clashAt l i j ≡ false
+  unfolding isApart
+  before-of i j m k = any-at (clashAt l i) i j (not-true _ (all-at (isApart l) 64 i (and-fst _ _ (and-snd _ _ places-of)) m)) k
+
+  apart-of : (i j : ℕ) → i < 64 → j < 64 → (i ≡ j → ⊥) → clashAt l i j ≡ false
+  apart-of i j m k n =
+      ⊎-elim (λ (q : ltb j i ≡ true). before-of i j m (ltb-true _ _ q))
+      (λ (q : ltb j i ≡ false).
+      let w = ltb-false j i q in
+      let v : i < j = less i j w n in
+      fails-too (clashAt l j i) (clashAt l i j) (clash-at-sym l i j) (before-of j i k v)) (either (ltb j i))
+    where
+      less : (a b : ℕ) → a ≤ b → (a ≡ b → ⊥) → a < b
+      less a b w n = ⊎-elim (λ (q : ltb a b ≡ true). ltb-true _ _ q) (λ (q : ltb a b ≡ false). let v = ltb-false a b q in absurd (n (omega arith))) (either (ltb a b))
+
+  pub locks-of : SoundLocks l s
+  locks-of = record {
+    limits = limits-of;
+    place = place-of;
+    apart = apart-of;
+    keeps = λ p k. all-at (keepsLimits l) 16 p (and-snd _ _ (and-snd _ _ places-of)) k;
+  }

@@ -1,0 +1,204 @@
+-- What the leaves give to the list: a new open, a run of locks, and that nobody has the file open. Assumes nothing.
+use Prim.Native.Nat.{ℕ, _+_, _%_, _≤_, _<_}
+use mathlib.Core.Path.{_≡_, refl, sym, ap, _∙_}
+use mathlib.Core.Bool.{Bool, true, false, not}
+use mathlib.Core.List.{List}
+use mathlib.Core.Logic.{_⊎_, inl, ⊎-elim}
+use native.Mathlib.Omega.{arith}
+use native.Mathlib.Nat.{zero-add, add-zero}
+use lib.ListN.{length}
+use lib.Dec.{eqb, leb}
+use borrow.Author.Tests.{eqb-true, eq-eqb, ne-eqb, le-leb, lt-ltb, not-true, not-false}
+use Rattle.words.specs.Tests.{_and_, _or_, all, _if_else_}
+use Rattle.words.specs.Bytes.{byte, lowFrom}
+use Rattle.words.proofs.Tests.{either, never, and-fst, and-snd, or-fst, or-snd, or-so, all-ext, all-make, any-at, lowest-holds, lowest-over}
+use Rattle.words.proofs.Lists.{tab-at}
+use Rattle.words.proofs.Sets.{and-both, not-of-false}
+use Rattle.rules.specs.declared.file.File.{File}
+use Rattle.rules.specs.declared.item.Item.{Item}
+use Rattle.rules.specs.declared.list.LockList.{LockList}
+use Rattle.rules.specs.Serves.{Buffers}
+use Rattle.rules.specs.Drive.{legalByte, legalAt, legalName, fileFrom, entryOf}
+use Rattle.rules.specs.Locks.{itemAt, userOf, fileOf, freshOpen, isKindBy, isLow, opensNameAt, opensFile, opensFileAt, openOf, anyOpen, opensBy, freePlace, sameName, sameFile, standBeside, clash}
+use Rattle.rules.specs.Asks.{callerFile, newFile, openMode, makeMode}
+use Rattle.rules.specs.Codes.{standsAgainst, standsAgainstAt}
+use Rattle.rules.proofs.Sound.{from-long}
+use Rattle.soundness.proofs.Items.{IsOpen, open-is, open-so, name-sym, name-then, name-is, name-refl}
+use Rattle.soundness.proofs.Locks.{Shape, Holder, GoodOpen, GoodLock, isPlain, Used, Vacant, SoundLocks}
+use Rattle.soundness.proofs.Placed.{Fits}
+use Rattle.soundness.proofs.Entered.{low-low}
+use Rattle.soundness.proofs.Leaves.{Passed, listOf, fileBy, openBy, modeBy, MayOpen, MayMake}
+
+-- ---- the name in an FCB, as a file has it
+
+module _ (u : ℕ) (fcb : List ℕ) (at : ℕ) where
+  pub name-byte : (k : ℕ) → k < 11 → byte (fileFrom u fcb at .name) k ≡ lowFrom fcb at k
+  unfolding fileFrom
+  name-byte k l = tab-at (lowFrom fcb at) 11 k 0 l
+
+  pub name-low : all (isLow (fileFrom u fcb at .name)) 11 ≡ true
+  unfolding isLow
+  name-low = all-make (isLow (fileFrom u fcb at .name)) 11 (λ k l. lt-ltb (byte (fileFrom u fcb at .name) k) 128 (rw (name-byte k l) (omega arith)))
+
+  pub name-legal : legalName fcb at ≡ true → legalName (fileFrom u fcb at .name) 0 ≡ true
+  unfolding legalName legalAt legalByte
+  name-legal h =
+      let low : (k : ℕ) → k < 11 → byte (fileFrom u fcb at .name) (0 + k) % 128 ≡ byte fcb (at + k) % 128 =
+      λ k m. rw (zero-add k, name-byte k m) (low-low (byte fcb (at + k))) in
+      let z : byte (fileFrom u fcb at .name) 0 % 128 ≡ byte fcb at % 128 = low 0 (omega arith) ∙ ap (λ (n : ℕ). byte fcb n % 128) (add-zero at) in
+      rw (
+        z,
+        all-ext (legalAt (fileFrom u fcb at .name) 0) (legalAt fcb at) 11
+            (λ k m. ap (λ (b : ℕ). leb 32 b and leb b 126 and not (eqb b 63)) (low k m)),
+      ) h
+
+pub caller-long : (p : ℕ) (l : LockList) (fcb : List ℕ) → length (callerFile p l fcb .name) ≡ 11
+unfolding callerFile
+caller-long p l fcb = from-long (userOf l p) fcb 1
+
+pub new-long : (p : ℕ) (l : LockList) (fcb : List ℕ) → length (newFile p l fcb .name) ≡ 11
+unfolding newFile
+new-long p l fcb = from-long (userOf l p) fcb 17
+
+pub caller-user : (p : ℕ) (l : LockList) (fcb : List ℕ) → callerFile p l fcb .user ≡ userOf l p
+unfolding callerFile fileFrom
+caller-user p l fcb = refl
+
+pub caller-low : (p : ℕ) (l : LockList) (fcb : List ℕ) → all (isLow (callerFile p l fcb .name)) 11 ≡ true
+unfolding callerFile
+caller-low p l fcb = name-low (userOf l p) fcb 1
+
+pub caller-legal : (p : ℕ) (l : LockList) (fcb : List ℕ) → legalName fcb 1 ≡ true → legalName (callerFile p l fcb .name) 0 ≡ true
+unfolding callerFile
+caller-legal p l fcb h = name-legal (userOf l p) fcb 1 h
+
+pub caller-mine : (p : ℕ) (l : LockList) (fcb : List ℕ) → _≡_ {A = File} (record { user = userOf l p; name = callerFile p l fcb .name }) (callerFile p l fcb)
+caller-mine p l fcb = λ i. record { user = sym (caller-user p l fcb) i; name = callerFile p l fcb .name }
+
+-- ---- a new open
+
+clash-one : (p : ℕ) (name : List ℕ) (mode : ℕ) (x : Item) → clash (freshOpen p name mode) x ≡ true → (eqb (x .kind) 1 and not (standBeside (freshOpen p name mode) x)) ≡ true
+unfolding clash _and_
+clash-one p name mode x h =
+    ⊎-elim (λ q. q) (λ (q : (eqb (x .kind) 1 and not (standBeside (freshOpen p name mode) x)) ≡ false). absurd (never (or-so _ _ h q) refl))
+    (either (eqb (x .kind) 1 and not (standBeside (freshOpen p name mode) x)))
+
+mode-small : (fcb : List ℕ) → (openMode fcb ≤ 2) × (makeMode fcb ≤ 2)
+unfolding openMode makeMode _if_else_
+mode-small fcb = (
+  ⊎-elim (λ q. rw q (omega arith)) (λ q. rw q (⊎-elim (λ z. rw z (omega arith)) (λ z. rw z (omega arith)) (either (leb 128 (byte fcb 5))))) (either (leb 128 (byte fcb 6))),
+  ⊎-elim (λ z. rw z (omega arith)) (λ z. rw z (omega arith)) (either (leb 128 (byte fcb 5))),
+)
+
+module _ (s : List ℕ) (p c : ℕ) (b : Buffers) (ok : Passed p c b) (g : SoundLocks (listOf b) s) where
+  abbrev l : LockList
+  l = listOf b
+
+  abbrev f : File
+  f = fileBy p b
+
+  -- any other open of the file can stand beside it
+  open-fits : (mode : ℕ) → mode ≤ 2 → legalName (b .fcb) 1 ≡ true → entryOf s f 0 < 64 → opensBy l p < l .openlimit
+      → ((i : ℕ) → i < 64 → IsOpen (itemAt l i .process) (f .name) (itemAt l i) → userOf l (itemAt l i .process) ≡ f .user → standBeside (freshOpen p (f .name) mode) (itemAt l i) ≡ true)
+      → Fits s l (freePlace l) (freshOpen p (f .name) mode)
+  unfolding isPlain isKindBy sameFile _and_
+  open-fits mode small legal there within beside = record {
+    name-long = caller-long p l (b .fcb);
+    plain = and-both _ _ (le-leb p 15 (let m = ok .process-fits in omega arith)) (and-both _ _ (caller-legal p l (b .fcb) legal) (and-both _ _ (caller-low p l (b .fcb)) refl));
+    good = inl (record { kind-one = refl; mode-fits = small; number-zero = refl; there = rw (caller-mine p l (b .fcb)) there });
+    no-clash = λ i m q.
+        ⊎-elim
+        (λ (y : (clash (freshOpen p (f .name) mode) (itemAt l i) and sameFile (record { user = userOf l p; name = f .name }) (fileOf l (itemAt l i))) ≡ true).
+        let a = clash-one p (f .name) mode (itemAt l i) (and-fst (clash (freshOpen p (f .name) mode) (itemAt l i)) _ y) in
+        let e : sameFile (record { user = userOf l p; name = f .name }) (fileOf l (itemAt l i)) ≡ true = and-snd (clash (freshOpen p (f .name) mode) (itemAt l i)) _ y in
+        absurd (never (beside i m
+        (record { kind-one = eqb-true _ _ (and-fst (eqb (itemAt l i .kind) 1) _ a); by = refl; named = name-sym (f .name) (itemAt l i .name) (and-snd (eqb (userOf l p) (userOf l (itemAt l i .process))) _ e) })
+        (sym (eqb-true (userOf l p) (userOf l (itemAt l i .process)) (and-fst (eqb (userOf l p) (userOf l (itemAt l i .process))) _ e)) ∙ sym (caller-user p l (b .fcb))))
+        (not-true _ (and-snd (eqb (itemAt l i .kind) 1) _ a))))
+        (λ y. y) (either (clash (freshOpen p (f .name) mode) (itemAt l i) and sameFile (record { user = userOf l p; name = f .name }) (fileOf l (itemAt l i))));
+    opens-fit = λ q z. let e : p ≡ q = eqb-true p q z in rw (← e) within;
+    locks-fit = λ q z. absurd (never z refl);
+  }
+
+  -- 15
+  pub mayopen-fits : MayOpen p b → entryOf s f 0 < 64 → Fits s l (freePlace l) (freshOpen p (f .name) (openMode (b .fcb)))
+  unfolding openOf opensNameAt standBeside standsAgainstAt standsAgainst opensFileAt opensFile
+  mayopen-fits w there =
+      open-fits (openMode (b .fcb)) (mode-small (b .fcb) .0) (w .legal) there (w .within) (λ i m o u.
+      let against = any-at (standsAgainstAt l p f (openMode (b .fcb))) 64 i (w .none-against) m in
+      let opens : (eqb (itemAt l i .kind) 1 and eqb (userOf l (itemAt l i .process)) (f .user) and sameName (itemAt l i .name) (f .name)) ≡ true =
+      and-both _ _ (eq-eqb _ _ (o .kind-one)) (and-both _ _ (eq-eqb _ _ u) (o .named)) in
+      let n : itemAt l i .process ≡ p → ⊥ = λ q.
+      never (open-so p (f .name) (itemAt l i) (record { kind-one = o .kind-one; by = q; named = o .named })) (lowest-over (opensNameAt l p (f .name)) 64 i (w .unopened) m) in
+      let a : (eqb (openMode (b .fcb)) 0 or not (eqb (itemAt l i .mode) (openMode (b .fcb)))) ≡ false = then-false _ _ (not-of-false _ (ne-eqb _ _ n)) (then-false _ _ opens against) in
+      let e : itemAt l i .mode ≡ openMode (b .fcb) = eqb-true _ _ (not-false _ (or-snd _ _ a)) in
+      and-both _ _ (not-of-false _ (ne-eqb p (itemAt l i .process) (λ q. n (sym q)))) (and-both _ _ (eq-eqb (openMode (b .fcb)) (itemAt l i .mode) (sym e)) (not-of-false _ (or-fst _ _ a))))
+    where
+      then-false : (x y : Bool) → x ≡ true → (x and y) ≡ false → y ≡ false
+      then-false true y e h = unfold _and_ in h
+      then-false false y e h = absurd (never e refl)
+
+  -- 22: nobody has a file open that is not there
+  pub maymake-fits : (s₀ : List ℕ) → Shape l → SoundLocks l s₀ → 64 ≤ entryOf s₀ f 0 → MayMake p b → entryOf s f 0 < 64 → Fits s l (freePlace l) (freshOpen p (f .name) (makeMode (b .fcb)))
+  maymake-fits s₀ h g₀ gone w there =
+      open-fits (makeMode (b .fcb)) (mode-small (b .fcb) .1) (w .legal) there (w .within) (λ i m o u.
+      let e : fileOf l (itemAt l i) ≡ f = λ k. record { user = u k; name = name-is (itemAt l i .name) (f .name) (h .names-long i m) (caller-long p l (b .fcb)) (o .named) k } in
+      let z : entryOf s₀ f 0 < 64 = rw e at (opened-there s₀ h g₀ i m (o .kind-one)) in
+      absurd (omega arith))
+    where
+      opened-there : (s₀ : List ℕ) → Shape l → SoundLocks l s₀ → (i : ℕ) → i < 64 → itemAt l i .kind ≡ 1 → entryOf s₀ (fileOf l (itemAt l i)) 0 < 64
+      opened-there s₀ h g₀ i m k =
+          ⊎-elim (λ (v : Vacant l i). let z = v .kind-zero in absurd (omega arith))
+          (λ (v : Used s₀ l i). ⊎-elim (λ (o : GoodOpen s₀ l (itemAt l i)). o .there) (λ (o : GoodLock s₀ l (itemAt l i)). let z = o .kind-two in absurd (omega arith)) (v .good))
+          (g₀ .place i m)
+
+-- ---- a file that nobody has open has no items
+
+module _ (s : List ℕ) (l : LockList) (g : SoundLocks l s) (f : File) (none : anyOpen l f ≡ false) where
+  no-open : (i : ℕ) → i < 64 → itemAt l i .kind ≡ 1 → userOf l (itemAt l i .process) ≡ f .user → sameName (itemAt l i .name) (f .name) ≡ true → ⊥
+  unfolding anyOpen opensFileAt opensFile
+  no-open i m k u n = never (and-both _ _ (eq-eqb _ _ k) (and-both _ _ (eq-eqb _ _ u) n)) (any-at (opensFileAt l f) 64 i none m)
+
+  pub no-items : (i : ℕ) → i < 64 → GoodOpen s l (itemAt l i) ⊎ GoodLock s l (itemAt l i) → fileOf l (itemAt l i) ≡ f → ⊥
+  no-items i m c e =
+      let u : userOf l (itemAt l i .process) ≡ f .user = ap (λ (k : File). k .user) e in
+      let n : sameName (itemAt l i .name) (f .name) ≡ true = rw (← e) (name-refl (itemAt l i .name)) in
+      ⊎-elim
+      (λ (o : GoodOpen s l (itemAt l i)). no-open i m (o .kind-one) u n)
+      (λ (o : GoodLock s l (itemAt l i)).
+      let k = o .holder in
+      let x = open-is _ _ (itemAt l (k .place)) (k .opens) in
+      no-open (k .place) (k .below) (x .kind-one) (ap (λ (q : ℕ). userOf l q) (x .by) ∙ u) (name-then _ _ _ (x .named) n)) c
+
+-- ---- a run of locks
+
+module _ (s : List ℕ) (p c : ℕ) (b : Buffers) (ok : Passed p c b) (h : Shape (listOf b)) (g : SoundLocks (listOf b) s) where
+  -- the caller's open
+  pub own-open : openBy p b < 64 → IsOpen p (fileBy p b .name) (itemAt (listOf b) (openBy p b))
+  unfolding openOf opensNameAt
+  own-open m = open-is p (fileBy p b .name) _ (lowest-holds (opensNameAt (listOf b) p (fileBy p b .name)) 64 m)
+
+  pub own-good : openBy p b < 64 → Used s (listOf b) (openBy p b)
+  own-good m =
+      ⊎-elim (λ (v : Vacant (listOf b) (openBy p b)). let z = v .kind-zero in let y = own-open m .kind-one in absurd (omega arith)) (λ v. v) (g .place (openBy p b) m)
+
+  own-name : openBy p b < 64 → itemAt (listOf b) (openBy p b) .name ≡ fileBy p b .name
+  own-name m = name-is _ _ (h .names-long (openBy p b) m) (caller-long p (listOf b) (b .fcb)) (own-open m .named)
+
+  pub own-file : (m : openBy p b < 64) → fileOf (listOf b) (itemAt (listOf b) (openBy p b)) ≡ fileBy p b
+  own-file m =
+      let u : userOf (listOf b) (itemAt (listOf b) (openBy p b) .process) ≡ fileBy p b .user = ap (λ (q : ℕ). userOf (listOf b) q) (own-open m .by) ∙ sym (caller-user p (listOf b) (b .fcb)) in
+      λ i. record { user = u i; name = own-name m i }
+
+  -- the file of an open is there
+  pub own-there : openBy p b < 64 → entryOf s (fileBy p b) 0 < 64
+  own-there m =
+      ⊎-elim (λ (o : GoodOpen s (listOf b) (itemAt (listOf b) (openBy p b))). rw (own-file m) at (o .there))
+      (λ (o : GoodLock s (listOf b) (itemAt (listOf b) (openBy p b))). let z = o .kind-two in let y = own-open m .kind-one in absurd (omega arith)) (own-good m .good)
+
+  pub own-holder : (m : openBy p b < 64) → modeBy p b ≡ 1 → Holder (listOf b) p (fileBy p b .name)
+  own-holder m e = record { place = openBy p b; below = m; opens = open-so _ _ _ (own-open m); mode = e }
+
+  pub own-legal : openBy p b < 64 → legalName (fileBy p b .name) 0 ≡ true
+  unfolding isPlain
+  own-legal m = rw (own-name m) at (and-fst _ _ (and-snd _ _ (own-good m .plain)))
