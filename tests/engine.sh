@@ -1,0 +1,12 @@
+#!/usr/bin/env bash
+# Compares the archive that ships with the second program over a pipe: the answer and every byte of the four buffers.
+# engine.sh [COMPARE OPTIONS]: 200,000 calls with seed 1 unless said, as in `tests/engine.sh --seed 7 --seconds 600`.
+set -euo pipefail
+here=$(cd "$(dirname "${BASH_SOURCE[0]}")" && pwd -P)
+root=$(cd "$here/.." && pwd -P)
+[ $# -gt 0 ] || set -- --seed 1 --calls 200000
+
+cargo build --quiet --release --offline -j2 --manifest-path "$here/reference/Cargo.toml"
+bash "$root/host/build.sh" "$here/pipe/pipe.c" "$root/target/host/pipe"
+"$here/reference/target/release/compare" "$@" --failures "$root/target/failures" -- \
+    bash "$root/host/run.sh" "$root/target/host/pipe"

@@ -1,0 +1,92 @@
+//! The reference behind the engine's four C symbols, to try `pipe.c` and the feature `linked` with.
+
+use std::slice::{from_raw_parts, from_raw_parts_mut};
+
+/// # Safety
+/// A pointer must be good for its length, unless that is 0.
+unsafe fn lent<'a>(bytes: *const u8, length: usize) -> &'a [u8] {
+    match length {
+        0 => &[],
+        _ => from_raw_parts(bytes, length),
+    }
+}
+
+/// # Safety
+/// As for `lent`, and nobody else may use the bytes meanwhile.
+unsafe fn lent_mut<'a>(bytes: *mut u8, length: usize) -> &'a mut [u8] {
+    match length {
+        0 => &mut [],
+        _ => from_raw_parts_mut(bytes, length),
+    }
+}
+
+/// # Safety
+/// The four buffers must be good for their lengths and separate.
+#[no_mangle]
+#[allow(clippy::too_many_arguments)]
+pub unsafe extern "C" fn mpm_call(
+    function: u32,
+    process: u32,
+    count: u32,
+    fcb: *mut u8,
+    fcb_len: usize,
+    dma: *mut u8,
+    dma_len: usize,
+    list: *mut u8,
+    list_len: usize,
+    image: *mut u8,
+    image_len: usize,
+) -> u32 {
+    reference::call(
+        function,
+        process,
+        count,
+        lent_mut(fcb, fcb_len),
+        lent_mut(dma, dma_len),
+        lent_mut(list, list_len),
+        lent_mut(image, image_len),
+    )
+}
+
+/// # Safety
+/// The two buffers must be good for their lengths and separate.
+#[no_mangle]
+pub unsafe extern "C" fn mpm_start(
+    capacity: u32,
+    open_limit: u32,
+    lock_limit: u32,
+    users: *const u8,
+    users_len: usize,
+    list: *mut u8,
+    list_len: usize,
+) -> u32 {
+    reference::start(
+        capacity,
+        open_limit,
+        lock_limit,
+        lent(users, users_len),
+        lent_mut(list, list_len),
+    )
+}
+
+/// # Safety
+/// The image must be good for its length.
+#[no_mangle]
+pub unsafe extern "C" fn mpm_check(image: *const u8, image_len: usize) -> u32 {
+    reference::check(lent(image, image_len))
+}
+
+/// # Safety
+/// The two buffers must be good for their lengths.
+#[no_mangle]
+pub unsafe extern "C" fn mpm_look(
+    user: u32,
+    name: *const u8,
+    name_len: usize,
+    record: u32,
+    image: *const u8,
+    image_len: usize,
+) -> u32 {
+    let found = reference::look(user, lent(name, name_len), record, lent(image, image_len));
+    found.map_or(0, |at| at as u32)
+}

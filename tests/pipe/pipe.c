@@ -1,0 +1,298 @@
+/* Serves the engine's four functions over a pipe: steps come in batches on descriptor 0, replies
+   go out on descriptor 1. reference/src/wire.rs has the bytes of steps and replies; a batch is
+   its length (4 bytes, low byte first) and then so many bytes of whole steps.
+
+   Every buffer lent to the engine lies in an area of its own between guard bytes.
+
+   Exit status: 0 at the end of input, 3 for a batch that makes no sense, 4 if writing fails. */
+
+typedef unsigned char u8;
+typedef unsigned int u32;
+typedef __SIZE_TYPE__ size;
+typedef __INTPTR_TYPE__ signed_size;
+
+signed_size read(int, void *, size);
+signed_size write(int, const void *, size);
+void exit(int) __attribute__((noreturn));
+int memcmp(const void *, const void *, size);
+void *memcpy(void *, const void *, size);
+void *memset(void *, int, size);
+
+u32 mpm_call(u32 function, u32 process, u32 count, u8 *fcb, size fcb_len, u8 *dma, size dma_len,
+             u8 *list, size list_len, u8 *image, size image_len);
+u32 mpm_start(u32 capacity, u32 open_limit, u32 lock_limit, const u8 *users, size users_len,
+              u8 *list, size list_len);
+u32 mpm_check(const u8 *image, size image_len);
+u32 mpm_look(u32 user, const u8 *name, size name_len, u32 record, const u8 *image,
+             size image_len);
+
+enum {
+    GUARD = 64,
+    MAX_IMAGE = 258 * 1024,
+    MAX_LIST = 4096,
+    MAX_SMALL = 1024,
+    BATCH = 65536,
+    MAX_CHANGES = 1024,
+    MAX_CHANGED_BYTES = 4096,
+    STRIDE = 256,
+    TOO_MANY = 65535,
+    MALFORMED = 3,
+    CANNOT_WRITE = 4
+};
+
+/* A buffer with room for guard bytes on both sides, and what it was before the step. */
+struct area {
+    u8 *room;
+    u8 *before;
+    size limit;
+    size length;
+};
+
+static u8 small_room[GUARD + MAX_SMALL + GUARD], small_before[MAX_SMALL];
+static u8 dma_room[GUARD + MAX_SMALL + GUARD], dma_before[MAX_SMALL];
+static u8 list_room[GUARD + MAX_LIST + GUARD], list_before[MAX_LIST];
+static u8 image_room[GUARD + MAX_IMAGE + GUARD], image_before[MAX_IMAGE];
+
+/* The users, the FCB or the name; the DMA; the list; the image: in the order of a reply. */
+static struct area small = {small_room, small_before, MAX_SMALL, 0};
+static struct area dma = {dma_room, dma_before, MAX_SMALL, 0};
+static struct area list = {list_room, list_before, MAX_LIST, 0};
+static struct area image = {image_room, image_before, MAX_IMAGE, 0};
+
+static u8 batch[BATCH];
+static size batch_length, batch_at;
+static u8 out[BATCH];
+static size out_length;
+
+static u8 guard_byte(size position) { return (u8)(0x5A ^ (position * 37)); }
+
+static u8 *data(struct area *area) { return area->room + GUARD; }
+
+static void set_guards(struct area *area) {
+    u8 *after = data(area) + area->length;
+    for (size i = 0; i < GUARD; i++) {
+        area->room[i] = guard_byte(i);
+        after[i] = guard_byte(i);
+    }
+}
+
+static int guards_hold(struct area *area) {
+    const u8 *after = data(area) + area->length;
+    for (size i = 0; i < GUARD; i++)
+        if (area->room[i] != guard_byte(i) || after[i] != guard_byte(i)) return 0;
+    return 1;
+}
+
+static void resize(struct area *area, size length, u8 fill) {
+    if (length > area->limit) exit(MALFORMED);
+    if (length > area->length) {
+        size more = length - area->length;
+        memset(data(area) + area->length, fill, more);
+        memset(area->before + area->length, fill, more);
+    }
+    area->length = length;
+    set_guards(area);
+}
+
+static void patch(struct area *area, size at, const u8 *bytes, size length) {
+    if (at > area->length || length > area->length - at) exit(MALFORMED);
+    memcpy(data(area) + at, bytes, length);
+    memcpy(area->before + at, bytes, length);
+}
+
+static void hold(struct area *area, const u8 *bytes, size length) {
+    resize(area, length, 0);
+    patch(area, 0, bytes, length);
+}
+
+static void flush(void) {
+    size sent = 0;
+    while (sent < out_length) {
+        signed_size n = write(1, out + sent, out_length - sent);
+        if (n <= 0) exit(CANNOT_WRITE);
+        sent += (size)n;
+    }
+    out_length = 0;
+}
+
+static void put(const u8 *bytes, size length) {
+    if (length > BATCH - out_length) flush();
+    memcpy(out + out_length, bytes, length);
+    out_length += length;
+}
+
+static void put_number(u32 number, size width) {
+    u8 bytes[4];
+    for (size i = 0; i < width; i++) bytes[i] = (u8)(number >> (8 * i));
+    put(bytes, width);
+}
+
+struct change {
+    size at;
+    size length;
+};
+
+static struct change changes[MAX_CHANGES];
+static size change_count, changed_bytes;
+
+static void note_change(size at) {
+    changed_bytes++;
+    if (change_count > 0 && change_count <= MAX_CHANGES) {
+        struct change *last = &changes[change_count - 1];
+        if (last->at + last->length == at) {
+            last->length++;
+            return;
+        }
+    }
+    if (change_count < MAX_CHANGES) changes[change_count] = (struct change){at, 1};
+    change_count++;
+}
+
+static void find_changes(struct area *area) {
+    const u8 *now = data(area);
+    change_count = changed_bytes = 0;
+    for (size from = 0; from < area->length; from += STRIDE) {
+        size to = area->length - from < STRIDE ? area->length : from + STRIDE;
+        if (memcmp(area->before + from, now + from, to - from) == 0) continue;
+        for (size i = from; i < to; i++)
+            if (area->before[i] != now[i]) note_change(i);
+    }
+}
+
+static void put_changes(struct area *area) {
+    find_changes(area);
+    if (change_count > MAX_CHANGES || changed_bytes > MAX_CHANGED_BYTES) {
+        put_number(TOO_MANY, 2);
+        memcpy(area->before, data(area), area->length);
+        return;
+    }
+    put_number((u32)change_count, 2);
+    for (size i = 0; i < change_count; i++) {
+        const u8 *bytes = data(area) + changes[i].at;
+        put_number((u32)changes[i].at, 4);
+        put_number((u32)changes[i].length, 2);
+        put(bytes, changes[i].length);
+        memcpy(area->before + changes[i].at, bytes, changes[i].length);
+    }
+}
+
+static void reply(u32 answer) {
+    struct area *areas[4] = {&small, &dma, &list, &image};
+    u32 broken = 0;
+    for (u32 i = 0; i < 4; i++)
+        if (!guards_hold(areas[i])) {
+            broken |= 1u << i;
+            set_guards(areas[i]);
+        }
+    put_number('A', 1);
+    put_number(broken, 1);
+    put_number(answer, 4);
+    for (u32 i = 0; i < 4; i++) put_changes(areas[i]);
+}
+
+static const u8 *take(size length) {
+    const u8 *bytes = batch + batch_at;
+    if (length > batch_length - batch_at) exit(MALFORMED);
+    batch_at += length;
+    return bytes;
+}
+
+static u32 take_number(size width) {
+    const u8 *bytes = take(width);
+    u32 number = 0;
+    for (size i = 0; i < width; i++) number |= (u32)bytes[i] << (8 * i);
+    return number;
+}
+
+static void take_into(struct area *area) {
+    size length = take_number(2);
+    hold(area, take(length), length);
+}
+
+static void serve_resize(struct area *area) {
+    size length = take_number(4);
+    resize(area, length, (u8)take_number(1));
+}
+
+static void serve_patch(struct area *area) {
+    size at = take_number(4);
+    size length = take_number(2);
+    patch(area, at, take(length), length);
+}
+
+static void serve_start(void) {
+    u32 capacity = take_number(4), open_limit = take_number(4), lock_limit = take_number(4);
+    take_into(&small);
+    hold(&dma, batch, 0);
+    reply(mpm_start(capacity, open_limit, lock_limit, data(&small), small.length, data(&list),
+                    list.length));
+}
+
+static void serve_call(void) {
+    u32 function = take_number(4), process = take_number(4), count = take_number(4);
+    take_into(&small);
+    take_into(&dma);
+    reply(mpm_call(function, process, count, data(&small), small.length, data(&dma), dma.length,
+                   data(&list), list.length, data(&image), image.length));
+}
+
+static void serve_check(void) {
+    hold(&small, batch, 0);
+    hold(&dma, batch, 0);
+    reply(mpm_check(data(&image), image.length));
+}
+
+static void serve_look(void) {
+    u32 user = take_number(4), record = take_number(4);
+    take_into(&small);
+    hold(&dma, batch, 0);
+    reply(mpm_look(user, data(&small), small.length, record, data(&image), image.length));
+}
+
+static void serve_step(void) {
+    switch (take_number(1)) {
+    case 'I': serve_resize(&image); break;
+    case 'i': serve_patch(&image); break;
+    case 'L': serve_resize(&list); break;
+    case 'l': serve_patch(&list); break;
+    case 'S': serve_start(); break;
+    case 'C': serve_call(); break;
+    case 'K': serve_check(); break;
+    case 'V': serve_look(); break;
+    default: exit(MALFORMED);
+    }
+}
+
+/* Reads so many bytes; 0 if the input ended before the first. */
+static int read_all(u8 *to, size length) {
+    size got = 0;
+    while (got < length) {
+        signed_size n = read(0, to + got, length - got);
+        if (n <= 0 && got == 0) return 0;
+        if (n <= 0) exit(MALFORMED);
+        got += (size)n;
+    }
+    return 1;
+}
+
+static int read_batch(void) {
+    u8 head[4];
+    if (!read_all(head, 4)) return 0;
+    batch_length = head[0] + 256u * head[1] + 65536u * head[2] + 16777216u * head[3];
+    batch_at = 0;
+    if (batch_length > BATCH) exit(MALFORMED);
+    if (batch_length > 0 && !read_all(batch, batch_length)) exit(MALFORMED);
+    return 1;
+}
+
+int main(void) {
+    set_guards(&small);
+    set_guards(&dma);
+    set_guards(&list);
+    set_guards(&image);
+    while (read_batch()) {
+        while (batch_at < batch_length) serve_step();
+        flush();
+    }
+    return 0;
+}

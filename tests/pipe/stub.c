@@ -1,0 +1,73 @@
+/* Four bad functions, to see that the comparison sees through them. STUB chooses the fault. */
+
+typedef unsigned char u8;
+typedef unsigned int u32;
+typedef __SIZE_TYPE__ size;
+
+#define REFUSE_ALL 1
+#define ACCEPT_ALL 2
+#define WRITE_BEFORE_FCB 3
+#define WRITE_AFTER_IMAGE 4
+#define CRASH 5
+#define SPOIL_THE_IMAGE 6
+
+#ifndef STUB
+#define STUB REFUSE_ALL
+#endif
+
+#define REFUSED (255u + 256u * 13u)
+
+u32 mpm_call(u32 function, u32 process, u32 count, u8 *fcb, size fcb_len, u8 *dma, size dma_len,
+             u8 *list, size list_len, u8 *image, size image_len);
+u32 mpm_start(u32 capacity, u32 open_limit, u32 lock_limit, const u8 *users, size users_len,
+              u8 *list, size list_len);
+u32 mpm_check(const u8 *image, size image_len);
+u32 mpm_look(u32 user, const u8 *name, size name_len, u32 record, const u8 *image,
+             size image_len);
+
+u32 mpm_start(u32 capacity, u32 open_limit, u32 lock_limit, const u8 *users, size users_len,
+              u8 *list, size list_len) {
+    u32 numbers[3] = {capacity, open_limit, lock_limit};
+    for (u32 i = 0; i < 3; i++)
+        if (numbers[i] < 1 || numbers[i] > 64) return REFUSED;
+    if (users_len != 16 || list_len != 1299) return REFUSED;
+    for (u32 i = 0; i < 16; i++)
+        if (users[i] > 15) return REFUSED;
+    for (size i = 0; i < list_len; i++) list[i] = 0;
+    for (u32 i = 0; i < 3; i++) list[i] = (u8)numbers[i];
+    for (u32 i = 0; i < 16; i++) list[3 + i] = users[i];
+    return 0;
+}
+
+u32 mpm_check(const u8 *image, size image_len) {
+    (void)image;
+    return image_len % 1024 != 0;
+}
+
+u32 mpm_look(u32 user, const u8 *name, size name_len, u32 record, const u8 *image,
+             size image_len) {
+    (void)user, (void)name, (void)name_len, (void)record, (void)image, (void)image_len;
+    return 0;
+}
+
+u32 mpm_call(u32 function, u32 process, u32 count, u8 *fcb, size fcb_len, u8 *dma, size dma_len,
+             u8 *list, size list_len, u8 *image, size image_len) {
+    (void)function, (void)process, (void)count, (void)fcb, (void)fcb_len, (void)dma;
+    (void)dma_len, (void)list, (void)list_len, (void)image, (void)image_len;
+#if STUB == ACCEPT_ALL
+    return 0;
+#elif STUB == WRITE_BEFORE_FCB
+    fcb[-1] ^= 1;
+    return 0;
+#elif STUB == WRITE_AFTER_IMAGE
+    image[image_len] ^= 1;
+    return 0;
+#elif STUB == CRASH
+    __builtin_trap();
+#elif STUB == SPOIL_THE_IMAGE
+    for (size i = 0; i < image_len; i++) image[i] ^= 1;
+    return 0;
+#else
+    return REFUSED;
+#endif
+}

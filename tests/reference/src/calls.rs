@@ -1,0 +1,608 @@
+//! The thirteen calls. Each works on what was decoded and says what is to change;
+//! the buffers are written only after it has succeeded.
+
+use crate::answer::{code, extended, Answer, Refusal};
+use crate::drive::{block_start, extent_of, record_start, Drive, Fault, BLOCK, RECORD, RECORD_LIMIT};
+use crate::locks::{Lock, LockList, Mode, Open, LIST_LENGTH, PROCESSES};
+use crate::name::{File, Name, HIGH_BIT};
+use std::ops::Range;
+
+pub const FCB_LENGTH: usize = 36;
+pub const DMA_LENGTH: usize = 256;
+
+const FUNCTIONS: [u32; 13] = [15, 16, 19, 22, 23, 33, 34, 40, 41, 42, 43, 46, 143];
+const WITHOUT_FCB: [u32; 2] = [46, 143];
+
+/// The numbers of a call, as the host gives them.
+#[derive(Clone, Copy, Debug, PartialEq, Eq)]
+pub struct Numbers {
+    pub function: u32,
+    pub process: u32,
+    pub count: u32,
+}
+
+/// The four buffers lent for a call.
+pub struct Buffers<'a> {
+    pub fcb: &'a mut [u8],
+    pub dma: &'a mut [u8],
+    pub list: &'a mut [u8],
+    pub image: &'a mut [u8],
+}
+
+struct Scene<'a> {
+    process: u8,
+    count: u32,
+    fcb: [u8; FCB_LENGTH],
+    dma: [u8; DMA_LENGTH],
+    list: LockList,
+    drive: Drive,
+    image: &'a [u8],
+}
+
+struct Write {
+    at: usize,
+    bytes: Vec<u8>,
+}
+
+/// What a successful call changes; `kind` is for coverage only.
+struct Effects {
+    kind: &'static str,
+    fcb: Option<[u8; FCB_LENGTH]>,
+    dma: Option<[u8; DMA_LENGTH]>,
+    list: Option<LockList>,
+    drive: Option<Drive>,
+    data: Vec<Write>,
+}
+
+type Outcome = Result<Effects, Refusal>;
+
+/// What Lock and Unlock have to do.
+enum Locking {
+    NoEffect(&'static str),
+    Run(File, Range<u32>),
+}
+
+impl Effects {
+    fn none(kind: &'static str) -> Effects {
+        Effects {
+            kind,
+            fcb: None,
+            dma: None,
+            list: None,
+            drive: None,
+            data: Vec::new(),
+        }
+    }
+
+    fn of_list(kind: &'static str, list: LockList) -> Effects {
+        Effects {
+            list: Some(list),
+            ..Effects::none(kind)
+        }
+    }
+
+    fn of_drive(kind: &'static str, drive: Drive) -> Effects {
+        Effects {
+            drive: Some(drive),
+            ..Effects::none(kind)
+        }
+    }
+
+    fn of_dma(kind: &'static str, dma: [u8; DMA_LENGTH]) -> Effects {
+        Effects {
+            dma: Some(dma),
+            ..Effects::none(kind)
+        }
+    }
+
+    fn apply(self, before: &Drive, buffers: Buffers) {
+        if let Some(fcb) = self.fcb {
+            buffers.fcb.copy_from_slice(&fcb);
+        }
+        if let Some(dma) = self.dma {
+            buffers.dma.copy_from_slice(&dma);
+        }
+        if let Some(list) = self.list {
+            buffers.list.copy_from_slice(&list.write());
+        }
+        if let Some(drive) = self.drive {
+            drive.write_changes(before, buffers.image);
+        }
+        for Write { at, bytes } in self.data {
+            buffers.image[at..at + bytes.len()].copy_from_slice(&bytes);
+        }
+    }
+}
+
+/// The answer, and which of the reasons or kinds of success it was.
+pub fn call_explained(numbers: Numbers, buffers: Buffers) -> (Answer, &'static str) {
+    let scene = match scene(numbers, &buffers) {
+        Ok(scene) => scene,
+        Err(refusal) => return (refusal.answer, refusal.why),
+    };
+    match scene.serve(numbers.function) {
+        Err(refusal) => (refusal.answer, refusal.why),
+        Ok(effects) => {
+            let kind = effects.kind;
+            let before = scene.drive;
+            effects.apply(&before, buffers);
+            (Answer::SUCCESS, kind)
+        }
+    }
+}
+
+fn scene<'a>(numbers: Numbers, buffers: &'a Buffers) -> Result<Scene<'a>, Refusal> {
+    let process = judged_numbers(numbers)?;
+    let fcb: [u8; FCB_LENGTH] = (&*buffers.fcb)
+        .try_into()
+        .map_err(|_| extended(13, "FCB of wrong length"))?;
+    let dma: [u8; DMA_LENGTH] = (&*buffers.dma)
+        .try_into()
+        .map_err(|_| extended(13, "DMA of wrong length"))?;
+    if buffers.list.len() != LIST_LENGTH {
+        return Err(extended(13, "list of wrong length"));
+    }
+    let drive = Drive::read(buffers.image).map_err(|fault| match fault {
+        Fault::Length => extended(1, "image of wrong length"),
+        Fault::Directory => extended(1, "unsound directory"),
+    })?;
+    let list = LockList::read(buffers.list, &drive).ok_or(extended(12, "unsound list"))?;
+    if !WITHOUT_FCB.contains(&numbers.function) && fcb[0] > 1 {
+        return Err(extended(4, "not drive A"));
+    }
+    Ok(Scene {
+        process,
+        count: numbers.count,
+        fcb,
+        dma,
+        list,
+        drive,
+        image: buffers.image,
+    })
+}
+
+fn judged_numbers(numbers: Numbers) -> Result<u8, Refusal> {
+    if !FUNCTIONS.contains(&numbers.function) {
+        return Err(extended(13, "unknown function"));
+    }
+    if numbers.process >= PROCESSES as u32 {
+        return Err(extended(13, "process over 15"));
+    }
+    if numbers.count < 1 {
+        return Err(extended(13, "count below 1"));
+    }
+    if numbers.count > 16 {
+        return Err(extended(13, "count above 16"));
+    }
+    Ok(numbers.process as u8)
+}
+
+impl Scene<'_> {
+    fn serve(&self, function: u32) -> Outcome {
+        match function {
+            15 => self.open(),
+            16 => self.close(),
+            19 => self.delete(),
+            22 => self.make(),
+            23 => self.rename(),
+            33 => self.read_random(),
+            34 => self.write_random(false),
+            40 => self.write_random(true),
+            41 => self.test_and_write(),
+            42 => self.lock_records(),
+            43 => self.unlock_records(),
+            46 => self.free_space(),
+            143 => self.terminate(),
+            _ => Err(extended(13, "unknown function")),
+        }
+    }
+
+    /// The file that eleven bytes of the FCB name, under the caller's user.
+    fn named_at(&self, at: usize) -> Option<File> {
+        let name = Name::read(&self.fcb[at..at + 11])?;
+        let user = self.list.user(self.process);
+        Some(File { user, name })
+    }
+
+    fn named(&self) -> Option<File> {
+        self.named_at(1)
+    }
+
+    fn own_open(&self) -> Option<(File, Open)> {
+        let file = self.named()?;
+        let open = self.list.open(&file, self.process)?;
+        Some((file, open))
+    }
+
+    fn own_open_or_10(&self) -> Result<(File, Open), Refusal> {
+        self.own_open().ok_or(code(10, "not open"))
+    }
+
+    fn record_number(&self) -> u32 {
+        u32::from_le_bytes([self.fcb[33], self.fcb[34], self.fcb[35], 0])
+    }
+
+    fn record(&self) -> Result<u32, Refusal> {
+        let record = self.record_number();
+        if record >= RECORD_LIMIT {
+            return Err(code(6, "record too high"));
+        }
+        Ok(record)
+    }
+
+    fn run(&self) -> Result<Range<u32>, Refusal> {
+        let first = self.record_number();
+        let run = first..first + self.count;
+        if first >= RECORD_LIMIT {
+            return Err(code(6, "record too high"));
+        }
+        if run.end > RECORD_LIMIT {
+            return Err(code(6, "run passes the last record"));
+        }
+        Ok(run)
+    }
+
+    fn fcb_high_bit(&self, byte: usize) -> bool {
+        self.fcb[byte] & HIGH_BIT != 0
+    }
+
+    fn mode_asked_by_make(&self) -> Mode {
+        if self.fcb_high_bit(5) {
+            return Mode::Unlocked;
+        }
+        Mode::Locked
+    }
+
+    fn mode_asked_by_open(&self) -> Mode {
+        if self.fcb_high_bit(6) {
+            return Mode::ReadOnly;
+        }
+        self.mode_asked_by_make()
+    }
+
+    fn lowest_free_place(&self) -> Result<usize, Refusal> {
+        let place = self.list.free_places().first().copied();
+        place.ok_or(extended(11, "no empty place"))
+    }
+
+    /// The FCB as Open and Make leave it.
+    fn opened_fcb(&self, drive: &Drive, file: &File, open: Open) -> [u8; FCB_LENGTH] {
+        let mut fcb = self.fcb;
+        let first = drive.extent(file, 0);
+        fcb[12..15].fill(0);
+        fcb[15] = first.map_or(0, |extent| extent.count);
+        fcb[16..32].copy_from_slice(&first.map_or([0; 16], |extent| extent.map()));
+        if open.mode == Mode::Unlocked {
+            fcb[33..35].copy_from_slice(&file_id(open));
+            fcb[35] = 0;
+        }
+        fcb
+    }
+
+    fn open(&self) -> Outcome {
+        let file = self.named().ok_or(extended(9, "illegal name"))?;
+        if !self.drive.has(&file) {
+            return Err(extended(0, "no such file"));
+        }
+        let mode = self.mode_asked_by_open();
+        if let Some(open) = self.list.open(&file, self.process) {
+            return self.open_again(&file, open, mode);
+        }
+        if !self.list.others_allow(&file, self.process, mode) {
+            return Err(extended(5, "beside another's open"));
+        }
+        if self.list.at_open_limit(self.process) {
+            return Err(extended(10, "at the open limit"));
+        }
+        let place = self.lowest_free_place()?;
+        let open = Open { place, mode };
+        let mut list = self.list.clone();
+        list.add_open(file, self.process, open);
+        let kind = match (mode, self.list.is_open(&file)) {
+            (Mode::Locked, _) => "opened locked",
+            (Mode::Unlocked, false) => "opened unlocked, alone",
+            (Mode::Unlocked, true) => "opened unlocked, beside another",
+            (Mode::ReadOnly, false) => "opened read-only, alone",
+            (Mode::ReadOnly, true) => "opened read-only, beside another",
+        };
+        Ok(Effects {
+            fcb: Some(self.opened_fcb(&self.drive, &file, open)),
+            ..Effects::of_list(kind, list)
+        })
+    }
+
+    fn open_again(&self, file: &File, open: Open, mode: Mode) -> Outcome {
+        if open.mode != mode {
+            return Err(extended(5, "open in another mode"));
+        }
+        let kind = match mode {
+            Mode::Locked => "open again, locked",
+            Mode::Unlocked => "open again, unlocked",
+            Mode::ReadOnly => "open again, read-only",
+        };
+        Ok(Effects {
+            fcb: Some(self.opened_fcb(&self.drive, file, open)),
+            ..Effects::none(kind)
+        })
+    }
+
+    fn make(&self) -> Outcome {
+        let file = self.named().ok_or(extended(9, "illegal name"))?;
+        if self.drive.has(&file) {
+            return Err(extended(8, "file exists"));
+        }
+        if self.list.at_open_limit(self.process) {
+            return Err(extended(10, "at the open limit"));
+        }
+        let place = self.lowest_free_place()?;
+        let mut drive = self.drive.clone();
+        drive.make(file).ok_or(extended(0, "no empty entry"))?;
+        let mode = self.mode_asked_by_make();
+        let open = Open { place, mode };
+        let mut list = self.list.clone();
+        list.add_open(file, self.process, open);
+        let kind = match mode {
+            Mode::Unlocked => "made unlocked",
+            _ => "made locked",
+        };
+        Ok(Effects {
+            fcb: Some(self.opened_fcb(&drive, &file, open)),
+            drive: Some(drive),
+            ..Effects::of_list(kind, list)
+        })
+    }
+
+    fn close(&self) -> Outcome {
+        let (file, _) = self.own_open().ok_or(extended(6, "not open"))?;
+        let mut list = self.list.clone();
+        let locks = list.close(&file, self.process);
+        let kind = match locks {
+            0 => "closed, no locks",
+            _ => "closed with locks",
+        };
+        Ok(Effects::of_list(kind, list))
+    }
+
+    /// The tests that Delete and Rename share once the name is known to be legal.
+    fn may_go(&self, file: &File) -> Result<(), Refusal> {
+        if !self.drive.has(file) {
+            return Err(extended(0, "no such file"));
+        }
+        if self.list.open(file, self.process).is_some() {
+            return Err(extended(5, "open by the caller"));
+        }
+        if self.list.is_open(file) {
+            return Err(extended(5, "open by another"));
+        }
+        if self.drive.is_read_only(file) {
+            return Err(extended(3, "read-only attribute"));
+        }
+        Ok(())
+    }
+
+    fn delete(&self) -> Outcome {
+        let file = self.named().ok_or(extended(9, "illegal name"))?;
+        self.may_go(&file)?;
+        let mut drive = self.drive.clone();
+        drive.delete(&file);
+        let kind = match self.drive.entries_of(&file) {
+            1 => "deleted one entry",
+            _ => "deleted several entries",
+        };
+        Ok(Effects::of_drive(kind, drive))
+    }
+
+    fn rename(&self) -> Outcome {
+        let old = self.named().ok_or(extended(9, "illegal old name"))?;
+        let new = self.named_at(17).ok_or(extended(9, "illegal new name"))?;
+        self.may_go(&old)?;
+        if new == old {
+            return Err(extended(8, "new name is the old one"));
+        }
+        if self.drive.has(&new) {
+            return Err(extended(8, "new name exists"));
+        }
+        let mut drive = self.drive.clone();
+        drive.rename(&old, new);
+        let kind = match self.drive.entries_of(&old) {
+            1 => "renamed one entry",
+            _ => "renamed several entries",
+        };
+        Ok(Effects::of_drive(kind, drive))
+    }
+
+    /// Where the record lies in the image.
+    fn stored(&self, file: &File, record: u32) -> Result<usize, Refusal> {
+        if self.drive.extent(file, extent_of(record)).is_none() {
+            return Err(code(4, "no extent"));
+        }
+        let block = self.drive.block(file, record).ok_or(code(1, "no block"))?;
+        Ok(record_start(block, record))
+    }
+
+    fn read_random(&self) -> Outcome {
+        let (file, _) = self.own_open_or_10()?;
+        let record = self.record()?;
+        let at = self.stored(&file, record)?;
+        let mut dma = self.dma;
+        dma[..RECORD].copy_from_slice(&self.image[at..at + RECORD]);
+        Ok(Effects::of_dma("read", dma))
+    }
+
+    /// The tests that the three writing calls share: the file and the record they may write.
+    fn writable(&self) -> Result<(File, u32), Refusal> {
+        let (file, open) = self.own_open_or_10()?;
+        if self.drive.is_read_only(&file) {
+            return Err(extended(3, "read-only attribute"));
+        }
+        if open.mode == Mode::ReadOnly {
+            return Err(extended(3, "open read-only"));
+        }
+        let record = self.record()?;
+        if self.list.is_held_by_another(&file, record, self.process) {
+            return Err(code(8, "held by another"));
+        }
+        Ok((file, record))
+    }
+
+    fn write_random(&self, zero_fill: bool) -> Outcome {
+        let (file, record) = self.writable()?;
+        let extent_missing = self.drive.extent(&file, extent_of(record)).is_none();
+        let block_missing = self.drive.block(&file, record).is_none();
+        self.room_for(extent_missing, block_missing)?;
+
+        let mut drive = self.drive.clone();
+        let block = drive.provide(&file, record).ok_or(code(2, "no free block"))?;
+        drive.raise_count(&file, record);
+        let mut data = Vec::new();
+        if zero_fill && block_missing {
+            data.push(Write {
+                at: block_start(block),
+                bytes: vec![0; BLOCK],
+            });
+        }
+        data.push(Write {
+            at: record_start(block, record),
+            bytes: self.dma[..RECORD].to_vec(),
+        });
+        let kind = match (extent_missing, block_missing) {
+            (true, _) => "written, new extent",
+            (false, true) => "written, new block",
+            (false, false) => "written in place",
+        };
+        Ok(Effects {
+            data,
+            ..Effects::of_drive(kind, drive)
+        })
+    }
+
+    fn room_for(&self, extent_missing: bool, block_missing: bool) -> Result<(), Refusal> {
+        let no_block = self.drive.lowest_free_block().is_none();
+        if extent_missing && self.drive.lowest_empty_slot().is_none() {
+            return Err(match no_block {
+                true => code(5, "no empty entry, no free block"),
+                false => code(5, "no empty entry"),
+            });
+        }
+        if block_missing && no_block {
+            return Err(match extent_missing {
+                true => code(2, "no free block for a new extent"),
+                false => code(2, "no free block"),
+            });
+        }
+        Ok(())
+    }
+
+    fn test_and_write(&self) -> Outcome {
+        let (file, record) = self.writable()?;
+        let at = self.stored(&file, record)?;
+        let (tested, written) = self.dma.split_at(RECORD);
+        if tested != &self.image[at..at + RECORD] {
+            return Err(code(7, "differs"));
+        }
+        let mut drive = self.drive.clone();
+        let rises = drive.raise_count(&file, record);
+        let kind = match rises {
+            true => "written, count raised",
+            false => "written, count stays",
+        };
+        let data = vec![Write {
+            at,
+            bytes: written.to_vec(),
+        }];
+        Ok(Effects {
+            data,
+            ..Effects::of_drive(kind, drive)
+        })
+    }
+
+    /// What Lock and Unlock share: all their tests up to 6/0.
+    fn locking(&self) -> Result<Locking, Refusal> {
+        let (file, open) = self.own_open_or_10()?;
+        match open.mode {
+            Mode::Locked => return Ok(Locking::NoEffect("no effect, locked mode")),
+            Mode::ReadOnly => return Ok(Locking::NoEffect("no effect, read-only mode")),
+            Mode::Unlocked => {}
+        }
+        let id = file_id(open);
+        if self.dma[0] != id[0] {
+            return Err(code(13, "low byte not the File ID's"));
+        }
+        if self.dma[1] != id[1] {
+            return Err(code(13, "high byte not the File ID's"));
+        }
+        Ok(Locking::Run(file, self.run()?))
+    }
+
+    fn lock_records(&self) -> Outcome {
+        let (file, run) = match self.locking()? {
+            Locking::NoEffect(kind) => return Ok(Effects::none(kind)),
+            Locking::Run(file, run) => (file, run),
+        };
+        for record in run.clone() {
+            self.stored(&file, record)?;
+        }
+        let held_by_another = |record| self.list.is_held_by_another(&file, record, self.process);
+        if run.clone().any(held_by_another) {
+            return Err(code(8, "held by another"));
+        }
+        if self.list.held(self.process) + run.len() > self.list.lock_limit() {
+            return Err(code(12, "lock limit"));
+        }
+        let is_new = |record: &u32| self.list.holder(&file, *record).is_none();
+        let new: Vec<u32> = run.clone().filter(is_new).collect();
+        let free = self.list.free_places();
+        if free.len() < new.len() {
+            return Err(code(14, "too few empty places"));
+        }
+        let kind = match new.len() {
+            0 => "locked, all held before",
+            some if some < run.len() => "locked, some held before",
+            _ => "locked, all new",
+        };
+        let mut list = self.list.clone();
+        for (record, place) in new.into_iter().zip(free) {
+            let process = self.process;
+            list.add_lock(file, record, Lock { place, process });
+        }
+        Ok(Effects::of_list(kind, list))
+    }
+
+    fn unlock_records(&self) -> Outcome {
+        let (file, run) = match self.locking()? {
+            Locking::NoEffect(kind) => return Ok(Effects::none(kind)),
+            Locking::Run(file, run) => (file, run),
+        };
+        let mut list = self.list.clone();
+        let kind = match list.unlock(&file, self.process, &run) {
+            0 => "unlocked, none held",
+            some if some < run.len() => "unlocked, some held",
+            _ => "unlocked, all held",
+        };
+        Ok(Effects::of_list(kind, list))
+    }
+
+    fn free_space(&self) -> Outcome {
+        let records = self.drive.free_blocks() as u32 * 8;
+        let mut dma = self.dma;
+        dma[..3].copy_from_slice(&records.to_le_bytes()[..3]);
+        let kind = match records {
+            0 => "no space",
+            _ => "space",
+        };
+        Ok(Effects::of_dma(kind, dma))
+    }
+
+    fn terminate(&self) -> Outcome {
+        let mut list = self.list.clone();
+        let kind = match list.terminate(self.process) {
+            0 => "nothing to take away",
+            _ => "items taken away",
+        };
+        Ok(Effects::of_list(kind, list))
+    }
+}
+
+fn file_id(open: Open) -> [u8; 2] {
+    (open.place as u16).to_le_bytes()
+}

@@ -1,0 +1,53 @@
+//! An engine is whatever serves the four functions.
+
+use crate::calls::{call_explained, Buffers, Numbers};
+use crate::step::{Reply, Step};
+use crate::table::Table;
+
+/// Buffers are lent mutable even where the function may only read, so that a write can be seen.
+pub trait Engine {
+    fn start(&mut self, numbers: [u32; 3], users: &mut [u8], list: &mut [u8]) -> u32;
+
+    fn check(&mut self, image: &mut [u8]) -> u32;
+
+    /// Where the 128 bytes begin in the image, or 0.
+    fn look(&mut self, user: u32, name: &mut [u8], record: u32, image: &mut [u8]) -> u32;
+
+    fn call(&mut self, numbers: Numbers, buffers: Buffers) -> u32;
+
+    /// The replies to those steps that have one. The table is the engine's own from run to run.
+    fn run(&mut self, table: &mut Table, steps: &[&Step]) -> Result<Vec<Reply>, String> {
+        Ok(steps.iter().filter_map(|step| table.serve(self, step)).collect())
+    }
+
+    /// Begins afresh after a breakdown, if the engine can.
+    fn restart(&mut self) -> bool {
+        false
+    }
+}
+
+/// The reference as an engine. `why` is the reason or kind of success of the last call.
+#[derive(Default)]
+pub struct Reference {
+    pub why: &'static str,
+}
+
+impl Engine for Reference {
+    fn start(&mut self, numbers: [u32; 3], users: &mut [u8], list: &mut [u8]) -> u32 {
+        crate::start(numbers[0], numbers[1], numbers[2], users, list)
+    }
+
+    fn check(&mut self, image: &mut [u8]) -> u32 {
+        crate::check(image)
+    }
+
+    fn look(&mut self, user: u32, name: &mut [u8], record: u32, image: &mut [u8]) -> u32 {
+        crate::look(user, name, record, image).map_or(0, |at| at as u32)
+    }
+
+    fn call(&mut self, numbers: Numbers, buffers: Buffers) -> u32 {
+        let (answer, why) = call_explained(numbers, buffers);
+        self.why = why;
+        answer.word()
+    }
+}

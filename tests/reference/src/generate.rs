@@ -1,0 +1,951 @@
+//! Makes sessions at random from a seed: a drive, a list, and calls that run on, with damage,
+//! wrong lengths and wild numbers in between.
+
+use crate::build::{empty_image, place_start, Entry, Fcb};
+use crate::calls::Numbers;
+use crate::coverage::Coverage;
+use crate::damage::{break_directory, break_list};
+use crate::faults::{self, ImageRule, Item, ListRule};
+use crate::history::blocks_of_groups;
+use crate::named;
+use crate::program::{CALL_MARK, START_MARK};
+use crate::random::Random;
+use crate::stage::{Made, Stage};
+use crate::step::{changes, Step};
+use std::collections::BTreeSet;
+
+const NAMES: [&[u8; 11]; 8] = [
+    b"ORDERS  DAT",
+    b"ORDERS  DAU",
+    b"STOCK      ",
+    b"A          ",
+    b"~~~~~~~~~~~",
+    b"!  x   @ yz",
+    b"ordersxxdat",
+    b"QRDERS  DAT",
+];
+
+const ILLEGAL: [&[u8; 11]; 6] = [
+    b" RDERS  DAT",
+    b"ORDERS  DA?",
+    b"?RDERS  DAT",
+    b"ORD\x1fRS  DAT",
+    b"ORDERS \x7fDAT",
+    b"\0\0\0\0\0\0\0\0\0\0\0",
+];
+
+/// Records at the edges of blocks, extents and modules.
+const EDGE_RECORDS: [u32; 24] = [
+    0, 1, 6, 7, 8, 9, 15, 16, 119, 120, 127, 128, 129, 135, 136, 4_095, 4_096, 4_097, 8_191, 262_015,
+    262_016, 262_128, 262_135, 262_143,
+];
+
+const EXTENTS: [u32; 8] = [1, 2, 31, 32, 33, 63, 2_046, 2_047];
+
+const WEIGHTS: [(u32, usize); 13] = [
+    (15, 15),
+    (16, 4),
+    (19, 5),
+    (22, 9),
+    (23, 6),
+    (33, 7),
+    (34, 13),
+    (40, 8),
+    (41, 10),
+    (42, 15),
+    (43, 5),
+    (46, 3),
+    (143, 1),
+];
+
+/// Who takes part in a session.
+struct Cast {
+    users: [u8; 16],
+    processes: Vec<u8>,
+    names: Vec<[u8; 11]>,
+    /// Processes that share files from the beginning and get in each other's way.
+    lively: bool,
+}
+
+/// An open or a lock of the list as it stands.
+#[derive(Clone, Copy)]
+struct Held {
+    place: u8,
+    process: u8,
+    name: [u8; 11],
+    mode: u8,
+    record: u32,
+}
+
+/// Who calls, about which file and, where it matters, which record.
+struct Target {
+    process: u8,
+    name: [u8; 11],
+    record: Option<u32>,
+}
+
+pub struct Generator {
+    random: Random,
+    stage: Stage,
+}
+
+impl Generator {
+    pub fn new(seed: u64) -> Generator {
+        Generator {
+            random: Random::new(seed),
+            stage: Stage::default(),
+        }
+    }
+
+    pub fn coverage(&self) -> &Coverage {
+        &self.stage.coverage
+    }
+
+    /// What the reference did that it should not have.
+    pub fn faults(&self) -> &[String] {
+        self.stage.faults()
+    }
+
+    /// The named cases, each a session.
+    pub fn named(&mut self) -> Vec<(&'static str, Vec<Made>)> {
+        named::CASES
+            .iter()
+            .map(|(case, play)| {
+                named::play(case, *play, &mut self.stage, &mut self.random);
+                (*case, self.stage.take_made())
+            })
+            .collect()
+    }
+
+    /// One session on a drive of its own.
+    pub fn session(&mut self) -> Vec<Made> {
+        let most_blocks = match self.random.below(100) {
+            0..80 => 12,
+            80..92 => 64,
+            92..96 => 255,
+            _ => 256,
+        };
+        self.session_on(most_blocks);
+        self.stage.take_made()
+    }
+
+    /// A drive that the program `mpmcalls` takes, and an input of calls upon it.
+    pub fn program_run(&mut self) -> (Vec<u8>, Vec<u8>) {
+        self.stage.begin();
+        let cast = self.cast();
+        let most_blocks = self.random.pick(&[6, 12, 12, 64]);
+        let mut image = self.drive(&cast, most_blocks, 0xE5);
+        if self.random.chance(10) {
+            self.spoil(&mut image);
+        }
+        self.begin_session(&cast, &image, 0xE5);
+        for _ in 0..self.random.below(40) {
+            let step = match self.random.chance(4) {
+                true => self.a_call_with_wild_byte(&cast),
+                false => self.a_call(&cast),
+            };
+            self.stage.serve(step);
+        }
+        let made = self.stage.take_made();
+        (
+            image,
+            made.iter().flat_map(|made| program_record(&made.step)).collect(),
+        )
+    }
+
+    fn spoil(&mut self, image: &mut Vec<u8>) {
+        let rule = self.random.pick(&ImageRule::ALL);
+        match break_directory(rule, image, &mut self.random) {
+            Some(directory) => image[..2048].copy_from_slice(&directory),
+            None => image.truncate(self.random.below(image.len())),
+        }
+    }
+
+    fn a_call_with_wild_byte(&mut self, cast: &Cast) -> Step {
+        let mut step = self.a_call(cast);
+        if let Step::Call { numbers, .. } = &mut step {
+            let wild = u32::from(self.random.byte());
+            match self.random.below(3) {
+                0 => numbers.function = wild,
+                1 => numbers.process = wild,
+                _ => numbers.count = wild,
+            }
+        }
+        step
+    }
+
+    fn session_on(&mut self, most_blocks: usize) {
+        self.stage.begin();
+        let cast = self.cast();
+        let fill = self.random.pick(&[0xE5, 0, 0x5A]);
+        let image = self.drive(&cast, most_blocks, fill);
+        self.begin_session(&cast, &image, fill);
+        for _ in 0..self.random.between(40, 160) {
+            self.act(&cast);
+        }
+    }
+
+    fn begin_session(&mut self, cast: &Cast, image: &[u8], fill: u8) {
+        self.stage.set_image(image, fill);
+        let length = 1299;
+        let fill = self.random.byte();
+        self.stage.serve(Step::List { length: 0, fill });
+        self.stage.serve(Step::List { length, fill });
+        self.start(cast);
+        if cast.lively {
+            self.share_files(cast);
+        }
+    }
+
+    /// Every process opens every file unlocked, the first one making those that are not there.
+    fn share_files(&mut self, cast: &Cast) {
+        for name in &cast.names {
+            for (number, &process) in cast.processes.iter().enumerate() {
+                let unlocked = Fcb::of(*name).unlocked();
+                self.plain_call(process, 15, unlocked);
+                if number == 0 {
+                    self.plain_call(process, 22, unlocked);
+                    let record = self.random.pick(&EDGE_RECORDS);
+                    self.plain_call(process, 34, unlocked.record(record));
+                }
+            }
+        }
+    }
+
+    fn plain_call(&mut self, process: u8, function: u32, fcb: Fcb) {
+        let numbers = Numbers {
+            function,
+            process: u32::from(process),
+            count: 1,
+        };
+        self.stage.serve(Step::Call {
+            numbers,
+            fcb: fcb.0.to_vec(),
+            dma: vec![process; 256],
+        });
+    }
+
+    fn cast(&mut self) -> Cast {
+        let lively = self.random.chance(60);
+        let mut users = [0; 16];
+        if self.random.chance(if lively { 15 } else { 50 }) {
+            let some = [0, self.random.below(16) as u8, 15];
+            users = std::array::from_fn(|_| self.random.pick(&some));
+        }
+        let mut processes: Vec<u8> = (0..16).collect();
+        self.random.shuffle(&mut processes);
+        processes.truncate(self.random.between(2, 4));
+        let mut names: Vec<[u8; 11]> = NAMES.iter().map(|name| **name).collect();
+        self.random.shuffle(&mut names);
+        names.truncate(match lively {
+            true => self.random.between(1, 2),
+            false => self.random.between(2, 4),
+        });
+        Cast {
+            users,
+            processes,
+            names,
+            lively,
+        }
+    }
+
+    fn start(&mut self, cast: &Cast) {
+        let capacity = match cast.lively {
+            true => self.random.pick(&[4, 5, 6, 8, 10, 16, 24, 40, 64]),
+            false => self.random.pick(&[1, 2, 3, 4, 5, 6, 8, 16, 40, 64]),
+        };
+        let open_limit = self.random.pick(&[1, 2, 2, 3, 4, 64]);
+        let lock_limit = self.random.pick(&[1, 2, 3, 4, 15, 16, 17, 64]);
+        self.stage.serve(Step::Start {
+            numbers: [capacity, open_limit, lock_limit],
+            users: cast.users.to_vec(),
+        });
+    }
+
+    fn drive(&mut self, cast: &Cast, most_blocks: usize, fill: u8) -> Vec<u8> {
+        let blocks = match most_blocks {
+            256 => 256,
+            most => self.random.between(3, most),
+        };
+        let mut image = empty_image(blocks);
+        image[2048..].fill(fill);
+        if self.random.chance(60) {
+            self.spoil_unread_bytes(&mut image);
+        }
+        if self.random.chance(70) {
+            self.add_files(cast, &mut image);
+        }
+        if self.random.chance(25) {
+            self.crowd(&mut image);
+        }
+        image
+    }
+
+    /// Empty entries need only their first byte.
+    fn spoil_unread_bytes(&mut self, image: &mut [u8]) {
+        for entry in image[..2048].chunks_mut(32) {
+            let byte = self.random.byte();
+            entry[1..].fill(byte);
+        }
+    }
+
+    fn empty_slots(&mut self, image: &[u8]) -> Vec<usize> {
+        let mut slots: Vec<usize> = (0..64).filter(|slot| image[32 * slot] == 0xE5).collect();
+        if self.random.chance(50) {
+            self.random.shuffle(&mut slots);
+        }
+        slots
+    }
+
+    fn add_files(&mut self, cast: &Cast, image: &mut [u8]) {
+        let mut slots = self.empty_slots(image).into_iter();
+        let mut free: Vec<u8> = (2..image.len() / 1024).map(|block| block as u8).collect();
+        self.random.shuffle(&mut free);
+        let users: BTreeSet<u8> = cast
+            .processes
+            .iter()
+            .map(|&process| cast.users[usize::from(process)])
+            .collect();
+        for user in users {
+            for name in &cast.names {
+                if self.random.chance(40) {
+                    continue;
+                }
+                for extent in self.some_extents() {
+                    let entry = self.an_entry(user, *name, extent, &mut free);
+                    let Some(slot) = slots.next() else {
+                        return;
+                    };
+                    image[32 * slot..32 * slot + 32].copy_from_slice(&entry.0);
+                }
+            }
+        }
+    }
+
+    /// Extent 0, which a file must have, and perhaps others.
+    fn some_extents(&mut self) -> BTreeSet<u32> {
+        let mut extents = BTreeSet::from([0]);
+        while self.random.chance(35) {
+            extents.insert(self.random.pick(&EXTENTS));
+        }
+        extents
+    }
+
+    fn an_entry(&mut self, user: u8, name: [u8; 11], extent: u32, free: &mut Vec<u8>) -> Entry {
+        let mut entry = Entry::of(user, name, extent)
+            .with(13, self.random.byte())
+            .count(self.random.below(129) as u8);
+        if self.random.chance(40) {
+            for at in 1..12 {
+                entry.0[at] |= self.random.byte() & 128;
+            }
+        }
+        if !self.random.chance(15) {
+            entry.0[9] &= 127;
+        }
+        for index in [0, 1, self.random.below(16), 15] {
+            if self.random.chance(45) && entry.0[16 + index] == 0 {
+                entry.0[16 + index] = free.pop().unwrap_or(0);
+            }
+        }
+        entry
+    }
+
+    /// Leaves at most two entries empty.
+    fn crowd(&mut self, image: &mut [u8]) {
+        let slots = self.empty_slots(image);
+        let leave = self.random.below(3);
+        for (extent, slot) in slots.into_iter().skip(leave).enumerate() {
+            let entry = Entry::of(7, *b"FILLER  XXX", extent as u32);
+            image[32 * slot..32 * slot + 32].copy_from_slice(&entry.0);
+        }
+    }
+
+    fn act(&mut self, cast: &Cast) {
+        match self.random.below(100) {
+            0..2 => self.with_damaged_directory(cast),
+            2..4 => self.with_damaged_list(cast),
+            4 => self.with_wrong_image_length(cast),
+            5 => self.with_wrong_list_length(cast),
+            6 => self.with_wrong_length(cast),
+            7 => self.with_wild_number(cast),
+            8..11 => self.look(cast),
+            11 => {
+                self.stage.serve(Step::Check);
+            }
+            12 => self.shuffle_places(),
+            13 => self.start_again(cast),
+            14..16 => self.with_stray_bytes(cast),
+            _ => self.call(cast),
+        }
+    }
+
+    fn call(&mut self, cast: &Cast) {
+        let step = self.a_call(cast);
+        self.stage.serve(step);
+    }
+
+    fn a_call(&mut self, cast: &Cast) -> Step {
+        let function = self.function();
+        self.a_call_of(function, cast)
+    }
+
+    fn function(&mut self) -> u32 {
+        let total = WEIGHTS.iter().map(|(_, weight)| weight).sum();
+        let mut at = self.random.below(total);
+        for (function, weight) in WEIGHTS {
+            if at < weight {
+                return function;
+            }
+            at -= weight;
+        }
+        46
+    }
+
+    fn a_call_of(&mut self, function: u32, cast: &Cast) -> Step {
+        let Target {
+            process,
+            name,
+            record,
+        } = self.target(function, cast);
+        let user = cast.users[usize::from(process)];
+        let open = self
+            .opens()
+            .into_iter()
+            .find(|open| open.process == process && open.name == name);
+        let record = record.unwrap_or_else(|| self.record(user, &name, cast));
+        let fcb = self.fcb(function, name, record, open, cast);
+        let dma = self.dma(function, user, &name, record, open);
+        let numbers = Numbers {
+            function,
+            process: u32::from(process),
+            count: self.count(),
+        };
+        Step::Call { numbers, fcb, dma }
+    }
+
+    fn target(&mut self, function: u32, cast: &Cast) -> Target {
+        let is_of_records = matches!(function, 33 | 34 | 40..=43);
+        if is_of_records && self.random.chance(35) {
+            if let Some(target) = self.contested_record(cast) {
+                return target;
+            }
+        }
+        if (is_of_records || function == 16) && self.random.chance(85) {
+            let opens = self.opens();
+            if let Some(open) = self.random.pick_any(&opens) {
+                return Target {
+                    process: open.process,
+                    name: open.name,
+                    record: None,
+                };
+            }
+        }
+        let process = self.process(cast);
+        Target {
+            process,
+            name: self.name_for(function, process, cast),
+            record: None,
+        }
+    }
+
+    /// A record that is locked, or one a little before it, for its holder or for a rival.
+    fn contested_record(&mut self, cast: &Cast) -> Option<Target> {
+        let locks = self.locks();
+        let lock = self.random.pick_any(&locks)?;
+        let user = |process: u8| cast.users[usize::from(process)];
+        let rivals: Vec<Held> = self
+            .opens()
+            .into_iter()
+            .filter(|open| open.process != lock.process && open.name == lock.name)
+            .filter(|open| user(open.process) == user(lock.process))
+            .collect();
+        let rival = self.random.pick_any(&rivals).filter(|_| self.random.chance(60));
+        let back = self.random.pick(&[0, 0, 0, 1, 2]);
+        Some(Target {
+            process: rival.map_or(lock.process, |rival| rival.process),
+            name: lock.name,
+            record: Some(lock.record.saturating_sub(back)),
+        })
+    }
+
+    fn process(&mut self, cast: &Cast) -> u8 {
+        match self.random.chance(97) {
+            true => self.random.pick(&cast.processes),
+            false => self.random.below(16) as u8,
+        }
+    }
+
+    fn count(&mut self) -> u32 {
+        match self.random.below(100) {
+            0..60 => 1,
+            60..75 => 2,
+            75..82 => 16,
+            82 => 0,
+            83 => 17,
+            _ => self.random.between(1, 16) as u32,
+        }
+    }
+
+    fn opens(&self) -> Vec<Held> {
+        self.held(|item| item.is_open())
+    }
+
+    fn locks(&self) -> Vec<Held> {
+        self.held(|item| item.is_lock())
+    }
+
+    fn held(&self, is_wanted: impl Fn(&Item) -> bool) -> Vec<Held> {
+        let list = self.stage.list();
+        if list.len() != 1299 {
+            return Vec::new();
+        }
+        faults::items(list)
+            .iter()
+            .filter(|(_, item)| is_wanted(item) && item.process() < 16)
+            .map(|(place, item)| Held {
+                place: *place as u8,
+                process: item.process(),
+                name: std::array::from_fn(|i| item.name()[i]),
+                mode: item.mode(),
+                record: item.record(),
+            })
+            .collect()
+    }
+
+    fn name_for(&mut self, function: u32, process: u8, cast: &Cast) -> [u8; 11] {
+        if self.random.chance(3) {
+            return *self.random.pick(&ILLEGAL);
+        }
+        if function == 22 && self.random.chance(40) {
+            return self.fresh_name();
+        }
+        if matches!(function, 19 | 23) && self.random.chance(60) {
+            if let Some(name) = self.idle_file(cast.users[usize::from(process)]) {
+                return name;
+            }
+        }
+        self.random.pick(&cast.names)
+    }
+
+    fn fresh_name(&mut self) -> [u8; 11] {
+        let mut name = *b"NEW     TMP";
+        name[3] = b'0' + self.random.below(10) as u8;
+        name
+    }
+
+    /// A file on the image that nobody has open.
+    fn idle_file(&mut self, user: u8) -> Option<[u8; 11]> {
+        if self.stage.image().len() < 2048 || self.stage.list().len() != 1299 {
+            return None;
+        }
+        let open: BTreeSet<Vec<u8>> = faults::items(self.stage.list())
+            .iter()
+            .map(|(_, item)| item.name().to_vec())
+            .collect();
+        let idle: Vec<[u8; 11]> = faults::used_entries(self.stage.image())
+            .filter(|entry| entry[0] == user)
+            .map(|entry| std::array::from_fn(|i| entry[1 + i] & 127))
+            .filter(|name: &[u8; 11]| !open.contains(&name[..]))
+            .collect();
+        self.random.pick_any(&idle)
+    }
+
+    fn record(&mut self, user: u8, name: &[u8; 11], cast: &Cast) -> u32 {
+        if cast.lively && self.random.chance(50) {
+            if let Some(record) = self.record_with_block(user, name) {
+                return record;
+            }
+        }
+        match self.random.below(100) {
+            0..50 => self
+                .record_with_block(user, name)
+                .unwrap_or_else(|| self.random.below(20) as u32),
+            50..85 => self.random.pick(&EDGE_RECORDS),
+            85..92 => self.random.below(300) as u32,
+            92..96 => self.random.below(262_144) as u32,
+            _ => self
+                .random
+                .pick(&[262_144, 262_145, 262_159, 0x40_0000, 0xFF_0000, 0xFF_FFFF]),
+        }
+    }
+
+    /// A record of a block that the file has, or one just beside it.
+    fn record_with_block(&mut self, user: u8, name: &[u8; 11]) -> Option<u32> {
+        if self.stage.image().len() < 2048 {
+            return None;
+        }
+        let groups: Vec<u32> = blocks_of_groups(self.stage.image())
+            .iter()
+            .filter(|(group, _)| group.file.user == user && group.file.name == *name)
+            .map(|(group, _)| group.number)
+            .collect();
+        let first = 8 * self.random.pick_any(&groups)?;
+        let offset = self.random.between(0, 9) as u32;
+        Some((first + offset).saturating_sub(u32::from(offset == 9) * 10))
+    }
+
+    fn fcb(
+        &mut self,
+        function: u32,
+        name: [u8; 11],
+        record: u32,
+        open: Option<Held>,
+        cast: &Cast,
+    ) -> Vec<u8> {
+        let mut fcb = match self.random.chance(50) {
+            true => self.random.bytes(36),
+            false => vec![0; 36],
+        };
+        fcb[0] = match self.random.chance(97) {
+            true => self.random.below(2) as u8,
+            false => self.random.pick(&[2, 3, 16, 0x80, 0x81, 0xE5, 0xFF]),
+        };
+        fcb[1..12].copy_from_slice(&name);
+        if self.random.chance(30) {
+            self.add_high_bits(&mut fcb[1..12]);
+        }
+        self.ask_mode(&mut fcb, open);
+        if function == 23 {
+            let new = self.new_name(name, cast);
+            fcb[17..28].copy_from_slice(&new);
+            if self.random.chance(30) {
+                self.add_high_bits(&mut fcb[17..28]);
+            }
+        }
+        fcb[33..36].copy_from_slice(&record.to_le_bytes()[..3]);
+        fcb
+    }
+
+    fn add_high_bits(&mut self, bytes: &mut [u8]) {
+        for byte in bytes {
+            *byte |= self.random.byte() & 128;
+        }
+    }
+
+    fn ask_mode(&mut self, fcb: &mut [u8], open: Option<Held>) {
+        let same = open.filter(|_| self.random.chance(70)).map(|open| open.mode);
+        let mode = same.unwrap_or_else(|| self.random.pick(&[0, 1, 1, 1, 1, 1, 2, 2, 3]));
+        let bits = [(5, mode & 1 != 0), (6, mode & 2 != 0)];
+        for (at, high) in bits {
+            fcb[at] = (fcb[at] & 127) | (u8::from(high) << 7);
+        }
+    }
+
+    fn new_name(&mut self, old: [u8; 11], cast: &Cast) -> [u8; 11] {
+        match self.random.below(100) {
+            0..5 => *self.random.pick(&ILLEGAL),
+            5..15 => old,
+            15..50 => self.fresh_name(),
+            _ => self.random.pick(&cast.names),
+        }
+    }
+
+    fn dma(&mut self, function: u32, user: u8, name: &[u8; 11], record: u32, open: Option<Held>) -> Vec<u8> {
+        let mut dma = match self.random.chance(50) {
+            true => self.random.bytes(256),
+            false => vec![self.random.byte(); 256],
+        };
+        match (function, open) {
+            (42 | 43, Some(open)) => self.put_file_id(&mut dma, open),
+            (41, _) => self.put_tested_record(&mut dma, user, name, record),
+            _ => {}
+        }
+        dma
+    }
+
+    fn put_file_id(&mut self, dma: &mut [u8], open: Held) {
+        let (low, high) = match self.random.below(100) {
+            0..90 => (open.place, 0),
+            90..94 => (self.random.byte(), 0),
+            94..97 => (open.place, self.random.pick(&[1, 128, 255])),
+            _ => return,
+        };
+        dma[..2].copy_from_slice(&[low, high]);
+    }
+
+    fn put_tested_record(&mut self, dma: &mut [u8], user: u8, name: &[u8; 11], record: u32) {
+        let image = self.stage.image();
+        let Some(at) = crate::look(u32::from(user), name, record, image) else {
+            return;
+        };
+        if self.random.chance(10) {
+            return;
+        }
+        dma[..128].copy_from_slice(&image[at..at + 128]);
+        if self.random.chance(15) {
+            let different = self.random.pick(&[0, 1, 63, 126, 127]);
+            dma[different] ^= 1 << self.random.below(8);
+        }
+    }
+
+    fn look(&mut self, cast: &Cast) {
+        let (user, mut name) = self.file_to_look_at(cast);
+        let record = self.record(user, &name, cast);
+        if self.random.chance(20) {
+            self.add_high_bits(&mut name);
+        }
+        let mut step = (u32::from(user), name.to_vec(), record);
+        match self.random.below(20) {
+            0 => step.0 += self.random.pick(&[16, 256, 0x1_0000, 0x8000_0000]),
+            1 => step.1.truncate(self.random.below(11)),
+            2 => step.1.push(b' '),
+            3 => step.1 = self.random.pick(&ILLEGAL).to_vec(),
+            4 => {
+                step.2 = step
+                    .2
+                    .wrapping_add(self.random.pick(&[262_144, 0x100_0000, u32::MAX]))
+            }
+            _ => {}
+        }
+        let (user, name, record) = step;
+        self.stage.serve(Step::Look { user, name, record });
+    }
+
+    fn file_to_look_at(&mut self, cast: &Cast) -> (u8, [u8; 11]) {
+        if self.stage.image().len() >= 2048 && self.random.chance(60) {
+            let blocks = blocks_of_groups(self.stage.image());
+            if let Some((group, _)) = self.random.pick_any(&blocks) {
+                return (group.file.user, group.file.name);
+            }
+        }
+        let process = self.process(cast);
+        (cast.users[usize::from(process)], self.random.pick(&cast.names))
+    }
+
+    /// Moves items to other places, which may not matter to anybody.
+    fn shuffle_places(&mut self) {
+        let capacity = usize::from(self.stage.list()[0]);
+        let at = place_start(0);
+        let mut places: Vec<Vec<u8>> = self.stage.list()[at..place_start(capacity)]
+            .chunks(20)
+            .map(<[u8]>::to_vec)
+            .collect();
+        self.random.shuffle(&mut places);
+        let bytes = places.concat();
+        self.stage.serve(Step::PatchList { at, bytes });
+    }
+
+    /// A Start that is refused, and now and then one that is not.
+    fn start_again(&mut self, cast: &Cast) {
+        if self.random.chance(20) {
+            return self.start(cast);
+        }
+        let mut numbers = [1, 2, 64];
+        let mut users = cast.users.to_vec();
+        match self.random.below(4) {
+            0 => users[self.random.below(16)] = self.random.pick(&[16, 0x80, 0xFF]),
+            1 => users.truncate(self.random.below(16)),
+            2 => users.push(0),
+            _ => numbers[self.random.below(3)] = self.random.pick(&[0, 65, 256, 257, 320, u32::MAX]),
+        }
+        self.stage.serve(Step::Start { numbers, users });
+    }
+
+    fn with_wrong_length(&mut self, cast: &Cast) {
+        let mut step = self.a_call(cast);
+        if let Step::Call { fcb, dma, .. } = &mut step {
+            match self.random.chance(50) {
+                true => fcb.resize(self.random.pick(&[0, 1, 34, 35, 37, 72]), 0),
+                false => dma.resize(self.random.pick(&[0, 1, 128, 255, 257, 512]), 0),
+            }
+        }
+        self.stage.serve(step);
+    }
+
+    fn with_wild_number(&mut self, cast: &Cast) {
+        let mut step = self.a_call(cast);
+        if let Step::Call { numbers, .. } = &mut step {
+            match self.random.below(3) {
+                0 => numbers.function = self.wild_function(numbers.function),
+                1 => numbers.process = self.wild(numbers.process, &[16, 17, 255]),
+                _ => numbers.count = self.wild(numbers.count, &[0, 17, 255]),
+            }
+        }
+        self.stage.serve(step);
+    }
+
+    fn wild_function(&mut self, function: u32) -> u32 {
+        match self.random.chance(50) {
+            true => self.wild(function, &[0, 14, 17, 20, 24, 32, 35, 44, 47, 142, 144, 255]),
+            false => self.random.below(256) as u32,
+        }
+    }
+
+    /// One of these, or a number whose low byte alone would do.
+    fn wild(&mut self, good: u32, plain: &[u32]) -> u32 {
+        match self.random.chance(50) {
+            true => self.random.pick(plain),
+            false => good + self.random.pick(&[256, 512, 0x1_0000, 0x100_0000, 0x8000_0000]),
+        }
+    }
+
+    fn with_damaged_directory(&mut self, cast: &Cast) {
+        let rule = self.random.pick(&ImageRule::ALL);
+        let before = self.stage.image()[..2048].to_vec();
+        let Some(damaged) = break_directory(rule, self.stage.image(), &mut self.random) else {
+            return;
+        };
+        self.stage.coverage.note_image_rule(rule);
+        self.stage.damaged();
+        self.patch_image(&before, &damaged);
+        if self.random.chance(30) {
+            self.stage.serve(Step::Check);
+            self.look(cast);
+        }
+        for _ in 0..self.random.between(1, 3) {
+            self.call(cast);
+        }
+        self.patch_image(&damaged, &before);
+        self.stage.repaired();
+    }
+
+    fn patch_image(&mut self, from: &[u8], to: &[u8]) {
+        for change in changes(from, to).into_iter().flatten() {
+            self.stage.serve(Step::PatchImage {
+                at: change.at,
+                bytes: change.bytes,
+            });
+        }
+    }
+
+    fn with_damaged_list(&mut self, cast: &Cast) {
+        let rule = self.random.pick(&ListRule::ALL);
+        let before = self.stage.list().to_vec();
+        let Some(damaged) = break_list(rule, &before, self.stage.image(), &mut self.random) else {
+            return;
+        };
+        self.stage.coverage.note_list_rule(rule);
+        self.stage.damaged();
+        self.patch_list(&before, &damaged);
+        for _ in 0..self.random.between(1, 3) {
+            self.call(cast);
+        }
+        self.patch_list(&damaged, &before);
+        self.stage.repaired();
+    }
+
+    fn patch_list(&mut self, from: &[u8], to: &[u8]) {
+        for change in changes(from, to).into_iter().flatten() {
+            self.stage.serve(Step::PatchList {
+                at: change.at,
+                bytes: change.bytes,
+            });
+        }
+    }
+
+    /// A few bytes of the directory and the list become others, which may or may not be sound.
+    fn with_stray_bytes(&mut self, cast: &Cast) {
+        const QUICKLY_PUT_BACK: usize = 16 * 1024;
+        let (image, list) = (self.stage.image().to_vec(), self.stage.list().to_vec());
+        if image.len() > QUICKLY_PUT_BACK {
+            return;
+        }
+        self.stage.damaged();
+        for _ in 0..self.random.between(1, 2) {
+            self.stray_byte(&image, &list);
+        }
+        self.stage.serve(Step::Check);
+        self.look(cast);
+        for _ in 0..self.random.between(1, 4) {
+            self.call(cast);
+        }
+        self.stage.set_image(&image, 0xE5);
+        self.stage.set_list(&list);
+        self.stage.repaired();
+    }
+
+    fn stray_byte(&mut self, image: &[u8], list: &[u8]) {
+        let blocks = image.len() / 1024;
+        let any = self.random.byte();
+        let edges = [
+            0,
+            1,
+            2,
+            15,
+            16,
+            31,
+            32,
+            63,
+            64,
+            65,
+            127,
+            128,
+            129,
+            0xE5,
+            blocks - 1,
+            blocks,
+        ];
+        let edge = self.random.pick(&edges) as u8;
+        let bytes = vec![self.random.pick(&[any, edge, edge])];
+        if self.random.chance(50) {
+            let at = self.random.below(2048);
+            self.stage.serve(Step::PatchImage { at, bytes });
+            return;
+        }
+        let used = place_start(usize::from(list[0]).min(64));
+        let at = self.random.below(used);
+        self.stage.serve(Step::PatchList { at, bytes });
+    }
+
+    fn with_wrong_list_length(&mut self, cast: &Cast) {
+        let before = self.stage.list().to_vec();
+        let length = self.random.pick(&[0, 19, 1279, 1298, 1300, 1319, 2598]);
+        self.stage.damaged();
+        self.stage.serve(Step::List { length, fill: 0 });
+        self.call(cast);
+        if self.random.chance(20) {
+            self.start(cast);
+        }
+        self.stage.set_list(&before);
+        self.stage.repaired();
+    }
+
+    /// The wrong lengths keep to what is quickly put back.
+    fn with_wrong_image_length(&mut self, cast: &Cast) {
+        let length = self.stage.image().len();
+        let wrong = match (length, self.random.below(4)) {
+            (262_144, 0..2) => 257 * 1024,
+            (..=12_288, 0) => self.random.pick(&[0, 1, 1024, 2048, 2049]),
+            (_, 1) => length - 1,
+            (_, 2) => length + 512,
+            _ => length + 1,
+        };
+        let tail = self.stage.image()[wrong.min(length)..].to_vec();
+        self.stage.coverage.note_image_rule(ImageRule::Length);
+        self.stage.damaged();
+        self.resize_image(wrong);
+        if self.random.chance(30) {
+            self.stage.serve(Step::Check);
+            self.look(cast);
+        }
+        self.call(cast);
+        self.resize_image(length);
+        if !tail.is_empty() {
+            self.stage.serve(Step::PatchImage {
+                at: wrong,
+                bytes: tail,
+            });
+        }
+        self.stage.repaired();
+    }
+
+    fn resize_image(&mut self, length: usize) {
+        self.stage.serve(Step::Image { length, fill: 0xE5 });
+    }
+}
+
+/// The step as a record of the program's input; nothing for steps that are none.
+fn program_record(step: &Step) -> Vec<u8> {
+    match step {
+        Step::Start { numbers, users } => {
+            let numbers = numbers.map(|number| number as u8);
+            [&START_MARK[..], &numbers, users].concat()
+        }
+        Step::Call { numbers, fcb, dma } => {
+            let numbers = [numbers.function, numbers.process, numbers.count].map(|number| number as u8);
+            [&CALL_MARK[..], &numbers, fcb, dma].concat()
+        }
+        _ => Vec::new(),
+    }
+}

@@ -1,0 +1,85 @@
+//! A second, independent program for the rules of the scope document.
+
+pub mod answer;
+pub mod build;
+pub mod calls;
+pub mod comparison;
+pub mod coverage;
+pub mod damage;
+pub mod drive;
+pub mod engine;
+pub mod faults;
+pub mod generate;
+pub mod history;
+#[cfg(feature = "linked")]
+pub mod linked;
+pub mod locks;
+pub mod name;
+pub mod named;
+pub mod pipe;
+pub mod program;
+pub mod program_cases;
+pub mod random;
+pub mod stage;
+pub mod step;
+pub mod table;
+pub mod wire;
+
+pub use program::mpmcalls;
+
+use answer::Answer;
+use calls::{Buffers, Numbers};
+use drive::{Drive, Fault};
+use locks::{LockList, LIST_LENGTH};
+use name::{File, Name};
+
+pub fn start(capacity: u32, open_limit: u32, lock_limit: u32, users: &[u8], list: &mut [u8]) -> u32 {
+    let fresh = LockList::fresh(capacity, open_limit, lock_limit, users);
+    let (Some(fresh), LIST_LENGTH) = (fresh, list.len()) else {
+        return Answer::extended(13).word();
+    };
+    list.copy_from_slice(&fresh.write());
+    Answer::SUCCESS.word()
+}
+
+/// 0 sound, 1 wrong length, 2 unsound directory.
+pub fn check(image: &[u8]) -> u32 {
+    match Drive::read(image) {
+        Ok(_) => 0,
+        Err(Fault::Length) => 1,
+        Err(Fault::Directory) => 2,
+    }
+}
+
+/// Where the record's 128 bytes begin in the image.
+pub fn look(user: u32, name: &[u8], record: u32, image: &[u8]) -> Option<usize> {
+    let drive = Drive::read(image).ok()?;
+    let user = u8::try_from(user).ok().filter(|&user| user <= 15)?;
+    let name = Name::read(name)?;
+    let block = drive.block(&File { user, name }, record)?;
+    Some(drive::record_start(block, record))
+}
+
+/// A + 256·H.
+pub fn call(
+    function: u32,
+    process: u32,
+    count: u32,
+    fcb: &mut [u8],
+    dma: &mut [u8],
+    list: &mut [u8],
+    image: &mut [u8],
+) -> u32 {
+    let numbers = Numbers {
+        function,
+        process,
+        count,
+    };
+    let buffers = Buffers {
+        fcb,
+        dma,
+        list,
+        image,
+    };
+    calls::call_explained(numbers, buffers).0.word()
+}

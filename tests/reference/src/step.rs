@@ -1,0 +1,142 @@
+//! What is asked of an engine, step by step, and what it replies.
+
+use crate::calls::Numbers;
+
+/// The longest buffers that a step may set; the pipe's other end has areas of these sizes.
+pub const MAX_IMAGE: usize = 258 * 1024;
+pub const MAX_LIST: usize = 4096;
+
+#[derive(Clone, Debug, PartialEq, Eq)]
+pub enum Step {
+    /// The image gets this length: it is cut, or lengthened with the fill byte.
+    Image {
+        length: usize,
+        fill: u8,
+    },
+    PatchImage {
+        at: usize,
+        bytes: Vec<u8>,
+    },
+    /// The list gets this length.
+    List {
+        length: usize,
+        fill: u8,
+    },
+    PatchList {
+        at: usize,
+        bytes: Vec<u8>,
+    },
+    Start {
+        numbers: [u32; 3],
+        users: Vec<u8>,
+    },
+    Call {
+        numbers: Numbers,
+        fcb: Vec<u8>,
+        dma: Vec<u8>,
+    },
+    Check,
+    Look {
+        user: u32,
+        name: Vec<u8>,
+        record: u32,
+    },
+}
+
+impl Step {
+    pub fn is_answered(&self) -> bool {
+        matches!(
+            self,
+            Step::Start { .. } | Step::Call { .. } | Step::Check | Step::Look { .. }
+        )
+    }
+}
+
+/// Bytes that an engine has changed.
+#[derive(Clone, Debug, PartialEq, Eq)]
+pub struct Change {
+    pub at: usize,
+    pub bytes: Vec<u8>,
+}
+
+/// The changes of one buffer; None if they are more than any right call makes.
+pub type Changes = Option<Vec<Change>>;
+
+pub const MAX_CHANGES: usize = 1024;
+pub const MAX_CHANGED_BYTES: usize = 4096;
+
+/// The buffers of a reply, in order. Start's users and Look's name stand in the FCB's place.
+pub const BUFFERS: [&str; 4] = ["FCB", "DMA", "list", "image"];
+
+#[derive(Clone, Debug, PartialEq, Eq)]
+pub struct Reply {
+    pub answer: u32,
+    /// A bit for each buffer whose guard bytes were overwritten.
+    pub broken_guards: u8,
+    pub changes: [Changes; 4],
+}
+
+/// The longest runs of differing bytes.
+pub fn changes(before: &[u8], after: &[u8]) -> Changes {
+    let mut found: Vec<Change> = Vec::new();
+    let mut changed_bytes = 0;
+    const STRIDE: usize = 256;
+    let strides = before.chunks(STRIDE).zip(after.chunks(STRIDE));
+    for (number, (old, new)) in strides.enumerate().filter(|(_, (old, new))| old != new) {
+        for (offset, (_, &byte)) in old.iter().zip(new).enumerate().filter(|(_, (a, b))| a != b) {
+            changed_bytes += 1;
+            extend(&mut found, STRIDE * number + offset, byte);
+        }
+        if found.len() > MAX_CHANGES || changed_bytes > MAX_CHANGED_BYTES {
+            return None;
+        }
+    }
+    Some(found)
+}
+
+fn extend(found: &mut Vec<Change>, at: usize, byte: u8) {
+    match found.last_mut() {
+        Some(last) if last.at + last.bytes.len() == at => last.bytes.push(byte),
+        _ => found.push(Change {
+            at,
+            bytes: vec![byte],
+        }),
+    }
+}
+
+/// The steps that give the image these bytes, whatever it was before.
+pub fn set_image(bytes: &[u8], fill: u8) -> Vec<Step> {
+    let mut steps = vec![
+        Step::Image { length: 0, fill: 0 },
+        Step::Image {
+            length: bytes.len(),
+            fill,
+        },
+    ];
+    let patches = patches(bytes, fill).map(|(at, bytes)| Step::PatchImage { at, bytes });
+    steps.extend(patches);
+    steps
+}
+
+pub fn set_list(bytes: &[u8]) -> Vec<Step> {
+    let mut steps = vec![
+        Step::List { length: 0, fill: 0 },
+        Step::List {
+            length: bytes.len(),
+            fill: 0,
+        },
+    ];
+    let patches = patches(bytes, 0).map(|(at, bytes)| Step::PatchList { at, bytes });
+    steps.extend(patches);
+    steps
+}
+
+/// The parts of the bytes that are not all filling.
+fn patches(bytes: &[u8], fill: u8) -> impl Iterator<Item = (usize, Vec<u8>)> + '_ {
+    const PART: usize = 1024;
+    (0..)
+        .step_by(PART)
+        .zip(bytes.chunks(PART))
+        .filter(move |(_, part)| part.iter().any(|&byte| byte != fill))
+        .map(|(at, part)| (at, part.to_vec()))
+}

@@ -1,0 +1,212 @@
+//! Steps and replies as bytes: for the pipe, and for cases kept in a file. Numbers are
+//! little-endian.
+//!
+//! Step:   'I' length(4) fill(1)              the image gets this length
+//!         'i' at(4) n(2) bytes               a part of it gets these bytes
+//!         'L', 'l'                           the same for the list
+//!         'S' capacity(4) open limit(4) lock limit(4) n(2) users
+//!         'C' function(4) process(4) count(4) n(2) FCB n(2) DMA
+//!         'K'                                check the image
+//!         'V' user(4) record(4) n(2) name    look
+//! Reply, to S, C, K and V:
+//!         'A' broken guards(1) answer(4), then for users or FCB or name, DMA, list and image:
+//!         n(2), and n times at(4) n(2) bytes; n of 65,535 means too many to tell.
+
+use crate::calls::Numbers;
+use crate::step::{Change, Changes, Reply, Step, MAX_CHANGED_BYTES, MAX_CHANGES, MAX_IMAGE, MAX_LIST};
+use std::io::{self, Read};
+
+const TOO_MANY: u16 = u16::MAX;
+
+fn put_number(number: usize, out: &mut Vec<u8>) {
+    out.extend((number as u32).to_le_bytes());
+}
+
+fn put_bytes(bytes: &[u8], out: &mut Vec<u8>) {
+    out.extend((bytes.len() as u16).to_le_bytes());
+    out.extend(bytes);
+}
+
+fn put_length(tag: u8, length: usize, fill: u8, out: &mut Vec<u8>) {
+    out.push(tag);
+    put_number(length, out);
+    out.push(fill);
+}
+
+fn put_patch(tag: u8, at: usize, bytes: &[u8], out: &mut Vec<u8>) {
+    out.push(tag);
+    put_number(at, out);
+    put_bytes(bytes, out);
+}
+
+fn put_numbers(tag: u8, numbers: &[u32], out: &mut Vec<u8>) {
+    out.push(tag);
+    for number in numbers {
+        out.extend(number.to_le_bytes());
+    }
+}
+
+pub fn put_step(step: &Step, out: &mut Vec<u8>) {
+    match step {
+        Step::Image { length, fill } => put_length(b'I', *length, *fill, out),
+        Step::List { length, fill } => put_length(b'L', *length, *fill, out),
+        Step::PatchImage { at, bytes } => put_patch(b'i', *at, bytes, out),
+        Step::PatchList { at, bytes } => put_patch(b'l', *at, bytes, out),
+        Step::Start { numbers, users } => {
+            put_numbers(b'S', numbers, out);
+            put_bytes(users, out);
+        }
+        Step::Call { numbers, fcb, dma } => {
+            put_numbers(b'C', &[numbers.function, numbers.process, numbers.count], out);
+            put_bytes(fcb, out);
+            put_bytes(dma, out);
+        }
+        Step::Check => out.push(b'K'),
+        Step::Look { user, name, record } => {
+            put_numbers(b'V', &[*user, *record], out);
+            put_bytes(name, out);
+        }
+    }
+}
+
+pub fn put_reply(reply: &Reply, out: &mut Vec<u8>) {
+    out.extend([b'A', reply.broken_guards]);
+    out.extend(reply.answer.to_le_bytes());
+    for changes in &reply.changes {
+        let Some(changes) = changes else {
+            out.extend(TOO_MANY.to_le_bytes());
+            continue;
+        };
+        out.extend((changes.len() as u16).to_le_bytes());
+        for change in changes {
+            put_number(change.at, out);
+            put_bytes(&change.bytes, out);
+        }
+    }
+}
+
+fn malformed(what: &str) -> io::Error {
+    io::Error::new(io::ErrorKind::InvalidData, what.to_string())
+}
+
+fn get<const N: usize>(from: &mut impl Read) -> io::Result<[u8; N]> {
+    let mut bytes = [0; N];
+    from.read_exact(&mut bytes)?;
+    Ok(bytes)
+}
+
+fn get_u8(from: &mut impl Read) -> io::Result<u8> {
+    Ok(get::<1>(from)?[0])
+}
+
+fn get_u16(from: &mut impl Read) -> io::Result<u16> {
+    Ok(u16::from_le_bytes(get(from)?))
+}
+
+fn get_u32(from: &mut impl Read) -> io::Result<u32> {
+    Ok(u32::from_le_bytes(get(from)?))
+}
+
+fn get_at_most(limit: usize, from: &mut impl Read) -> io::Result<usize> {
+    let number = get_u32(from)? as usize;
+    if number > limit {
+        return Err(malformed("too long"));
+    }
+    Ok(number)
+}
+
+fn get_bytes(from: &mut impl Read) -> io::Result<Vec<u8>> {
+    let mut bytes = vec![0; usize::from(get_u16(from)?)];
+    from.read_exact(&mut bytes)?;
+    Ok(bytes)
+}
+
+fn get_tag(from: &mut impl Read) -> io::Result<Option<u8>> {
+    let mut tag = [0];
+    match from.read(&mut tag)? {
+        0 => Ok(None),
+        _ => Ok(Some(tag[0])),
+    }
+}
+
+/// The next step; None at the end.
+pub fn get_step(from: &mut impl Read) -> io::Result<Option<Step>> {
+    let Some(tag) = get_tag(from)? else {
+        return Ok(None);
+    };
+    let step = match tag {
+        b'I' => Step::Image {
+            length: get_at_most(MAX_IMAGE, from)?,
+            fill: get_u8(from)?,
+        },
+        b'L' => Step::List {
+            length: get_at_most(MAX_LIST, from)?,
+            fill: get_u8(from)?,
+        },
+        b'i' => Step::PatchImage {
+            at: get_at_most(MAX_IMAGE, from)?,
+            bytes: get_bytes(from)?,
+        },
+        b'l' => Step::PatchList {
+            at: get_at_most(MAX_LIST, from)?,
+            bytes: get_bytes(from)?,
+        },
+        b'S' => Step::Start {
+            numbers: [get_u32(from)?, get_u32(from)?, get_u32(from)?],
+            users: get_bytes(from)?,
+        },
+        b'C' => Step::Call {
+            numbers: Numbers {
+                function: get_u32(from)?,
+                process: get_u32(from)?,
+                count: get_u32(from)?,
+            },
+            fcb: get_bytes(from)?,
+            dma: get_bytes(from)?,
+        },
+        b'K' => Step::Check,
+        b'V' => Step::Look {
+            user: get_u32(from)?,
+            record: get_u32(from)?,
+            name: get_bytes(from)?,
+        },
+        _ => return Err(malformed("unknown step")),
+    };
+    Ok(Some(step))
+}
+
+pub fn get_reply(from: &mut impl Read) -> io::Result<Reply> {
+    if get_u8(from)? != b'A' {
+        return Err(malformed("not a reply"));
+    }
+    let broken_guards = get_u8(from)?;
+    let answer = get_u32(from)?;
+    let mut changes = [None, None, None, None];
+    for one in &mut changes {
+        *one = get_changes(from)?;
+    }
+    Ok(Reply {
+        answer,
+        broken_guards,
+        changes,
+    })
+}
+
+fn get_changes(from: &mut impl Read) -> io::Result<Changes> {
+    let number = get_u16(from)?;
+    if number == TOO_MANY {
+        return Ok(None);
+    }
+    let mut changes = Vec::new();
+    let mut changed_bytes = 0;
+    for _ in 0..number {
+        let at = get_at_most(MAX_IMAGE, from)?;
+        let bytes = get_bytes(from)?;
+        changed_bytes += bytes.len();
+        changes.push(Change { at, bytes });
+    }
+    if changes.len() > MAX_CHANGES || changed_bytes > MAX_CHANGED_BYTES {
+        return Err(malformed("more changes than a reply may tell"));
+    }
+    Ok(Some(changes))
+}

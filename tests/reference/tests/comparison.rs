@@ -1,0 +1,499 @@
+//! The comparison sees through engines that are wrong in one place only, and keeps the case.
+
+use reference::calls::{Buffers, Numbers};
+use reference::comparison::{keep_case, on_reference, read_case, Comparison};
+use reference::engine::{Engine, Reference};
+use reference::generate::Generator;
+use reference::pipe::Pipe;
+use reference::step::{changes, Step};
+use reference::wire::{get_reply, get_step, put_reply, put_step};
+
+/// The buffers before or after a call.
+#[derive(Clone)]
+struct Lent {
+    fcb: Vec<u8>,
+    dma: Vec<u8>,
+    list: Vec<u8>,
+    image: Vec<u8>,
+}
+
+/// What a call was and did; a fault may alter `after` and the answer.
+struct Done {
+    numbers: Numbers,
+    before: Lent,
+    after: Lent,
+    answer: u32,
+}
+
+/// The reference with one fault.
+struct Faulty(fn(&mut Done));
+
+impl Engine for Faulty {
+    fn start(&mut self, numbers: [u32; 3], users: &mut [u8], list: &mut [u8]) -> u32 {
+        Reference::default().start(numbers, users, list)
+    }
+
+    fn check(&mut self, image: &mut [u8]) -> u32 {
+        Reference::default().check(image)
+    }
+
+    fn look(&mut self, user: u32, name: &mut [u8], record: u32, image: &mut [u8]) -> u32 {
+        Reference::default().look(user, name, record, image)
+    }
+
+    fn call(&mut self, numbers: Numbers, buffers: Buffers) -> u32 {
+        let lent = |buffers: &Buffers| Lent {
+            fcb: buffers.fcb.to_vec(),
+            dma: buffers.dma.to_vec(),
+            list: buffers.list.to_vec(),
+            image: buffers.image.to_vec(),
+        };
+        let before = lent(&buffers);
+        let mut now = before.clone();
+        let answer = now.call(numbers);
+        let mut done = Done {
+            numbers,
+            before,
+            after: now,
+            answer,
+        };
+        self.0(&mut done);
+        buffers.fcb.copy_from_slice(&done.after.fcb);
+        buffers.dma.copy_from_slice(&done.after.dma);
+        buffers.list.copy_from_slice(&done.after.list);
+        buffers.image.copy_from_slice(&done.after.image);
+        done.answer
+    }
+}
+
+impl Lent {
+    fn call(&mut self, numbers: Numbers) -> u32 {
+        reference::call(
+            numbers.function,
+            numbers.process,
+            numbers.count,
+            &mut self.fcb,
+            &mut self.dma,
+            &mut self.list,
+            &mut self.image,
+        )
+    }
+}
+
+impl Done {
+    fn is(&self, function: u32, answer: u32) -> bool {
+        self.numbers.function == function && self.answer == answer
+    }
+
+    fn again_with(&mut self, numbers: Numbers) {
+        self.after = self.before.clone();
+        self.answer = self.after.call(numbers);
+    }
+}
+
+fn cuts_functions(done: &mut Done) {
+    let function = done.numbers.function & 255;
+    done.again_with(Numbers {
+        function,
+        ..done.numbers
+    });
+}
+
+fn cuts_processes(done: &mut Done) {
+    let process = done.numbers.process & 255;
+    done.again_with(Numbers {
+        process,
+        ..done.numbers
+    });
+}
+
+fn cuts_counts(done: &mut Done) {
+    let count = done.numbers.count & 255;
+    done.again_with(Numbers {
+        count,
+        ..done.numbers
+    });
+}
+
+fn refuses_46_for_its_drive(done: &mut Done) {
+    if done.is(46, 0) && done.before.fcb[0] > 1 {
+        done.after = done.before.clone();
+        done.answer = 255 + 256 * 4;
+    }
+}
+
+fn open_clears_byte_32(done: &mut Done) {
+    if done.is(15, 0) {
+        done.after.fcb[32] = 0;
+    }
+}
+
+fn open_leaves_the_file_id(done: &mut Done) {
+    if done.is(15, 0) {
+        done.after.fcb[33..].copy_from_slice(&done.before.fcb[33..]);
+    }
+}
+
+fn make_leaves_byte_13(done: &mut Done) {
+    if !done.is(22, 0) {
+        return;
+    }
+    for (slot, entry) in done.after.image[..2048].chunks_mut(32).enumerate() {
+        if done.before.image[32 * slot] == 0xE5 && entry[0] != 0xE5 {
+            entry[13] = done.before.image[32 * slot + 13];
+        }
+    }
+}
+
+fn close_leaves_locks(done: &mut Done) {
+    if !done.is(16, 0) {
+        return;
+    }
+    for place in 0..64 {
+        let at = 19 + 20 * place;
+        if done.before.list[at] == b'L' {
+            let lock = done.before.list[at..at + 20].to_vec();
+            done.after.list[at..at + 20].copy_from_slice(&lock);
+        }
+    }
+}
+
+fn delete_clears_entries(done: &mut Done) {
+    if !done.is(19, 0) {
+        return;
+    }
+    for slot in 0..64 {
+        if done.before.image[32 * slot] != done.after.image[32 * slot] {
+            done.after.image[32 * slot..32 * slot + 32].fill(0xE5);
+        }
+    }
+}
+
+fn rename_drops_attributes(done: &mut Done) {
+    if !done.is(23, 0) {
+        return;
+    }
+    for slot in 0..64 {
+        let entry = 32 * slot + 1..32 * slot + 12;
+        if done.before.image[entry.clone()] != done.after.image[entry.clone()] {
+            for byte in &mut done.after.image[entry] {
+                *byte &= 127;
+            }
+        }
+    }
+}
+
+fn rename_to_itself_succeeds(done: &mut Done) {
+    let low = |bytes: &[u8]| bytes.iter().map(|byte| byte & 127).collect::<Vec<u8>>();
+    if done.is(23, 255 + 256 * 8) && low(&done.before.fcb[1..12]) == low(&done.before.fcb[17..28]) {
+        done.answer = 0;
+    }
+}
+
+fn read_fills_the_whole_dma(done: &mut Done) {
+    if done.is(33, 0) {
+        done.after.dma[128..].fill(0);
+    }
+}
+
+fn writes_keep_the_count(done: &mut Done) {
+    if !matches!(done.numbers.function, 34 | 40) || done.answer != 0 {
+        return;
+    }
+    for slot in 0..64 {
+        if done.before.image[32 * slot] != 0xE5 {
+            done.after.image[32 * slot + 15] = done.before.image[32 * slot + 15];
+        }
+    }
+}
+
+fn test_and_write_keeps_the_count(done: &mut Done) {
+    if !done.is(41, 0) {
+        return;
+    }
+    let directory = done.before.image[..2048].to_vec();
+    done.after.image[..2048].copy_from_slice(&directory);
+}
+
+fn zero_fill_leaves_the_rest(done: &mut Done) {
+    if done.is(40, 0) {
+        let numbers = Numbers {
+            function: 34,
+            ..done.numbers
+        };
+        done.again_with(numbers);
+    }
+}
+
+fn plain_write_clears_the_rest(done: &mut Done) {
+    if done.is(34, 0) {
+        let numbers = Numbers {
+            function: 40,
+            ..done.numbers
+        };
+        done.again_with(numbers);
+    }
+}
+
+fn no_block_takes_an_entry(done: &mut Done) {
+    let is_write = matches!(done.numbers.function, 34 | 40);
+    let slot = (0..64).find(|slot| done.before.image.get(32 * slot) == Some(&0xE5));
+    let is_new_extent = done.before.fcb.len() == 36 && done.before.fcb[33..35] >= [128, 0][..];
+    if let (true, 2, true, Some(slot)) = (is_write, done.answer, is_new_extent, slot) {
+        done.after.image[32 * slot] = 0;
+    }
+}
+
+fn lock_limit_counts_new_records_only(done: &mut Done) {
+    if done.is(42, 12) && done.numbers.count == 1 {
+        done.answer = 0;
+    }
+}
+
+fn lock_checks_the_file_id_first(done: &mut Done) {
+    if done.is(42, 0) && done.before.dma[1] != 0 {
+        done.answer = 13;
+    }
+}
+
+fn unlock_needs_a_block(done: &mut Done) {
+    if done.is(43, 0) && done.before.list == done.after.list && done.before.fcb[34] > 200 {
+        done.answer = 4;
+    }
+}
+
+fn space_in_two_bytes(done: &mut Done) {
+    if done.is(46, 0) {
+        done.after.dma[2] = done.before.dma[2];
+    }
+}
+
+fn refusal_writes(done: &mut Done) {
+    if done.answer != 0 {
+        if let Some(byte) = done.after.dma.last_mut() {
+            *byte ^= 1;
+        }
+    }
+}
+
+fn terminate_clears_the_list(done: &mut Done) {
+    if done.is(143, 0) {
+        done.after.list[19..].fill(0);
+    }
+}
+
+const FAULTS: [fn(&mut Done); 23] = [
+    cuts_functions,
+    cuts_processes,
+    cuts_counts,
+    refuses_46_for_its_drive,
+    open_clears_byte_32,
+    open_leaves_the_file_id,
+    make_leaves_byte_13,
+    close_leaves_locks,
+    delete_clears_entries,
+    rename_drops_attributes,
+    rename_to_itself_succeeds,
+    read_fills_the_whole_dma,
+    writes_keep_the_count,
+    test_and_write_keeps_the_count,
+    zero_fill_leaves_the_rest,
+    plain_write_clears_the_rest,
+    no_block_takes_an_entry,
+    lock_limit_counts_new_records_only,
+    lock_checks_the_file_id_first,
+    unlock_needs_a_block,
+    space_in_two_bytes,
+    refusal_writes,
+    terminate_clears_the_list,
+];
+
+#[test]
+fn the_named_cases_see_every_fault() {
+    let cases = Generator::new(3).named();
+    for (number, fault) in FAULTS.into_iter().enumerate() {
+        let mut engine = Faulty(fault);
+        let mut comparison = Comparison::new(&mut engine);
+        let seen = cases.iter().any(|(_, made)| comparison.run(made).is_some());
+        assert!(seen, "fault {number} was not seen");
+    }
+}
+
+#[test]
+fn chance_sees_every_fault() {
+    let mut generator = Generator::new(4);
+    let sessions: Vec<_> = (0..400).map(|_| generator.session()).collect();
+    for (number, fault) in FAULTS.into_iter().enumerate() {
+        let mut engine = Faulty(fault);
+        let mut comparison = Comparison::new(&mut engine);
+        let seen = sessions.iter().any(|made| comparison.run(made).is_some());
+        assert!(seen, "fault {number} was not seen");
+    }
+}
+
+#[test]
+fn the_reference_agrees_with_itself() {
+    let mut generator = Generator::new(5);
+    let mut engine = Reference::default();
+    let mut comparison = Comparison::new(&mut engine);
+    for (case, made) in generator.named() {
+        assert!(comparison.run(&made).is_none(), "{case}");
+    }
+    for _ in 0..20 {
+        assert!(comparison.run(&generator.session()).is_none());
+    }
+}
+
+/// Writes where it may only read.
+struct Scribbler;
+
+impl Engine for Scribbler {
+    fn start(&mut self, numbers: [u32; 3], users: &mut [u8], list: &mut [u8]) -> u32 {
+        Reference::default().start(numbers, users, list)
+    }
+
+    fn check(&mut self, image: &mut [u8]) -> u32 {
+        let answer = Reference::default().check(image);
+        if let Some(byte) = image.last_mut() {
+            *byte ^= 1;
+        }
+        answer
+    }
+
+    fn look(&mut self, user: u32, name: &mut [u8], record: u32, image: &mut [u8]) -> u32 {
+        Reference::default().look(user, name, record, image)
+    }
+
+    fn call(&mut self, numbers: Numbers, buffers: Buffers) -> u32 {
+        Reference::default().call(numbers, buffers)
+    }
+}
+
+#[test]
+fn a_check_that_writes_is_seen() {
+    let steps = vec![
+        Step::Image {
+            length: 3072,
+            fill: 0xE5,
+        },
+        Step::Check,
+    ];
+    let made = on_reference(steps);
+    let difference = Comparison::new(&mut Scribbler).run(&made);
+    assert_eq!(difference.map(|difference| difference.index), Some(1));
+}
+
+#[test]
+fn a_kept_case_can_be_replayed() {
+    let folder = std::env::temp_dir().join(format!("mpm-kept-case-{}", std::process::id()));
+    let mut generator = Generator::new(6);
+    let mut engine = Faulty(refusal_writes);
+    let mut comparison = Comparison::new(&mut engine);
+    let (made, difference) = std::iter::repeat_with(|| generator.session())
+        .find_map(|made| comparison.run(&made).map(|difference| (made, difference)))
+        .unwrap();
+    keep_case(&folder, &made, &difference).unwrap();
+    for file in ["single.case", "trace.case"] {
+        let again = on_reference(read_case(&folder.join(file)).unwrap());
+        assert!(Comparison::new(&mut Reference::default()).run(&again).is_none());
+        let found = Comparison::new(&mut Faulty(refusal_writes)).run(&again).unwrap();
+        assert_eq!(found.index, again.len() - 1, "{file}");
+        assert_eq!(found.expected, difference.expected);
+    }
+    std::fs::remove_dir_all(&folder).unwrap();
+}
+
+#[test]
+fn steps_and_replies_survive_the_wire() {
+    let mut generator = Generator::new(7);
+    let named = generator.named().into_iter().flat_map(|(_, made)| made);
+    for made in named.collect::<Vec<_>>().into_iter().chain(generator.session()) {
+        let mut bytes = Vec::new();
+        put_step(&made.step, &mut bytes);
+        assert_eq!(get_step(&mut &bytes[..]).unwrap(), Some(made.step));
+        let Some(reply) = made.reply else {
+            continue;
+        };
+        let mut bytes = Vec::new();
+        put_reply(&reply, &mut bytes);
+        assert_eq!(get_reply(&mut &bytes[..]).unwrap(), reply);
+    }
+}
+
+#[test]
+fn changes_are_the_longest_runs() {
+    let before = [0; 600];
+    let mut after = before;
+    assert_eq!(changes(&before, &after), Some(Vec::new()));
+    after[0] = 1;
+    after[254..258].fill(2);
+    after[599] = 3;
+    let found: Vec<(usize, usize)> = changes(&before, &after)
+        .unwrap()
+        .iter()
+        .map(|change| (change.at, change.bytes.len()))
+        .collect();
+    assert_eq!(found, [(0, 1), (254, 4), (599, 1)]);
+    assert_eq!(changes(&[0; 4097], &[1; 4097]), None);
+}
+
+fn pipe_to_reference() -> Pipe {
+    Pipe::new(vec![env!("CARGO_BIN_EXE_reference-pipe").to_string()])
+}
+
+#[test]
+fn a_pipe_to_the_reference_agrees() {
+    let mut generator = Generator::new(8);
+    let mut engine = pipe_to_reference();
+    let mut comparison = Comparison::new(&mut engine);
+    for (case, made) in generator.named() {
+        assert!(comparison.run(&made).is_none(), "{case}");
+    }
+    for _ in 0..20 {
+        assert!(comparison.run(&generator.session()).is_none());
+    }
+}
+
+#[test]
+fn the_pipe_serves_the_four_functions_singly() {
+    let mut pipe = pipe_to_reference();
+    let (mut list, mut image) = (vec![0xAA; 1299], vec![0xE5; 4096]);
+    assert_eq!(pipe.start([3, 2, 2], &mut [0; 16], &mut list), 0);
+    assert_eq!(list[..3], [3, 2, 2]);
+    assert_eq!(pipe.check(&mut image), 0);
+    let mut fcb = reference::build::Fcb::named("X").unlocked().0.to_vec();
+    let mut dma = vec![9; 256];
+    for function in [22, 34] {
+        let numbers = Numbers {
+            function,
+            process: 1,
+            count: 1,
+        };
+        let buffers = Buffers {
+            fcb: &mut fcb,
+            dma: &mut dma,
+            list: &mut list,
+            image: &mut image,
+        };
+        assert_eq!(pipe.call(numbers, buffers), 0);
+    }
+    assert_eq!(image[2048..2048 + 128], [9; 128]);
+    let mut name = reference::build::name("X");
+    assert_eq!(pipe.look(0, &mut name, 0, &mut image), 2048);
+}
+
+#[test]
+fn a_pipe_that_ends_is_a_difference() {
+    let made = on_reference(vec![
+        Step::Image {
+            length: 3072,
+            fill: 0xE5,
+        },
+        Step::Check,
+    ]);
+    for command in ["true", "no-such-program-anywhere"] {
+        let mut pipe = Pipe::new(vec![command.to_string()]);
+        let difference = Comparison::new(&mut pipe).run(&made).unwrap();
+        assert!(difference.got.is_err());
+    }
+}
