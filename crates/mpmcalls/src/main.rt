@@ -1,0 +1,188 @@
+// Runs the records of standard input against DISK.IMG, prints a line for each call, and writes DISK.OUT.
+use libc::STDIN_FILENO;
+use libc::STDOUT_FILENO;
+use script::line;
+use script::record;
+ghost use Prim.Native.Nat.{_≤_};
+ghost use lib.ListN.{length};
+ghost use Rattle.io.specs.Counts.{Counts};
+
+fn wide(x: u8) -> u32 {
+    x as u32
+}
+
+// Writes a line to standard output. Where that fails it says so on standard error and answers false.
+fn print(line: &[u8]) -> bool {
+    if io::write_all(STDOUT_FILENO, line) {
+        return true;
+    }
+    os::fail(b"standard output");
+    false
+}
+
+fn print_header() -> bool {
+    let mut text = [0u8; 128];
+    let n = line::header_line(&mut text);
+    print(&text[..n])
+}
+
+fn print_call(number: u64, process: u8, function: u8, answer: u32) -> bool {
+    let mut text = [0u8; 128];
+    let n = line::call_line(&mut text, number, process, function, answer);
+    print(&text[..n])
+}
+
+fn print_end(calls: u64) {
+    let mut text = [0u8; 128];
+    let n = line::end_line(&mut text, calls);
+    print(&text[..n]);
+}
+
+fn print_bad_start() {
+    let mut text = [0u8; 128];
+    let n = line::bad_start_line(&mut text);
+    print(&text[..n]);
+}
+
+fn print_bad_call(calls: u64) {
+    let mut text = [0u8; 128];
+    let n = line::bad_call_line(&mut text, calls);
+    print(&text[..n]);
+}
+
+fn print_long_image() {
+    let mut text = [0u8; 128];
+    let n = line::long_image_line(&mut text);
+    print(&text[..n]);
+}
+
+// Reads DISK.IMG and answers how many bytes it has. One that cannot be opened, or read to its end, is taken as empty.
+fn read_image(image: &mut [u8]) -> usize
+    ensures { λ r. ⌜ Counts r (now (image .exit)) ⌝ }
+{
+    let fd = os::open_read(b"DISK.IMG");
+    if fd < 0 {
+        return 0;
+    }
+    let n = io::read_full(fd, image);
+    let mut next = [0u8; 1];
+    let after = libc::read(fd, &mut next);
+    libc::close(fd);
+    if n < image.len() {
+        if after != 0 {
+            return 0;
+        }
+    }
+    n
+}
+
+// Writes DISK.OUT. Where that fails it says so on standard error.
+fn write_image(image: &[u8]) {
+    let path = b"DISK.OUT";
+    let fd = os::open_overwrite(path);
+    if fd < 0 {
+        os::fail(path);
+        return;
+    }
+    if !io::write_all(fd, image) {
+        os::fail(path);
+    }
+    libc::close(fd);
+}
+
+// Reads the start record and starts the list. False where the record is cut or badly marked, or Start refuses.
+fn start(list: &mut [u8]) -> bool {
+    let mut input = [0u8; 21];
+    let n = io::read_full(STDIN_FILENO, &mut input);
+    if !record::is_start(&input[..n]) {
+        return false;
+    }
+    let answer = engine::mpm_start(
+        wide(record::first_number(&input)),
+        wide(record::second_number(&input)),
+        wide(record::third_number(&input)),
+        record::users_in(&input),
+        list,
+    );
+    answer == 0
+}
+
+// Makes the call of a record and prints its line.
+fn serve(calls: u64, input: &[u8; 297], list: &mut [u8], image: &mut [u8]) -> bool {
+    let function = record::first_number(input);
+    let process = record::second_number(input);
+    let count = record::third_number(input);
+    let mut fcb = record::fcb_of(input);
+    let mut dma = record::dma_of(input);
+    let answer = engine::mpm_call(
+        wide(function),
+        wide(process),
+        wide(count),
+        &mut fcb,
+        &mut dma,
+        list,
+        image,
+    );
+    print_call(calls, process, function, answer)
+}
+
+// Reads on where n bytes of a record are there, and answers how many are there then.
+fn read_rest(input: &mut [u8], n: usize) -> usize
+    requires { ⌜ n ≤ length (now input) ⌝ }
+    ensures { λ r. ⌜ Counts r (now (input .exit)) ⌝ }
+{
+    n + io::read_full(STDIN_FILENO, &mut input[n..])
+}
+
+// The record after so many calls. True where it was a call and its line is printed; else all is done.
+// Only a read that tells the end of the input ends the run: after one that fails the record counts as cut.
+fn step(calls: u64, list: &mut [u8], image: &mut [u8]) -> bool {
+    let mut input = [0u8; 297];
+    let got = libc::read(STDIN_FILENO, &mut input);
+    if got == 0 {
+        write_image(image);
+        print_end(calls);
+        return false;
+    }
+    if got < 0 {
+        os::fail(b"standard input");
+    }
+    let n = io::count(got, &input);
+    let n = read_rest(&mut input, n);
+    if !record::is_call(&input[..n]) {
+        print_bad_call(calls);
+        return false;
+    }
+    serve(calls, &input, list, image)
+}
+
+// Nothing says that the input ends, so the loop counts its turns down, from a number that no run uses up.
+fn run_calls(list: &mut [u8], image: &mut [u8]) {
+    let mut turns = u64::MAX;
+    while turns > 0 && step(u64::MAX - turns, list, image) {
+        turns -= 1;
+    }
+}
+
+fn run(image: &mut [u8]) {
+    if !print_header() {
+        return;
+    }
+    let mut list = [0u8; 1299];
+    if !start(&mut list) {
+        print_bad_start();
+        return;
+    }
+    run_calls(&mut list, image);
+}
+
+// One byte more than the longest image is asked for, to see a longer one.
+fn main() {
+    let mut image = [0u8; 65537];
+    let n = read_image(&mut image);
+    if n > 65536 {
+        print_long_image();
+        return;
+    }
+    run(&mut image[..n]);
+}

@@ -1,0 +1,20 @@
+use borrow.Author.Needs.{needs}
+use Rattle.script.specs.Lines.{badLine, badStartLine}
+use Rattle.script.specs.Text.{text}
+use Rattle.script.proofs.Lines.{starts, goes-on}
+use Rattle.script.proofs.line.bad_start_line.Statement.{statement}
+use Rattle.script.proofs.line.bad_start_line.Tie as tie
+
+pub bad-start-line-spec : {M : Type 1} → statement M
+unfolding badStartLine badLine text
+bad-start-line-spec =
+    tie.close
+    (tie.spec
+    -- slice-aggregate-add src/line.rt:59:26
+    (λ c. search needs)
+    -- add-requires src/line.rt:59:9
+    (λ c κs. search needs)
+    -- add-number-requires src/line.rt:60:5
+    (λ c κs. search needs)
+    -- returns src/line.rt:56:1
+    (λ c. goes-on _ _ _ _ _ _ (starts _ _ _ _ (c .before .before .add .ensures .1)) (c .add-number .ensures .1)))

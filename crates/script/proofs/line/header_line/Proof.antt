@@ -1,0 +1,18 @@
+use borrow.Author.Needs.{needs}
+use Rattle.script.specs.Lines.{headerLine}
+use Rattle.script.specs.Text.{text}
+use Rattle.script.proofs.Lines.{starts}
+use Rattle.script.proofs.line.header_line.Statement.{statement}
+use Rattle.script.proofs.line.header_line.Tie as tie
+
+pub header-line-spec : {M : Type 1} → statement M
+unfolding headerLine text
+header-line-spec =
+    tie.close
+    (tie.spec
+    -- slice-aggregate-add src/line.rt:33:18
+    (λ c. search needs)
+    -- add-requires src/line.rt:33:5
+    (λ c κs. search needs)
+    -- returns src/line.rt:30:1
+    (λ c. starts _ _ _ _ (c .add .ensures .1)))

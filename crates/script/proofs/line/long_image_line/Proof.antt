@@ -1,0 +1,18 @@
+use borrow.Author.Needs.{needs}
+use Rattle.script.specs.Lines.{longImageLine}
+use Rattle.script.specs.Text.{text}
+use Rattle.script.proofs.Lines.{starts}
+use Rattle.script.proofs.line.long_image_line.Statement.{statement}
+use Rattle.script.proofs.line.long_image_line.Tie as tie
+
+pub long-image-line-spec : {M : Type 1} → statement M
+unfolding longImageLine text
+long-image-line-spec =
+    tie.close
+    (tie.spec
+    -- slice-aggregate-add src/line.rt:78:18
+    (λ c. search needs)
+    -- add-requires src/line.rt:78:5
+    (λ c κs. search needs)
+    -- returns src/line.rt:75:1
+    (λ c. starts _ _ _ _ (c .add .ensures .1)))

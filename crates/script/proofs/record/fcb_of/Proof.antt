@@ -1,0 +1,18 @@
+use borrow.Author.Needs.{needs}
+use native.Mathlib.Omega.{arith}
+use Rattle.script.proofs.Parts.{part-fits, part-copied}
+use Rattle.script.proofs.record.fcb_of.Statement.{statement}
+use Rattle.script.proofs.record.fcb_of.Tie as tie
+
+pub fcb-of-spec : {M : Type 1} → statement M
+fcb-of-spec =
+    tie.close
+    (tie.spec
+    -- slice-aggregate-put-bytes src/record.rt:105:15
+    (λ c. search needs)
+    -- fcb-in-requires src/record.rt:105:28
+    (λ c κs. search needs)
+    -- put-bytes-requires src/record.rt:105:5
+    (λ c κs. part-fits (c .before .before .before .args .s .now) _ 5 36 297 (c .fcb-in .ensures) (search needs) (omega arith))
+    -- returns src/record.rt:101:1
+    (λ c. part-copied (c .before .before .before .before .before .args .s .now) _ _ _ 5 36 297 (c .before .put-bytes .ensures) (c .before .before .fcb-in .ensures) (search needs) (omega arith) (search needs)))

@@ -1,0 +1,116 @@
+use rules::bytes::put_bytes;
+ghost use mathlib.Core.Path.{_≡_};
+ghost use Prim.Native.Nat.{_≤_};
+ghost use Rattle.words.specs.Bytes.{byte, part};
+ghost use Rattle.script.specs.Records.{isStart, isCall, isRecord, firstNumber, secondNumber, thirdNumber, usersIn, fcbIn, dmaIn};
+
+// A record is whole and has its two marks.
+fn is_record(s: &[u8], size: usize, mark: u8) -> bool
+    requires { ⌜ 2 ≤ size ⌝ }
+    ensures { λ r. ⌜ r ≡ isRecord size mark (now (s .entry)) ⌝ }
+{
+    if s.len() != size {
+        return false;
+    }
+    if s[0] != 0x4D {
+        return false;
+    }
+    s[1] == mark
+}
+
+// A start record: 4D 53, three numbers and sixteen users.
+pub fn is_start(s: &[u8]) -> bool
+    ensures { λ r. ⌜ r ≡ isStart (now (s .entry)) ⌝ }
+{
+    is_record(s, 2 + 3 + 16, 0x53)
+}
+
+// A call record: 4D 43, three numbers, FCB and DMA.
+pub fn is_call(s: &[u8]) -> bool
+    ensures { λ r. ⌜ r ≡ isCall (now (s .entry)) ⌝ }
+{
+    is_record(s, 2 + 3 + 36 + 256, 0x43)
+}
+
+// Byte i, 0 past the end.
+fn byte_at(s: &[u8], i: usize) -> u8
+    ensures { λ r. ⌜ r ≡ byte (now (s .entry)) i ⌝ }
+{
+    if i < s.len() {
+        return s[i];
+    }
+    0
+}
+
+// The first number: the capacity of a start record, the function of a call record.
+pub fn first_number(s: &[u8]) -> u8
+    ensures { λ r. ⌜ r ≡ firstNumber (now (s .entry)) ⌝ }
+{
+    byte_at(s, 2)
+}
+
+// The second: the open limit, the process.
+pub fn second_number(s: &[u8]) -> u8
+    ensures { λ r. ⌜ r ≡ secondNumber (now (s .entry)) ⌝ }
+{
+    byte_at(s, 3)
+}
+
+// The third: the lock limit, the count.
+pub fn third_number(s: &[u8]) -> u8
+    ensures { λ r. ⌜ r ≡ thirdNumber (now (s .entry)) ⌝ }
+{
+    byte_at(s, 4)
+}
+
+// The k bytes from a place on, or those of them that are there.
+fn part_of(s: &[u8], at: usize, k: usize) -> &[u8]
+    ensures { λ r. ⌜ now r ≡ part at k (now (s .entry)) ⌝ }
+{
+    if s.len() < at {
+        return &s[s.len()..];
+    }
+    if s.len() - at < k {
+        return &s[at..];
+    }
+    &s[at..at + k]
+}
+
+// The users of a start record.
+pub fn users_in(s: &[u8]) -> &[u8]
+    ensures { λ r. ⌜ now r ≡ usersIn (now (s .entry)) ⌝ }
+{
+    part_of(s, 2 + 3, 16)
+}
+
+// The FCB of a call record.
+pub fn fcb_in(s: &[u8]) -> &[u8]
+    ensures { λ r. ⌜ now r ≡ fcbIn (now (s .entry)) ⌝ }
+{
+    part_of(s, 2 + 3, 36)
+}
+
+// The DMA of a call record.
+pub fn dma_in(s: &[u8]) -> &[u8]
+    ensures { λ r. ⌜ now r ≡ dmaIn (now (s .entry)) ⌝ }
+{
+    part_of(s, 2 + 3 + 36, 256)
+}
+
+// A copy of the FCB, for a call to write into.
+pub fn fcb_of(s: &[u8; 297]) -> [u8; 36]
+    ensures { λ r. ⌜ r ≡ fcbIn (now (s .entry)) ⌝ }
+{
+    let mut fcb = [0u8; 36];
+    put_bytes(&mut fcb, 0, fcb_in(s));
+    fcb
+}
+
+// A copy of the DMA.
+pub fn dma_of(s: &[u8; 297]) -> [u8; 256]
+    ensures { λ r. ⌜ r ≡ dmaIn (now (s .entry)) ⌝ }
+{
+    let mut dma = [0u8; 256];
+    put_bytes(&mut dma, 0, dma_in(s));
+    dma
+}
