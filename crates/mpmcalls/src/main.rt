@@ -92,7 +92,7 @@ fn write_image(image: &[u8]) {
 
 // Reads the start record and starts the list. False where the record is cut or badly marked, or Start refuses.
 fn start(list: &mut [u8]) -> bool {
-    let mut input = [0u8; 21];
+    let mut input = [0u8; record::START_SIZE];
     let n = io::read_full(STDIN_FILENO, &mut input);
     if !record::is_start(&input[..n]) {
         return false;
@@ -108,7 +108,7 @@ fn start(list: &mut [u8]) -> bool {
 }
 
 // Makes the call of a record and prints its line.
-fn serve(calls: u64, input: &[u8; 297], list: &mut [u8], image: &mut [u8]) -> bool {
+fn serve(calls: u64, input: &[u8; record::CALL_SIZE], list: &mut [u8], image: &mut [u8]) -> bool {
     let function = record::first_number(input);
     let process = record::second_number(input);
     let count = record::third_number(input);
@@ -135,9 +135,9 @@ fn read_rest(input: &mut [u8], n: usize) -> usize
 }
 
 // The record after so many calls. True where it was a call and its line is printed; else all is done.
-// Only a read that tells the end of the input ends the run: after one that fails the record counts as cut.
+// A read that fails is no end of the input: the record counts as cut.
 fn step(calls: u64, list: &mut [u8], image: &mut [u8]) -> bool {
-    let mut input = [0u8; 297];
+    let mut input = [0u8; record::CALL_SIZE];
     let got = libc::read(STDIN_FILENO, &mut input);
     if got == 0 {
         write_image(image);
@@ -146,6 +146,8 @@ fn step(calls: u64, list: &mut [u8], image: &mut [u8]) -> bool {
     }
     if got < 0 {
         os::fail(b"standard input");
+        print_bad_call(calls);
+        return false;
     }
     let n = io::count(got, &input);
     let n = read_rest(&mut input, n);

@@ -4,6 +4,21 @@ ghost use Prim.Native.Nat.{_≤_};
 ghost use Rattle.words.specs.Bytes.{byte, part};
 ghost use Rattle.script.specs.Records.{isStart, isCall, isRecord, firstNumber, secondNumber, thirdNumber, usersIn, fcbIn, dmaIn};
 
+// Sizes in bytes: two marks, three numbers, and sixteen users or FCB and DMA.
+const MARKS_SIZE: usize = 2;
+
+const NUMBERS_SIZE: usize = 3;
+
+const USERS_SIZE: usize = 16;
+
+const FCB_SIZE: usize = 36;
+
+const DMA_SIZE: usize = 256;
+
+pub const START_SIZE: usize = MARKS_SIZE + NUMBERS_SIZE + USERS_SIZE;
+
+pub const CALL_SIZE: usize = MARKS_SIZE + NUMBERS_SIZE + FCB_SIZE + DMA_SIZE;
+
 // A record is whole and has its two marks.
 fn is_record(s: &[u8], size: usize, mark: u8) -> bool
     requires { ⌜ 2 ≤ size ⌝ }
@@ -22,14 +37,14 @@ fn is_record(s: &[u8], size: usize, mark: u8) -> bool
 pub fn is_start(s: &[u8]) -> bool
     ensures { λ r. ⌜ r ≡ isStart (now (s .entry)) ⌝ }
 {
-    is_record(s, 2 + 3 + 16, 0x53)
+    is_record(s, START_SIZE, 0x53)
 }
 
 // A call record: 4D 43, three numbers, FCB and DMA.
 pub fn is_call(s: &[u8]) -> bool
     ensures { λ r. ⌜ r ≡ isCall (now (s .entry)) ⌝ }
 {
-    is_record(s, 2 + 3 + 36 + 256, 0x43)
+    is_record(s, CALL_SIZE, 0x43)
 }
 
 // Byte i, 0 past the end.
@@ -46,21 +61,21 @@ fn byte_at(s: &[u8], i: usize) -> u8
 pub fn first_number(s: &[u8]) -> u8
     ensures { λ r. ⌜ r ≡ firstNumber (now (s .entry)) ⌝ }
 {
-    byte_at(s, 2)
+    byte_at(s, MARKS_SIZE)
 }
 
 // The second: the open limit, the process.
 pub fn second_number(s: &[u8]) -> u8
     ensures { λ r. ⌜ r ≡ secondNumber (now (s .entry)) ⌝ }
 {
-    byte_at(s, 3)
+    byte_at(s, MARKS_SIZE + 1)
 }
 
 // The third: the lock limit, the count.
 pub fn third_number(s: &[u8]) -> u8
     ensures { λ r. ⌜ r ≡ thirdNumber (now (s .entry)) ⌝ }
 {
-    byte_at(s, 4)
+    byte_at(s, MARKS_SIZE + 2)
 }
 
 // The k bytes from a place on, or those of them that are there.
@@ -80,37 +95,37 @@ fn part_of(s: &[u8], at: usize, k: usize) -> &[u8]
 pub fn users_in(s: &[u8]) -> &[u8]
     ensures { λ r. ⌜ now r ≡ usersIn (now (s .entry)) ⌝ }
 {
-    part_of(s, 2 + 3, 16)
+    part_of(s, MARKS_SIZE + NUMBERS_SIZE, USERS_SIZE)
 }
 
 // The FCB of a call record.
 pub fn fcb_in(s: &[u8]) -> &[u8]
     ensures { λ r. ⌜ now r ≡ fcbIn (now (s .entry)) ⌝ }
 {
-    part_of(s, 2 + 3, 36)
+    part_of(s, MARKS_SIZE + NUMBERS_SIZE, FCB_SIZE)
 }
 
 // The DMA of a call record.
 pub fn dma_in(s: &[u8]) -> &[u8]
     ensures { λ r. ⌜ now r ≡ dmaIn (now (s .entry)) ⌝ }
 {
-    part_of(s, 2 + 3 + 36, 256)
+    part_of(s, MARKS_SIZE + NUMBERS_SIZE + FCB_SIZE, DMA_SIZE)
 }
 
 // A copy of the FCB, for a call to write into.
-pub fn fcb_of(s: &[u8; 297]) -> [u8; 36]
+pub fn fcb_of(s: &[u8; CALL_SIZE]) -> [u8; FCB_SIZE]
     ensures { λ r. ⌜ r ≡ fcbIn (now (s .entry)) ⌝ }
 {
-    let mut fcb = [0u8; 36];
+    let mut fcb = [0u8; FCB_SIZE];
     put_bytes(&mut fcb, 0, fcb_in(s));
     fcb
 }
 
 // A copy of the DMA.
-pub fn dma_of(s: &[u8; 297]) -> [u8; 256]
+pub fn dma_of(s: &[u8; CALL_SIZE]) -> [u8; DMA_SIZE]
     ensures { λ r. ⌜ r ≡ dmaIn (now (s .entry)) ⌝ }
 {
-    let mut dma = [0u8; 256];
+    let mut dma = [0u8; DMA_SIZE];
     put_bytes(&mut dma, 0, dma_in(s));
     dma
 }

@@ -23,17 +23,17 @@ pub read-rest-spec : {M : Type 1} → statement M
 read-rest-spec =
     tie.close
     (tie.spec
-    -- sub-read-full src/main.rt:132:37
+    -- sub-read-full
     (λ c. search needs)
-    -- part-read-full-start src/main.rt:132:37
+    -- part-read-full-start
     (λ c. search needs)
-    -- part-read-full-end src/main.rt:132:37
+    -- part-read-full-end
     (λ c. search needs)
-    -- read-full-requires src/main.rt:132:9
+    -- read-full-requires
     (λ c κs. search needs)
-    -- add-result src/main.rt:132:5
+    -- add-result
     (λ c. search needs)
-    -- same-length src/main.rt:128:1
+    -- same-length
     (λ c. search needs)
-    -- returns src/main.rt:128:1
+    -- returns
     (λ c. read-more _ _ _ (c .before .before .read-full .last .1 .0) (c .before .before .before .before .before .pre) (c .before .before .read-full .ensures .0) (c .before .input .given .0)))

@@ -19,27 +19,27 @@ pub run-calls-spec : {M : Type 1} → statement M
 run-calls-spec =
     tie.close
     (tie.spec Inv-loop μ-loop
-    -- loop-holds src/main.rt:149:5
+    -- loop-holds
     (λ c. (refl, refl, omega arith))
-    -- sub-step src/main.rt:149:29
+    -- sub-step
     (λ c. search needs)
-    -- step-requires src/main.rt:149:24
+    -- step-requires
     (λ c κs. tt)
-    -- sub-turns src/main.rt:150:9
+    -- sub-turns
     (λ c. omega arith)
-    -- loop-less src/main.rt:149:5
+    -- loop-less
     (λ c. omega arith)
-    -- loop-again src/main.rt:149:5
+    -- loop-again
     (λ c. (c .before .before .before .before .before .step .kept .1 .0 ∙ c .before .before .before .before .before .before .before .before .before .loop .inv .0, c .before .before .before .before .before .step .kept .1 .1 .0 ∙ c .before .before .before .before .before .before .before .before .before .loop .inv .1, omega arith))
-    -- same-length src/main.rt:147:1
+    -- same-length
     (λ c. c .before .before .before .before .before .step .kept .1 .0 ∙ c .before .before .before .before .before .before .before .before .before .loop .inv .0)
-    -- same-length-2 src/main.rt:147:1
+    -- same-length-2
     (λ c. c .before .before .before .before .before .step .kept .1 .1 .0 ∙ c .before .before .before .before .before .before .before .before .before .loop .inv .1)
-    -- returns src/main.rt:147:1
+    -- returns
     (λ c. tt)
-    -- same-length-3 src/main.rt:147:1
+    -- same-length-3
     (λ c. c .before .loop .inv .0)
-    -- same-length-4 src/main.rt:147:1
+    -- same-length-4
     (λ c. c .before .loop .inv .1)
-    -- returns-2 src/main.rt:147:1
+    -- returns-2
     (λ c. tt))

@@ -12,23 +12,23 @@ pub spell-spec : {M : Type 1} → statement M
 spell-spec =
     tie.close
     (tie.spec Inv-loop μ-loop
-    -- last-digit-requires src/decimal.rt:20:15
+    -- last-digit-requires
     (λ c κs. search spells)
-    -- slice-write-out src/decimal.rt:20:5
+    -- slice-write-out
     (λ c. search spells)
-    -- loop-holds src/decimal.rt:21:5
+    -- loop-holds
     (λ c. search spells)
-    -- sub-at src/decimal.rt:23:9
+    -- sub-at
     (λ c. search spells)
-    -- last-digit-requires-2 src/decimal.rt:24:19
+    -- last-digit-requires-2
     (λ c κs. search spells)
-    -- slice-write-out-2 src/decimal.rt:24:9
+    -- slice-write-out-2
     (λ c. search spells)
-    -- loop-less src/decimal.rt:21:5
+    -- loop-less
     (λ c. search spells)
-    -- loop-again src/decimal.rt:21:5
+    -- loop-again
     (λ c. search spells)
-    -- same-length src/decimal.rt:14:1
+    -- same-length
     (λ c. search spells)
-    -- returns src/decimal.rt:14:1
+    -- returns
     (λ c. search spells))

@@ -9,9 +9,9 @@ pub add-spec : {M : Type 1} → statement M
 add-spec =
     tie.close
     (tie.spec
-    -- put-bytes-requires src/line.rt:14:5
+    -- put-bytes-requires
     (λ c κs. search needs)
-    -- add-result src/line.rt:15:5
+    -- add-result
     (λ c. search needs)
-    -- returns src/line.rt:10:1
+    -- returns
     (λ c. (refl, added _ _ _ _ (c .put-bytes .ensures) (omega arith))))

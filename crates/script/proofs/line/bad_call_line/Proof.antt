@@ -13,21 +13,21 @@ unfolding badCallLine badLine text
 bad-call-line-spec =
     tie.close
     (tie.spec
-    -- slice-aggregate-add src/line.rt:67:26
+    -- slice-aggregate-add
     (λ c. search needs)
-    -- add-requires src/line.rt:67:9
+    -- add-requires
     (λ c κs. search needs)
-    -- slice-aggregate-add-2 src/line.rt:69:29
+    -- slice-aggregate-add-2
     (λ c. search needs)
-    -- add-requires-2 src/line.rt:69:9
+    -- add-requires-2
     (λ c κs. search needs)
-    -- returns src/line.rt:69:9
+    -- returns
     (λ c.
     let bad = starts _ _ _ _ (c .before .before .before .before .add .ensures .1) in
     as-line _ _ _ _ (ap (λ (v : List ℕ). text "bad record " ++ v) (past-most _ (c .before .before .before .if1 .taken))) (goes-on _ _ _ _ _ _ bad (c .add2 .ensures .1)))
-    -- add-add-number src/line.rt:71:25
+    -- add-add-number
     (λ c. search needs)
-    -- add-number-requires src/line.rt:71:5
+    -- add-number-requires
     (λ c κs. search needs)
-    -- returns-2 src/line.rt:64:1
+    -- returns-2
     (λ c. goes-on _ _ _ _ _ _ (starts _ _ _ _ (c .before .before .before .add .ensures .1)) (c .add-number .ensures .1)))

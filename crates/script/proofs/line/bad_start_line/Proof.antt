@@ -10,11 +10,11 @@ unfolding badStartLine badLine text
 bad-start-line-spec =
     tie.close
     (tie.spec
-    -- slice-aggregate-add src/line.rt:59:26
+    -- slice-aggregate-add
     (λ c. search needs)
-    -- add-requires src/line.rt:59:9
+    -- add-requires
     (λ c κs. search needs)
-    -- add-number-requires src/line.rt:60:5
+    -- add-number-requires
     (λ c κs. search needs)
-    -- returns src/line.rt:56:1
+    -- returns
     (λ c. goes-on _ _ _ _ _ _ (starts _ _ _ _ (c .before .before .add .ensures .1)) (c .add-number .ensures .1)))

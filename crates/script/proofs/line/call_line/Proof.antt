@@ -9,21 +9,21 @@ unfolding callLine
 call-line-spec =
     tie.close
     (tie.spec
-    -- add-number-requires src/line.rt:40:9
+    -- add-number-requires
     (λ c κs. search needs)
-    -- add-number-requires-2 src/line.rt:41:9
+    -- add-number-requires-2
     (λ c κs. search needs)
-    -- add-number-requires-3 src/line.rt:42:9
+    -- add-number-requires-3
     (λ c κs. search needs)
-    -- cast-add-number src/line.rt:43:33
+    -- cast-add-number
     (λ c. search needs)
-    -- add-number-requires-4 src/line.rt:43:9
+    -- add-number-requires-4
     (λ c κs. search needs)
-    -- cast-add-number-2 src/line.rt:44:25
+    -- cast-add-number-2
     (λ c. search needs)
-    -- add-number-requires-5 src/line.rt:44:5
+    -- add-number-requires-5
     (λ c κs. search needs)
-    -- returns src/line.rt:37:1
+    -- returns
     (λ c.
     let one = starts _ _ _ _ (c .before .before .before .before .before .before .before .before .add-number .ensures .1) in
     let two = goes-on _ _ _ _ _ _ one (c .before .before .before .before .before .before .add-number2 .ensures .1) in

@@ -10,11 +10,11 @@ unfolding endLine text
 end-line-spec =
     tie.close
     (tie.spec
-    -- slice-aggregate-add src/line.rt:51:26
+    -- slice-aggregate-add
     (λ c. search needs)
-    -- add-requires src/line.rt:51:9
+    -- add-requires
     (λ c κs. search needs)
-    -- add-number-requires src/line.rt:52:5
+    -- add-number-requires
     (λ c κs. search needs)
-    -- returns src/line.rt:48:1
+    -- returns
     (λ c. goes-on _ _ _ _ _ _ (starts _ _ _ _ (c .before .before .add .ensures .1)) (c .add-number .ensures .1)))

@@ -10,9 +10,9 @@ unfolding headerLine text
 header-line-spec =
     tie.close
     (tie.spec
-    -- slice-aggregate-add src/line.rt:33:18
+    -- slice-aggregate-add
     (λ c. search needs)
-    -- add-requires src/line.rt:33:5
+    -- add-requires
     (λ c κs. search needs)
-    -- returns src/line.rt:30:1
+    -- returns
     (λ c. starts _ _ _ _ (c .add .ensures .1)))

@@ -10,9 +10,9 @@ unfolding longImageLine text
 long-image-line-spec =
     tie.close
     (tie.spec
-    -- slice-aggregate-add src/line.rt:78:18
+    -- slice-aggregate-add
     (λ c. search needs)
-    -- add-requires src/line.rt:78:5
+    -- add-requires
     (λ c κs. search needs)
-    -- returns src/line.rt:75:1
+    -- returns
     (λ c. starts _ _ _ _ (c .add .ensures .1)))

@@ -7,9 +7,9 @@ pub byte-at-spec : {M : Type 1} → statement M
 byte-at-spec =
     tie.close
     (tie.spec
-    -- shared-slice-read-result src/record.rt:40:16
+    -- shared-slice-read-result
     (λ c. search needs)
-    -- returns src/record.rt:40:9
+    -- returns
     (λ c. search needs)
-    -- returns-2 src/record.rt:36:1
+    -- returns-2
     (λ c. search (needs, past-end)))

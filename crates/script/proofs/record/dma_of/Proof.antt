@@ -8,11 +8,11 @@ pub dma-of-spec : {M : Type 1} → statement M
 dma-of-spec =
     tie.close
     (tie.spec
-    -- slice-aggregate-put-bytes src/record.rt:114:15
+    -- slice-aggregate-put-bytes
     (λ c. search needs)
-    -- dma-in-requires src/record.rt:114:28
+    -- dma-in-requires
     (λ c κs. search needs)
-    -- put-bytes-requires src/record.rt:114:5
+    -- put-bytes-requires
     (λ c κs. part-fits (c .before .before .before .args .s .now) _ 41 256 297 (c .dma-in .ensures) (search needs) (omega arith))
-    -- returns src/record.rt:110:1
+    -- returns
     (λ c. part-copied (c .before .before .before .before .before .args .s .now) _ _ _ 41 256 297 (c .before .put-bytes .ensures) (c .before .before .dma-in .ensures) (search needs) (omega arith) (search needs)))

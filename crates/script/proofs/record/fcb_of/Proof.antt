@@ -8,11 +8,11 @@ pub fcb-of-spec : {M : Type 1} → statement M
 fcb-of-spec =
     tie.close
     (tie.spec
-    -- slice-aggregate-put-bytes src/record.rt:105:15
+    -- slice-aggregate-put-bytes
     (λ c. search needs)
-    -- fcb-in-requires src/record.rt:105:28
+    -- fcb-in-requires
     (λ c κs. search needs)
-    -- put-bytes-requires src/record.rt:105:5
+    -- put-bytes-requires
     (λ c κs. part-fits (c .before .before .before .args .s .now) _ 5 36 297 (c .fcb-in .ensures) (search needs) (omega arith))
-    -- returns src/record.rt:101:1
+    -- returns
     (λ c. part-copied (c .before .before .before .before .before .args .s .now) _ _ _ 5 36 297 (c .before .put-bytes .ensures) (c .before .before .fcb-in .ensures) (search needs) (omega arith) (search needs)))

@@ -9,13 +9,13 @@ unfolding isRecord
 is-record-spec =
     tie.close
     (tie.spec
-    -- returns src/record.rt:13:9
+    -- returns
     (λ c. search choices depth 8 fits 20000)
-    -- shared-slice-read-if2 src/record.rt:15:8
+    -- shared-slice-read-if2
     (λ c. search needs)
-    -- returns-2 src/record.rt:16:9
+    -- returns-2
     (λ c. search choices depth 8 fits 20000)
-    -- shared-slice-read-result src/record.rt:18:5
+    -- shared-slice-read-result
     (λ c. search needs)
-    -- returns-3 src/record.rt:8:1
+    -- returns-3
     (λ c. search choices depth 8 fits 20000))

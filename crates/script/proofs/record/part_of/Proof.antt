@@ -7,31 +7,31 @@ pub part-of-spec : {M : Type 1} → statement M
 part-of-spec =
     tie.close
     (tie.spec
-    -- sub-result src/record.rt:71:16
+    -- sub-result
     (λ c. search needs)
-    -- part-result-start src/record.rt:71:16
+    -- part-result-start
     (λ c. search needs)
-    -- part-result-end src/record.rt:71:16
+    -- part-result-end
     (λ c. search needs)
-    -- returns src/record.rt:71:9
+    -- returns
     (λ c. search (needs, part-none))
-    -- sub-if2 src/record.rt:73:8
+    -- sub-if2
     (λ c. search needs)
-    -- sub-result-2 src/record.rt:74:16
+    -- sub-result-2
     (λ c. search needs)
-    -- part-result-start-2 src/record.rt:74:16
+    -- part-result-start-2
     (λ c. search needs)
-    -- part-result-end-2 src/record.rt:74:16
+    -- part-result-end-2
     (λ c. search needs)
-    -- returns-2 src/record.rt:74:9
+    -- returns-2
     (λ c. search (needs, part-some))
-    -- add-result src/record.rt:76:12
+    -- add-result
     (λ c. search needs)
-    -- sub-result-3 src/record.rt:76:5
+    -- sub-result-3
     (λ c. search needs)
-    -- part-result-start-3 src/record.rt:76:5
+    -- part-result-start-3
     (λ c. search needs)
-    -- part-result-end-3 src/record.rt:76:5
+    -- part-result-end-3
     (λ c. search needs)
-    -- returns-3 src/record.rt:67:1
+    -- returns-3
     (λ c. search part-all))
