@@ -3,11 +3,13 @@
 #   root     the repository        out   the folder that they write to
 #   kit      the Rattle kit        own   its part for this kind of machine
 #   archive  the engine's archive: the file that MPM_ARCHIVE names, else the proved one
+#   native   the engine's archive for this machine's own processor, which native.sh makes
 # and has the functions below.
 
 root=$(cd "$(dirname "${BASH_SOURCE[0]}")/.." && pwd -P)
 out=$root/target/host
 archive=${MPM_ARCHIVE:-$root/target/staticlib/libengine.a}
+native=$out/native/libengine.a
 
 find_kit() {
     local rt
@@ -26,20 +28,25 @@ find_kit() {
     fi
 }
 
-# Something under crates/ is newer than the archive, or there is none. A file gone makes its folder newer.
-archive_is_old() {
-    [ ! -f "$archive" ] ||
-        [ -n "$(find "$root/crates" "$root/crates.txt" -name must-fail -prune -o -newer "$archive" -print -quit)" ]
+# Something under crates/ is newer than the file, or there is none. A file gone makes its folder newer.
+is_old() { # FILE
+    [ ! -f "$1" ] ||
+        [ -n "$(find "$root/crates" "$root/crates.txt" -name must-fail -prune -o -newer "$1" -print -quit)" ]
 }
 
 # Proves the engine and makes its archive, if need be. The archive is dated to the start, so that a source changed
 # meanwhile counts as newer.
 make_archive() {
-    if [ -n "${MPM_ARCHIVE:-}" ] || ! archive_is_old; then return; fi
+    if [ -n "${MPM_ARCHIVE:-}" ] || ! is_old "$archive"; then return; fi
     mkdir -p "$out"
     : >"$out/started"
     (cd "$root" && "$kit/bin/rt" staticlib engine) >&2
     touch -r "$out/started" "$archive"
+}
+
+# Makes the archive for this machine's own processor, if need be.
+make_native() {
+    if is_old "$native"; then bash "$root/host/native.sh"; fi
 }
 
 # kit_clang WORDS..: the kit's C compiler for x86-64, with the headers of libc/ and the engine's alone. A system header

@@ -8,7 +8,7 @@ unset MPM_ARCHIVE
 # shellcheck source=kit.sh
 . "$(dirname "${BASH_SOURCE[0]}")/kit.sh"
 work=$out/native
-result=$(realpath -m "${1:-$work/libengine.a}")
+result=$(realpath -m "${1:-$native}")
 real=$own/toolchain/bin
 
 # A toolchain as the kit's, whose clang first keeps a copy of the bitcode.
@@ -65,3 +65,4 @@ compile_again
 mkdir -p "$(dirname "$result")"
 rm -f "$result"
 "$real/llvm-ar" rcs "$result" "$work/engine.o"
+touch -r "$archive" "$result"

@@ -3,10 +3,10 @@ use Prim.Native.Nat.{ℕ, _<_}
 use mathlib.Core.Path.{_≡_, refl, sym, _∙_}
 use mathlib.Core.Bool.{Bool, true, false}
 use mathlib.Core.List.{List}
-use Rattle.words.specs.Tests.{_or_, any}
+use Rattle.words.specs.Tests.{any}
 use Rattle.words.proofs.Tests.{any-found}
-use Rattle.rules.specs.Drive.{isEmpty, extentAt, fileAt, isEntry, isBegun}
-use Rattle.rules.proofs.Sound.{Is, entry-so}
+use Rattle.rules.specs.Drive.{isEmpty, extentAt, fileAt, isEntry}
+use Rattle.rules.proofs.Sound.{entry-so}
 
 -- after `if is_empty(..)` and `if extent_at(..) == 0`
 pub begun-self : (s : List ℕ) (e : ℕ) (r : Bool) (x : ℕ) → e < 64 → r ≡ isEmpty s e → r ≡ false → x ≡ extentAt s e → x ≡ 0 → true ≡ any (isEntry s (fileAt s e) 0) 64

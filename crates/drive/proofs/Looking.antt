@@ -1,16 +1,14 @@
 -- What passing the tests of the check and of Look says. Assumes nothing.
-use Prim.Native.Nat.{ℕ, _+_, _-_, _≤_, _<_}
-use mathlib.Core.Path.{_≡_, refl, sym, ap, _∙_}
+use Prim.Native.Nat.{ℕ, _+_, _-_, _≤_}
+use mathlib.Core.Path.{_≡_, sym, ap, _∙_}
 use mathlib.Core.Bool.{Bool, true, false, not}
 use mathlib.Core.List.{List, []}
 use native.Mathlib.Omega.{arith}
 use lib.ListN.{length, take, drop}
-use lib.Dec.{eqb, leb}
 use borrow.Author.Tests.{leb-true, eqb-true, ne-eqb, not-true, not-false}
-use Rattle.words.specs.Tests.{_and_, _if_else_}
-use Rattle.words.specs.Bytes.{part}
+use Rattle.words.specs.Tests.{_if_else_}
 use Rattle.words.proofs.Tests.{and-fst, and-snd}
-use Rattle.rules.specs.Drive.{goodLength, soundImage, fileFrom, blockOf}
+use Rattle.rules.specs.Drive.{goodLength, fileFrom, blockOf}
 use Rattle.rules.specs.Look.{mayLook, lookBlock, partAt, lookAt, partFrom, look}
 use Rattle.rules.specs.declared.file.File.{File}
 use Rattle.rules.proofs.Sound.{length-long, sound-length}

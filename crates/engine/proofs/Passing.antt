@@ -1,26 +1,26 @@
 -- What passing the refusals that all calls share says. Assumes nothing.
-use Prim.Native.Nat.{ℕ, _*_, _≤_, _<_}
+use Prim.Native.Nat.{ℕ, _≤_, _<_}
 use mathlib.Core.Path.{_≡_, refl, sym, ap, _∙_}
 use mathlib.Core.Bool.{Bool, true, false, not}
-use mathlib.Core.List.{List, [], _∷_}
+use mathlib.Core.List.{List}
 use mathlib.Core.Logic.{⊎-elim}
 use native.Mathlib.Omega.{arith}
 use lib.ListN.{length}
-use lib.Dec.{leb, ltb, eqb}
-use borrow.Author.Tests.{leb-false, ltb-false, eqb-true, not-true, not-false, ne-eqb}
+use lib.Dec.{eqb}
+use borrow.Author.Tests.{leb-false, ltb-false, eqb-true, not-false}
 use Rattle.words.specs.Tests.{_and_, _or_, _if_else_}
 use Rattle.words.specs.Tables.{firstOf}
 use Rattle.words.proofs.Tests.{either, equal?, or-fst, or-snd}
 use Rattle.words.proofs.Tables.{row-off, row-rest}
+use Rattle.words.proofs.Sets.{row-yes, row-no}
 use Rattle.rules.specs.declared.routine.Routine.{Routine}
 use Rattle.rules.specs.declared.routine.Routine.the-variants.{Open, Close, Delete, Make, Rename, Read, Write, WriteZeros, TestWrite, Lock, Unlock, FreeSpace, Terminate}
 use Rattle.rules.specs.declared.routine.Chosen.{Chosen}
 use Rattle.rules.specs.declared.routine.Chosen.the-variants.{Call, Unknown}
 use Rattle.rules.specs.Serves.{Buffers, Did, buffers, functionOf, chosen, isUnknown}
-use Rattle.rules.specs.Drive.{highest, soundImage, goodLength}
-use Rattle.rules.specs.Locks.{soundList}
+use Rattle.rules.specs.Drive.{highest, soundImage}
 use Rattle.rules.specs.Look.{lookAt}
-use Rattle.rules.specs.Codes.{badNumbers, badDrive, rowsAll}
+use Rattle.rules.specs.Codes.{badNumbers, rowsInside, rowsAll}
 use Rattle.rules.specs.Call.{Ready, served, call}
 use Rattle.rules.proofs.Tables.{call-refused, call-served}
 use Rattle.rules.proofs.Sound.{sound-length, length-whole, length-long, length-few}
@@ -76,72 +76,58 @@ drive-by Terminate = refl
 pub drive-told : (n : ℕ) (k : Routine) (t : Bool) → chosen n ≡ Call k → t ≡ readsDrive k → t ≡ (not (eqb n 46) and not (eqb n 143))
 drive-told n k t h e = e ∙ drive-by k ∙ ap (λ (m : ℕ). not (eqb m 46) and not (eqb m 143)) (sym (chosen-number n k h))
 
--- ---- no general row applies
+-- ---- good numbers
 
-module _ (n p c : ℕ) (fcb dma list image : List ℕ) where
-  module _ (h : badNumbers n p c fcb dma list ≡ false) where
-    process-good : p < 16
-    unfolding badNumbers
-    process-good = leb-false 16 p (or-fst _ _ (or-snd _ _ h))
+module _ (n p c : ℕ) (fcb dma list : List ℕ) (r : Bool) (e : r ≡ badNumbers n p c fcb dma list) (t : r ≡ false) where
+  good : badNumbers n p c fcb dma list ≡ false
+  good = sym e ∙ t
 
-    low-good : 1 ≤ c
-    unfolding badNumbers
-    low-good = ltb-false c 1 (or-fst _ _ (or-snd _ _ (or-snd _ _ h)))
+  pub process-few : p < 16
+  unfolding badNumbers
+  process-few = leb-false 16 p (or-fst _ _ (or-snd _ _ good))
 
-    high-good : c ≤ 16
-    unfolding badNumbers
-    high-good = ltb-false 16 c (or-fst _ _ (or-snd _ _ (or-snd _ _ (or-snd _ _ h))))
+  pub count-some : 1 ≤ c
+  unfolding badNumbers
+  count-some = ltb-false c 1 (or-fst _ _ (or-snd _ _ (or-snd _ _ good)))
 
-    fcb-good : length fcb ≡ 36
-    unfolding badNumbers
-    fcb-good = eqb-true _ _ (not-false _ (or-fst _ _ (or-snd _ _ (or-snd _ _ (or-snd _ _ (or-snd _ _ h))))))
+  pub count-few : c ≤ 16
+  unfolding badNumbers
+  count-few = ltb-false 16 c (or-fst _ _ (or-snd _ _ (or-snd _ _ (or-snd _ _ good))))
 
-    dma-good : length dma ≡ 256
-    unfolding badNumbers
-    dma-good = eqb-true _ _ (not-false _ (or-fst _ _ (or-snd _ _ (or-snd _ _ (or-snd _ _ (or-snd _ _ (or-snd _ _ h)))))))
+  pub fcb-there : length fcb ≡ 36
+  unfolding badNumbers
+  fcb-there = eqb-true _ _ (not-false _ (or-fst _ _ (or-snd _ _ (or-snd _ _ (or-snd _ _ (or-snd _ _ good))))))
 
-    list-good : length list ≡ 1299
-    unfolding badNumbers
-    list-good = eqb-true _ _ (not-false _ (or-snd _ _ (or-snd _ _ (or-snd _ _ (or-snd _ _ (or-snd _ _ (or-snd _ _ h)))))))
+  dma-there : length dma ≡ 256
+  unfolding badNumbers
+  dma-there = eqb-true _ _ (not-false _ (or-fst _ _ (or-snd _ _ (or-snd _ _ (or-snd _ _ (or-snd _ _ (or-snd _ _ good)))))))
 
-  -- after `if bad_numbers(..) { return .. }`
-  module _ (r : Bool) (e : r ≡ badNumbers n p c fcb dma list) (t : r ≡ false) where
-    pub fcb-there : length fcb ≡ 36
-    fcb-there = fcb-good (sym e ∙ t)
+  pub list-there : length list ≡ 1299
+  unfolding badNumbers
+  list-there = eqb-true _ _ (not-false _ (or-snd _ _ (or-snd _ _ (or-snd _ _ (or-snd _ _ (or-snd _ _ (or-snd _ _ good)))))))
 
-    pub list-there : length list ≡ 1299
-    list-there = list-good (sym e ∙ t)
+  module _ (image : List ℕ) (code : ℕ) (h : code ≡ firstOf (rowsInside n fcb list image)) where
+    pub all-rows : code ≡ firstOf (rowsAll n p c (buffers fcb dma list image))
+    unfolding rowsAll rowsInside
+    all-rows = row-no code 3583 _ _ good h
 
-  -- after the whole table
-  module _ (code : ℕ) (e : code ≡ firstOf (rowsAll n p c (buffers fcb dma list image))) (z : code ≡ 0) where
-    numbers : badNumbers n p c fcb dma list ≡ false
-    unfolding rowsAll
-    numbers = row-off 3583 _ _ (λ q. omega arith) (sym e ∙ z)
+    -- no row applies
+    module _ (z : code ≡ 0) where
+      image-good : soundImage highest image ≡ true
+      unfolding rowsInside
+      image-good = not-false _ (row-off 511 _ _ (λ q. omega arith) (sym h ∙ z))
 
-    image-good : soundImage highest image ≡ true
-    unfolding rowsAll
-    image-good = not-false _ (row-off 511 _ _ (λ q. omega arith) (row-rest 3583 _ _ (λ q. omega arith) (sym e ∙ z)))
-
-    pub process-few : p < 16
-    process-few = process-good numbers
-
-    pub count-some : 1 ≤ c
-    count-some = low-good numbers
-
-    pub count-few : c ≤ 16
-    count-few = high-good numbers
-
-    pub ready : Ready (buffers fcb dma list image)
-    unfolding rowsAll
-    ready = record {
-      fcb-long = fcb-good numbers;
-      dma-long = dma-good numbers;
-      list-long = list-good numbers;
-      image-long = length-long image (sound-length highest image image-good);
-      image-short = let w = length-whole image (sound-length highest image image-good) in let f = length-few image (sound-length highest image image-good) in omega arith;
-      image-sound = image-good;
-      list-sound = not-false _ (row-off 3327 _ _ (λ q. omega arith) (row-rest 511 _ _ (λ q. omega arith) (row-rest 3583 _ _ (λ q. omega arith) (sym e ∙ z))));
-    }
+      pub ready : Ready (buffers fcb dma list image)
+      unfolding rowsInside
+      ready = record {
+        fcb-long = fcb-there;
+        dma-long = dma-there;
+        list-long = list-there;
+        image-long = length-long image (sound-length highest image image-good);
+        image-short = let w = length-whole image (sound-length highest image image-good) in let f = length-few image (sound-length highest image image-good) in omega arith;
+        image-sound = image-good;
+        list-sound = not-false _ (row-off 3327 _ _ (λ q. omega arith) (row-rest 511 _ _ (λ q. omega arith) (sym h ∙ z)));
+      }
 
 -- after `if !sound_image(..) { return .. }`
 module _ (r : Bool) (s : List ℕ) (e : r ≡ soundImage highest s) (t : not r ≡ false) where
@@ -154,26 +140,36 @@ module _ (r : Bool) (s : List ℕ) (e : r ≡ soundImage highest s) (t : not r �
 -- ---- the ends of a call
 
 module _ (n p c : ℕ) (b : Buffers) where
+  -- a row of the general table applies
+  refused : (code : ℕ) → code ≡ firstOf (rowsAll n p c b) → (code ≡ 0 → ⊥) → Did (call n p c b) code (b .fcb) (b .dma) (b .list) (b .image)
+  refused code e t =
+      did-as _ _ _ _ _ _ _
+      (ap (λ (a : ℕ). record { answer = a; left = b }) e ∙ sym (call-refused n p c b (λ z. t (e ∙ z)))) (did-none code b)
+
   -- an unknown function
   pub ends-unknown : (r : Chosen) → r ≡ chosen n → r ≡ Unknown → Did (call n p c b) 3583 (b .fcb) (b .dma) (b .list) (b .image)
   unfolding rowsAll badNumbers isUnknown firstOf _or_ _if_else_
-  ends-unknown r g u =
-      let h : chosen n ≡ Unknown = sym g ∙ u in
-      let q : firstOf (rowsAll n p c b) ≡ 3583 = rw h in
-      did-as _ _ _ _ _ _ _ (sym (call-refused n p c b (λ z. let y = sym q ∙ z in omega arith) ∙ ap (λ (a : ℕ). record { answer = a; left = b }) q)) (did-none 3583 b)
+  ends-unknown r g u = let h : chosen n ≡ Unknown = sym g ∙ u in refused 3583 (rw h) (λ z. omega arith)
 
-  module _ (code : ℕ) (e : code ≡ firstOf (rowsAll n p c b)) where
-    -- a general refusal
-    pub ends-refused : (code ≡ 0 → ⊥) → Did (call n p c b) code (b .fcb) (b .dma) (b .list) (b .image)
-    ends-refused t =
-        did-as _ _ _ _ _ _ _
-        (ap (λ (a : ℕ). record { answer = a; left = b }) e ∙ sym (call-refused n p c b (λ z. t (e ∙ z)))) (did-none code b)
+  module _ (r : Bool) (e : r ≡ badNumbers n p c (b .fcb) (b .dma) (b .list)) where
+    -- bad numbers
+    pub ends-bad : r ≡ true → Did (call n p c b) 3583 (b .fcb) (b .dma) (b .list) (b .image)
+    unfolding rowsAll
+    ends-bad t = refused 3583 (row-yes 3583 3583 _ _ (sym e ∙ t) refl) (λ z. omega arith)
 
-    -- the call is served
-    pub ends-served : (r : Chosen) (k : Routine) (a : ℕ) (fcb dma list image : List ℕ) → code ≡ 0 → r ≡ chosen n → r ≡ Call k → Did (served (Call k) p c b) a fcb dma list image → Did (call n p c b) a fcb dma list image
-    ends-served r k a fcb dma list image z g h d =
-        did-as _ _ a fcb dma list image
-        (ap (λ (m : Chosen). served m p c b) (sym h ∙ g) ∙ sym (call-served n p c b (sym e ∙ z))) d
+    module _ (t : r ≡ false) (code : ℕ) (h : code ≡ firstOf (rowsInside n (b .fcb) (b .list) (b .image))) where
+      table : code ≡ firstOf (rowsAll n p c b)
+      table = all-rows n p c (b .fcb) (b .dma) (b .list) r e t (b .image) code h
+
+      -- another general refusal
+      pub ends-refused : (code ≡ 0 → ⊥) → Did (call n p c b) code (b .fcb) (b .dma) (b .list) (b .image)
+      ends-refused = refused code table
+
+      -- the call is served
+      pub ends-served : (q : Chosen) (k : Routine) (a : ℕ) (fcb dma list image : List ℕ) → code ≡ 0 → q ≡ chosen n → Did (served (Call k) p c b) a fcb dma list image → q ≡ Call k → Did (call n p c b) a fcb dma list image
+      ends-served q k a fcb dma list image z g d y =
+          did-as _ _ a fcb dma list image
+          (ap (λ (m : Chosen). served m p c b) (sym y ∙ g) ∙ sym (call-served n p c b (sym table ∙ z))) d
 
 -- ---- Look's number
 

@@ -1,13 +1,13 @@
 -- From a routine's outcome to the call's. Assumes nothing.
 use Prim.Native.Nat.{ℕ}
 use mathlib.Core.Path.{_≡_, refl, sym, ap, _∙_}
-use mathlib.Core.Bool.{Bool, true, false, true≢false}
+use mathlib.Core.Bool.{false, true≢false}
 use mathlib.Core.List.{List}
 use Rattle.rules.specs.declared.routine.Routine.{Routine}
 use Rattle.rules.specs.declared.routine.Routine.the-variants.{Open, Close, Delete, Make, Rename, Read, Write, WriteZeros, TestWrite, Lock, Unlock, FreeSpace, Terminate}
 use Rattle.rules.specs.declared.routine.Chosen.the-variants.{Call}
-use Rattle.rules.specs.Serves.{Buffers, Outcome, Did}
-use Rattle.rules.specs.Call.{unless, askedBy, asked, rowsOf, effectOf, served}
+use Rattle.rules.specs.Serves.{Buffers, Did}
+use Rattle.rules.specs.Call.{askedBy, asked, rowsOf, effectOf, served}
 use Rattle.rules.proofs.Ends.{did-as}
 use Rattle.engine.specs.Drives.{usesCount}
 

@@ -7,6 +7,8 @@ use choose::routine_of;
 use drive::check::image_check;
 use drive::look::look_at;
 use locklist::start::start;
+use locklist::unpack::unpack;
+use refuse::bad_numbers;
 use refuse::refusal;
 use rules::answer::image_number;
 use rules::routine::Chosen;
@@ -36,20 +38,15 @@ pub extern "C" fn mpm_call(
     let Chosen::Call(routine) = chosen else {
         return 3583;
     };
-    let code = refusal(
-        function,
-        routine,
-        process,
-        count,
-        &*fcb,
-        &*dma,
-        &*list,
-        &*image,
-    );
+    if bad_numbers(function, routine, process, count, &*fcb, &*dma, &*list) {
+        return 3583;
+    }
+    let l = unpack(&*list);
+    let code = refusal(function, routine, l, &*fcb, &*list, &*image);
     if code != 0 {
         return code;
     }
-    serve(routine, process as u8, count, fcb, dma, list, image)
+    serve(routine, process as u8, count, l, fcb, dma, list, image)
 }
 
 // Start: a fresh list from three numbers and sixteen users, or 255/13 and the list unchanged.

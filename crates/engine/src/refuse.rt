@@ -1,18 +1,20 @@
 use drive::check::sound_image;
 use listcheck::check::sound_list;
+use rules::list::LockList;
 use rules::routine::Routine;
 ghost use mathlib.Core.Path.{_≡_};
 ghost use mathlib.Core.Bool.{Bool, true, false, not};
 ghost use lib.ListN.{length};
 ghost use lib.Dec.{eqb};
 ghost use Rattle.words.specs.Tables.{firstOf};
-ghost use Rattle.rules.specs.Serves.{buffers, chosen, functionOf};
+ghost use Rattle.rules.specs.Serves.{chosen, functionOf};
 ghost use Rattle.rules.specs.declared.routine.Chosen.the-variants.{Call};
-ghost use Rattle.rules.specs.Codes.{badNumbers, badDrive, rowsAll};
+ghost use Rattle.rules.specs.Locks.{unpack};
+ghost use Rattle.rules.specs.Codes.{badNumbers, badDrive, rowsInside};
 ghost use Rattle.engine.specs.Drives.{readsDrive};
 
 // 255/13 for a known function: process over 15, count outside 1 to 16, FCB, DMA or list of wrong length.
-fn bad_numbers(
+pub fn bad_numbers(
     function: u32,
     routine: Routine,
     process: u32,
@@ -74,27 +76,22 @@ fn bad_drive(function: u32, routine: Routine, fcb: &[u8]) -> bool
     reads_drive(routine)
 }
 
-// The code of the first refusal that all calls share, or 0.
+// The code of the first refusal that all calls share once the numbers are good, or 0; `l` is the list, unpacked.
 pub fn refusal(
     function: u32,
     routine: Routine,
-    process: u32,
-    count: u32,
+    l: LockList,
     fcb: &[u8],
-    dma: &[u8],
     list: &[u8],
     image: &[u8],
 ) -> u32
-    requires { ⌜ chosen function ≡ Call routine ⌝ }
-    ensures { λ c. ⌜ c ≡ firstOf (rowsAll function process count (buffers (now (fcb .entry)) (now (dma .entry)) (now (list .entry)) (now (image .entry)))) ⌝ }
+    requires { ⌜ (chosen function ≡ Call routine) × (l ≡ unpack (now list)) × (length (now fcb) ≡ 36) × (length (now list) ≡ 1299) ⌝ }
+    ensures { λ c. ⌜ c ≡ firstOf (rowsInside function (now (fcb .entry)) (now (list .entry)) (now (image .entry))) ⌝ }
 {
-    if bad_numbers(function, routine, process, count, fcb, dma, list) {
-        return 3583;
-    }
     if !sound_image(image, 262143) {
         return 511;
     }
-    if !sound_list(list, image) {
+    if !sound_list(l, list, image) {
         return 3327;
     }
     if bad_drive(function, routine, fcb) {

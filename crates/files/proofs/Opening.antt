@@ -1,28 +1,23 @@
 -- 15 and 16: the outcome at each end of their routines. Assumes nothing.
 use Prim.Native.Nat.{ℕ, _+_, _-_, _*_, _≤_, _<_}
-use mathlib.Core.Path.{_≡_, refl, sym, ap, _∙_}
-use mathlib.Core.Bool.{Bool, true, false, not}
+use mathlib.Core.Path.{_≡_, refl, ap, _∙_}
 use mathlib.Core.List.{List, [], _∷_}
 use native.Mathlib.Omega.{arith}
-use lib.ListN.{length, take, drop}
-use lib.Dec.{leb, ltb, eqb}
-use borrow.Author.Tests.{leb-false, le-ltb, lt-ltb}
-use Rattle.words.specs.Tests.{_if_else_, all}
-use Rattle.words.specs.Bytes.{put, part, lowFrom}
-use Rattle.words.specs.Lists.{tab}
+use lib.ListN.{take, drop}
+use borrow.Author.Tests.{le-ltb, lt-ltb}
+use Rattle.words.specs.Tests.{_if_else_}
+use Rattle.words.specs.Bytes.{put, part}
 use Rattle.words.specs.Tables.{firstOf}
-use Rattle.words.proofs.Tests.{lowest-within, all-make}
-use Rattle.words.proofs.Lists.{tab-at}
-use Rattle.words.proofs.Tables.{row-off, row-rest}
+use Rattle.words.proofs.Tests.{lowest-within}
 use Rattle.words.proofs.Sets.{row-yes, row-no, row-none, not-of-false, not-of-true}
 use Rattle.rules.specs.declared.file.File.{File}
 use Rattle.rules.specs.declared.file.Found.{Found}
 use Rattle.rules.specs.declared.list.LockList.{LockList}
 use Rattle.rules.specs.declared.routine.Chosen.the-variants.{Call}
 use Rattle.rules.specs.Serves.{Buffers, Did}
-use Rattle.rules.specs.Drive.{lookUp, freeEntry, fileFrom}
-use Rattle.rules.specs.Locks.{unpack, pack, openOf, isOpened, freePlace, isEmptyAt, isLow}
-use Rattle.rules.specs.Asks.{callerFile, newFile, recordOf, openMode, makeMode}
+use Rattle.rules.specs.Drive.{lookUp}
+use Rattle.rules.specs.Locks.{unpack, pack, openOf, isOpened, freePlace, isEmptyAt}
+use Rattle.rules.specs.Asks.{callerFile, recordOf, openMode}
 use Rattle.rules.specs.Call.{askedBy, rowsOf, effectOf, served}
 use Rattle.rules.proofs.Ends.{did-as, did-refuse, did-pass, served-as}
 use Rattle.rules.specs.declared.routine.Routine.the-variants.{Open, Close}

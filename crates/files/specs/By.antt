@@ -1,26 +1,12 @@
 -- A call's table and effect, on what its routine has found: the caller's list, its open at place o, the file. Assumes nothing.
 use Prim.Native.Nat.{ℕ}
-use mathlib.Core.List.{List, [], _∷_}
-use lib.Dec.{leb}
-use Rattle.words.specs.Tests.{any}
-use Rattle.words.specs.Tables.{Row, _∕_, _when_}
 use Rattle.rules.specs.declared.file.File.{File}
 use Rattle.rules.specs.declared.list.LockList.{LockList}
 use Rattle.rules.specs.Serves.{Buffers, Outcome}
 use Rattle.rules.specs.Drive.{lookUp}
-use Rattle.rules.specs.Locks.{opensBy, freePlace}
-use Rattle.rules.specs.Asks.{openMode}
-use Rattle.rules.specs.Codes.{standsAgainstAt, rows15, rows19, rows22, rows23}
+use Rattle.rules.specs.Codes.{rows15, rows19, rows22, rows23}
 use Rattle.rules.specs.Effects.{does15, does19, does22, does23}
 use Rattle.rules.specs.Call.{unless}
-
--- the rows of 15 for a file that the caller has not open
-unfoldable pub rowsNew : ℕ → LockList → File → List ℕ → List Row
-rowsNew p l f fcb =
-    255 ∕ 5 when any (standsAgainstAt l p f (openMode fcb)) 64
-    ∷ 255 ∕ 10 when leb (l .openlimit) (opensBy l p)
-    ∷ 255 ∕ 11 when leb (l .capacity) (freePlace l)
-    ∷ []
 
 unfoldable pub by15 : ℕ → LockList → ℕ → File → Buffers → Outcome
 by15 p l o f b = unless (rows15 p l o f (lookUp (b .image) f) (b .fcb)) b (does15 p l o f (lookUp (b .image) f) b)

@@ -3,7 +3,6 @@ use drive::find::look_up;
 use drive::find::read_only;
 use drive::name::legal_name;
 use locklist::ask::caller_file;
-use locklist::unpack::unpack;
 use rules::file::File;
 use rules::file::Found;
 use rules::list::LockList;
@@ -12,6 +11,7 @@ ghost use mathlib.Core.Path.{_≡_};
 ghost use lib.ListN.{length};
 ghost use Rattle.words.specs.Tables.{firstOf};
 ghost use Rattle.rules.specs.Serves.{Did, buffers};
+ghost use Rattle.rules.specs.Locks.{unpack};
 ghost use Rattle.rules.specs.Call.{Ready, served};
 ghost use Rattle.rules.specs.declared.routine.Chosen.the-variants.{Call};
 ghost use Prim.Native.Nat.{_≤_};
@@ -54,11 +54,10 @@ fn delete_by(l: LockList, f: File, fcb: &[u8], dma: &[u8], list: &[u8], image: &
 }
 
 // 19 on the buffers.
-pub fn delete_file(p: u8, fcb: &[u8], dma: &[u8], list: &[u8], image: &mut [u8]) -> u32
-    requires { ⌜ Ready (buffers (now fcb) (now dma) (now list) (now image)) ⌝ }
+pub fn delete_file(p: u8, l: LockList, fcb: &[u8], dma: &[u8], list: &[u8], image: &mut [u8]) -> u32
+    requires { ⌜ (l ≡ unpack (now list)) × Ready (buffers (now fcb) (now dma) (now list) (now image)) ⌝ }
     ensures { λ c. ⌜ Did (served (Call Delete) p 1 (buffers (now (fcb .entry)) (now (dma .entry)) (now (list .entry)) (now (image .entry)))) c (now (fcb .entry)) (now (dma .entry)) (now (list .entry)) (now (image .exit)) ⌝ }
 {
-    let l = unpack(list);
     let f = caller_file(l, p, fcb);
     delete_by(l, f, fcb, dma, list, image)
 }

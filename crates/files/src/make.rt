@@ -8,7 +8,6 @@ use drive::name::legal_name;
 use locklist::ask::caller_file;
 use locklist::ask::make_mode;
 use locklist::pack::pack;
-use locklist::unpack::unpack;
 use rules::file::File;
 use rules::file::Found;
 use rules::list::LockList;
@@ -17,6 +16,7 @@ ghost use mathlib.Core.Path.{_≡_};
 ghost use lib.ListN.{length};
 ghost use Rattle.words.specs.Tables.{firstOf};
 ghost use Rattle.rules.specs.Serves.{Did, buffers};
+ghost use Rattle.rules.specs.Locks.{unpack};
 ghost use Rattle.rules.specs.Call.{Ready, served};
 ghost use Rattle.rules.specs.declared.routine.Chosen.the-variants.{Call};
 ghost use Prim.Native.Nat.{_≤_};
@@ -85,11 +85,17 @@ fn make_by(
 }
 
 // 22 on the buffers.
-pub fn make_file(p: u8, fcb: &mut [u8], dma: &[u8], list: &mut [u8], image: &mut [u8]) -> u32
-    requires { ⌜ Ready (buffers (now fcb) (now dma) (now list) (now image)) ⌝ }
+pub fn make_file(
+    p: u8,
+    l: LockList,
+    fcb: &mut [u8],
+    dma: &[u8],
+    list: &mut [u8],
+    image: &mut [u8],
+) -> u32
+    requires { ⌜ (l ≡ unpack (now list)) × Ready (buffers (now fcb) (now dma) (now list) (now image)) ⌝ }
     ensures { λ c. ⌜ Did (served (Call Make) p 1 (buffers (now (fcb .entry)) (now (dma .entry)) (now (list .entry)) (now (image .entry)))) c (now (fcb .exit)) (now (dma .entry)) (now (list .exit)) (now (image .exit)) ⌝ }
 {
-    let l = unpack(&*list);
     let f = caller_file(l, p, &*fcb);
     make_by(p, l, f, fcb, dma, list, image)
 }

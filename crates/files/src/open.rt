@@ -7,7 +7,6 @@ use drive::name::legal_name;
 use locklist::ask::caller_file;
 use locklist::ask::open_mode;
 use locklist::pack::pack;
-use locklist::unpack::unpack;
 use rules::file::File;
 use rules::file::Found;
 use rules::list::LockList;
@@ -21,10 +20,10 @@ ghost use mathlib.Core.Bool.{not};
 ghost use lib.Dec.{eqb};
 ghost use Rattle.words.specs.Tests.{_and_, any};
 ghost use Rattle.rules.specs.declared.routine.Routine.the-variants.{Open};
-ghost use Rattle.rules.specs.Locks.{itemAt, isOpened};
+ghost use Rattle.rules.specs.Locks.{itemAt, isOpened, unpack};
 ghost use Rattle.rules.specs.Asks.{openMode};
-ghost use Rattle.rules.specs.Codes.{standsAgainstAt, rows15};
-ghost use Rattle.files.specs.By.{rowsNew, by15};
+ghost use Rattle.rules.specs.Codes.{standsAgainstAt, rowsNew, rows15};
+ghost use Rattle.files.specs.By.{by15};
 
 // The open at place `o` has the mode that is asked for.
 fn same_mode(l: LockList, o: usize, fcb: &[u8]) -> bool
@@ -123,11 +122,17 @@ fn open_by(
 }
 
 // 15 on the buffers.
-pub fn open_file(p: u8, fcb: &mut [u8], dma: &[u8], list: &mut [u8], image: &[u8]) -> u32
-    requires { ⌜ Ready (buffers (now fcb) (now dma) (now list) (now image)) ⌝ }
+pub fn open_file(
+    p: u8,
+    l: LockList,
+    fcb: &mut [u8],
+    dma: &[u8],
+    list: &mut [u8],
+    image: &[u8],
+) -> u32
+    requires { ⌜ (l ≡ unpack (now list)) × Ready (buffers (now fcb) (now dma) (now list) (now image)) ⌝ }
     ensures { λ c. ⌜ Did (served (Call Open) p 1 (buffers (now (fcb .entry)) (now (dma .entry)) (now (list .entry)) (now (image .entry)))) c (now (fcb .exit)) (now (dma .entry)) (now (list .exit)) (now (image .entry)) ⌝ }
 {
-    let l = unpack(&*list);
     let f = caller_file(l, p, &*fcb);
     let o = l.open_of(p, f);
     open_by(p, l, o, f, fcb, dma, list, image)

@@ -4,7 +4,6 @@ use drive::find::read_only;
 use drive::name::legal_name;
 use locklist::ask::caller_file;
 use locklist::ask::new_file;
-use locklist::unpack::unpack;
 use rules::file::File;
 use rules::file::Found;
 use rules::list::LockList;
@@ -20,7 +19,7 @@ ghost use Prim.Native.Nat.{_≤_};
 ghost use Rattle.words.specs.Tests.{_or_, all};
 ghost use Rattle.rules.specs.declared.routine.Routine.the-variants.{Rename};
 ghost use Rattle.rules.specs.Drive.{legalName, missing};
-ghost use Rattle.rules.specs.Locks.{isLow};
+ghost use Rattle.rules.specs.Locks.{isLow, unpack};
 ghost use Rattle.rules.specs.Codes.{rows23};
 ghost use Rattle.files.specs.By.{by23};
 
@@ -90,11 +89,10 @@ fn rename_by(
 }
 
 // 23 on the buffers.
-pub fn rename_file(p: u8, fcb: &[u8], dma: &[u8], list: &[u8], image: &mut [u8]) -> u32
-    requires { ⌜ Ready (buffers (now fcb) (now dma) (now list) (now image)) ⌝ }
+pub fn rename_file(p: u8, l: LockList, fcb: &[u8], dma: &[u8], list: &[u8], image: &mut [u8]) -> u32
+    requires { ⌜ (l ≡ unpack (now list)) × Ready (buffers (now fcb) (now dma) (now list) (now image)) ⌝ }
     ensures { λ c. ⌜ Did (served (Call Rename) p 1 (buffers (now (fcb .entry)) (now (dma .entry)) (now (list .entry)) (now (image .entry)))) c (now (fcb .entry)) (now (dma .entry)) (now (list .entry)) (now (image .exit)) ⌝ }
 {
-    let l = unpack(list);
     let f = caller_file(l, p, fcb);
     let new = new_file(l, p, fcb);
     rename_by(l, f, new, fcb, dma, list, image)

@@ -11,13 +11,14 @@ use borrow.Author.Tests.{eq-eqb, ne-eqb, leb-true}
 use Rattle.words.specs.Tests.{_and_, _if_else_, count}
 use Rattle.words.proofs.Tests.{and-fst}
 use Rattle.words.proofs.Sets.{and-left, not-of-true}
+use Rattle.words.proofs.Counts.{count-up}
 use Rattle.rules.specs.declared.item.Item.{Item}
 use Rattle.rules.specs.declared.list.LockList.{LockList}
 use Rattle.rules.specs.Locks.{itemAt, isKindBy, isKindByAt, opensBy, locksBy, isEmptyAt, freePlaces}
-use Rattle.soundness.proofs.Locks.{GoodOpen, GoodLock, Used, Vacant, SoundLocks, isPlain, capacity-fits}
+use Rattle.rules.proofs.SoundList.{GoodOpen, GoodLock, Used, Vacant, SoundLocks, isPlain, capacity-fits}
 use Rattle.history.specs.Demands.{AddUp, sumBelow, itemsBy}
 use Rattle.history.proofs.Tallied.{Tally, OfItems, passesAt}
-use Rattle.history.proofs.Solid.{Solid, isItem, split, empty-or-not, count-up, sum-ext, sum-add, sum-none, sum-one}
+use Rattle.history.proofs.Solid.{Solid, isItem, split, empty-or-not, sum-ext, sum-add, sum-none, sum-one}
 
 abbrev bit : Bool → ℕ
 bit t = 1 if t else 0

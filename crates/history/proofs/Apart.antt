@@ -17,14 +17,13 @@ use Rattle.rules.specs.Locks.{itemAt, userOf, unpack, pack, withItems, freshOpe
 use Rattle.rules.specs.Asks.{recordOf, newFile}
 use Rattle.rules.specs.Effects.{placed, opened, closed, unlockedRun, terminated, lockedRun, isOfFile, isInRun}
 use Rattle.rules.proofs.Sound.{SoundImage}
-use Rattle.soundness.proofs.Frames.{Same, same-refl, user-is}
+use Rattle.rules.proofs.Frames.{Same, same-refl, user-is}
+use Rattle.rules.proofs.SoundList.{Shape, capacity-fits, unpacked}
 use Rattle.soundness.proofs.Changes.{Touches, Theirs}
 use Rattle.soundness.proofs.Blocks.{At, at-grown, at-forth, at-back}
 use Rattle.soundness.proofs.Erased.{all-erased, erased-touches}
 use Rattle.soundness.proofs.Renamed.{all-renamed}
 use Rattle.soundness.proofs.Written.{Old, New}
-use Rattle.soundness.proofs.Locks.{Shape, capacity-fits}
-use Rattle.soundness.proofs.Packed.{unpacked}
 use Rattle.soundness.proofs.Placed.{free-room, at-here, at-other}
 use Rattle.soundness.proofs.Emptied.{Empties, at-gone, at-kept, close-empties, unlock-empties, end-empties}
 use Rattle.soundness.proofs.Run.{Filled, running}

@@ -6,28 +6,28 @@ use mathlib.Core.List.{List, _∷_, map}
 use mathlib.Core.Logic.{⊎-elim}
 use native.Mathlib.Omega.{arith}
 use lib.ListN.{length}
+use borrow.Author.Tests.{not-true}
 use Rattle.words.specs.Tests.{_and_, _if_else_}
-use Rattle.words.proofs.Tests.{either, and-fst}
-use Rattle.words.proofs.Counts.{count-ext}
+use Rattle.words.proofs.Tests.{either, and-fst, same-test}
+use Rattle.words.proofs.Counts.{count-ext, count-set}
 use Rattle.words.proofs.Sets.{and-left, not-of-true}
 use Rattle.rules.specs.declared.file.File.{File}
 use Rattle.rules.specs.Drive.{highest, fileAt, extentAt, mapNumber, mapPlace, isOf}
 use Rattle.rules.specs.Effects.{erased, renamed}
 use Rattle.rules.proofs.Sound.{Names, SoundImage, file-long}
-use Rattle.soundness.proofs.Frames.{head-of, file-same, extent-same, empty-same, of-file, file-of}
+use Rattle.rules.proofs.Frames.{head-of, file-same, extent-same, empty-same, of-file, file-of}
+use Rattle.rules.proofs.Items.{file-is, file-refl}
 use Rattle.soundness.proofs.Steps.{Stays}
 use Rattle.soundness.proofs.Changes.{Grown}
 use Rattle.soundness.proofs.Blocks.{At, only, is-grown, at-names}
-use Rattle.soundness.proofs.Items.{file-is, file-refl, same-test}
 use Rattle.soundness.proofs.Written.{Old, New}
 use Rattle.soundness.proofs.Erased.{erased-gone, erased-kept}
 use Rattle.soundness.proofs.Renamed.{renamed-empty, renamed-extent, renamed-number, renamed-kept}
+use Rattle.soundness.proofs.Stored.{free-low}
 use Rattle.history.specs.Held.{tally, without}
 use Rattle.history.specs.Groups.{Group, group, isCounted, isNumbered, groupAt, touching, ofFile, carried}
-use Rattle.history.proofs.Tallies.{tally-without, tally-map, count-set}
+use Rattle.history.proofs.Tallies.{tally-without, tally-map}
 use Rattle.history.proofs.Positions.{Counted, holdsGroup, numbered-names, names-numbered, names-flat, flat-entry, flat-place, at-group, counted-at, at-counted}
-use borrow.Author.Tests.{not-true}
-use Rattle.soundness.proofs.Stored.{free-low}
 
 -- two tests of the places that agree where a number stands
 holds-same : (s t : List ℕ) (p q : Group → Bool) (i : ℕ) → isNumbered t i ≡ isNumbered s i → (isNumbered s i ≡ true → p (groupAt t i) ≡ q (groupAt s i)) → holdsGroup p t i ≡ holdsGroup q s i

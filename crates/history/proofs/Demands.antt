@@ -11,6 +11,7 @@ use Rattle.words.specs.Tests.{_and_, count}
 use Rattle.words.specs.Bytes.{byte, part, put, le}
 use Rattle.words.proofs.Tests.{and-fst, and-snd}
 use Rattle.words.proofs.Counts.{count-ext}
+use Rattle.words.proofs.Bytes.{part-same}
 use Rattle.rules.specs.declared.file.File.{File}
 use Rattle.rules.specs.declared.item.Item.{Item}
 use Rattle.rules.specs.declared.routine.Chosen.{Chosen}
@@ -22,10 +23,10 @@ use Rattle.rules.specs.Call.{asked, effectOf, call}
 use Rattle.rules.proofs.Sound.{SoundImage, sound-of, isUsedData, length-long}
 use Rattle.rules.proofs.Tables.{accepted, zero-accepted}
 use Rattle.rules.proofs.Look.{same-group}
-use Rattle.soundness.proofs.Items.{name-is}
-use Rattle.soundness.proofs.Frames.{Same}
+use Rattle.rules.proofs.Items.{name-is}
+use Rattle.rules.proofs.Frames.{Same}
+use Rattle.rules.proofs.SoundList.{GoodOpen, GoodLock, Used, Vacant, isPlain, unpack-shape, user-fits}
 use Rattle.soundness.proofs.Blocks.{At, at-of, blocks-same}
-use Rattle.soundness.proofs.Locks.{GoodOpen, GoodLock, Used, Vacant, isPlain, unpack-shape, user-fits}
 use Rattle.soundness.proofs.Kept.{SoundBoth, call-sound}
 use Rattle.soundness.proofs.Walk.{walk}
 use Rattle.history.specs.History.{Engine, Ask, State, Begun, outcomeOf, kept, event, eventsOf, firstState, after, historyOf}
@@ -38,7 +39,6 @@ use Rattle.history.proofs.Items.{alike-of}
 use Rattle.history.proofs.Tallied.{listed-held}
 use Rattle.history.proofs.Positions.{holdsGroup, each-counted}
 use Rattle.history.proofs.InUse.{in-use}
-use Rattle.history.proofs.Parts.{part-same}
 use Rattle.history.proofs.Seen.{Seen}
 use Rattle.history.proofs.Unharmed.{seen-leaf, unchanged}
 use Rattle.history.proofs.Apart.{Others, others-leaf, items-leaf}

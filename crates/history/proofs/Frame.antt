@@ -12,7 +12,8 @@ use Rattle.rules.specs.Serves.{Buffers, Outcome}
 use Rattle.rules.specs.Locks.{unpack, pack, withItems}
 use Rattle.rules.specs.Asks.{recordOf}
 use Rattle.rules.specs.Effects.{placed, opened, closed, unlockedRun, terminated, lockedRun}
-use Rattle.soundness.proofs.Packed.{unpacked}
+use Rattle.rules.specs.declared.file.File.{File}
+use Rattle.rules.proofs.SoundList.{unpacked}
 use Rattle.soundness.proofs.Erased.{all-erased}
 use Rattle.soundness.proofs.Renamed.{all-renamed}
 use Rattle.soundness.proofs.Written.{Old, New}
@@ -21,7 +22,6 @@ use Rattle.soundness.proofs.Taken.{caller-long}
 use Rattle.soundness.proofs.Kept.{SoundShape, opened-shape, made-shape, closed-shape, unlocked-shape, ended-shape, locked-shape}
 use Rattle.soundness.proofs.Ends.{image-of, shape-of, list-of, made-of, written-of, takes-of}
 use Rattle.soundness.proofs.Leaves.{Leaf, listOf, fileBy, newBy, refused, reopened, newlyOpened, newlyMade, nowClosed, nowErased, nowRenamed, nowRead, nowWritten, nowRewritten, nowLocked, lockIdle, nowUnlocked, unlockIdle, nowTold, nowEnded}
-use Rattle.rules.specs.declared.file.File.{File}
 
 pub record Framed (l k : LockList) : Type 0 where
   pub capacities : k .capacity ≡ l .capacity

@@ -16,7 +16,7 @@ use Rattle.rules.specs.declared.routine.Chosen.the-variants.{Call, Unknown}
 use Rattle.rules.specs.Serves.{Buffers, Outcome, chosen}
 use Rattle.rules.specs.Locks.{unpack, freePlace, freePlaces}
 use Rattle.rules.specs.Asks.{callerFile, recordOf}
-use Rattle.rules.specs.Codes.{rowsAll, rows15, rows16, rows19, rows22, rows23, rows33, rows34, rows41, rows42, rows43, rowsThere, rowsMay, rowsRoom, rowsDiffer, rowsRun, rowsLacking, rowsTake, isNew}
+use Rattle.rules.specs.Codes.{rowsInside, rowsAll, rowsNew, rows15, rows16, rows19, rows22, rows23, rows33, rows34, rows41, rows42, rows43, rowsThere, rowsMay, rowsRoom, rowsDiffer, rowsRun, rowsLacking, rowsTake, isNew}
 use Rattle.rules.specs.Call.{asked, askedBy, rowsOf, rowsCall, call}
 use Rattle.rules.proofs.Tables.{accepted-zero, refused}
 
@@ -58,11 +58,11 @@ module _ (n p c : ℕ) (b : Buffers) where
       opened h = unfold rowsCall in h
 
   general-11 : anyCode (255 ∕ 11) (rowsAll n p c b) ≡ false
-  unfolding rowsAll anyCode _and_ _or_
+  unfolding rowsInside rowsAll anyCode _and_ _or_
   general-11 = refl
 
   general-14 : anyCode (14 ∕ 0) (rowsAll n p c b) ≡ false
-  unfolding rowsAll anyCode _and_ _or_
+  unfolding rowsInside rowsAll anyCode _and_ _or_
   general-14 = refl
 
   or-end : (t : Bool) → (t or false) ≡ true → t ≡ true
@@ -72,7 +72,7 @@ module _ (n p c : ℕ) (b : Buffers) where
 
   -- 255/11: no place is empty
   own-11 : (k : Chosen) → anyCode (255 ∕ 11) (rowsOf k (asked p c b) b) ≡ true → leb (unpack (b .list) .capacity) (freePlace (unpack (b .list))) ≡ true
-  unfolding rowsOf asked askedBy rows15 rows16 rows19 rows22 rows23 rows33 rows34 rows41 rows42 rows43 rowsThere rowsMay rowsRoom rowsDiffer rowsRun rowsLacking rowsTake anyCode _and_ _or_
+  unfolding rowsOf asked askedBy rowsNew rows15 rows16 rows19 rows22 rows23 rows33 rows34 rows41 rows42 rows43 rowsThere rowsMay rowsRoom rowsDiffer rowsRun rowsLacking rowsTake anyCode _and_ _or_
   own-11 (Call Open) h = or-end _ (code-only (255 ∕ 11) _ _ h)
   own-11 (Call Close) h = absurd (never h refl)
   own-11 (Call Delete) h = absurd (never h refl)
@@ -90,7 +90,7 @@ module _ (n p c : ℕ) (b : Buffers) where
 
   -- 14/0: fewer places than records not yet held
   own-14 : (k : Chosen) → anyCode (14 ∕ 0) (rowsOf k (asked p c b) b) ≡ true → ltb (freePlaces (unpack (b .list))) (count (isNew (unpack (b .list)) p (callerFile p (unpack (b .list)) (b .fcb)) (recordOf (b .fcb))) c) ≡ true
-  unfolding rowsOf asked askedBy rows15 rows16 rows19 rows22 rows23 rows33 rows34 rows41 rows42 rows43 rowsThere rowsMay rowsRoom rowsDiffer rowsRun rowsLacking rowsTake anyCode _and_ _or_
+  unfolding rowsOf asked askedBy rowsNew rows15 rows16 rows19 rows22 rows23 rows33 rows34 rows41 rows42 rows43 rowsThere rowsMay rowsRoom rowsDiffer rowsRun rowsLacking rowsTake anyCode _and_ _or_
   own-14 (Call Open) h = absurd (never (code-only (14 ∕ 0) _ _ h) refl)
   own-14 (Call Close) h = absurd (never h refl)
   own-14 (Call Delete) h = absurd (never h refl)

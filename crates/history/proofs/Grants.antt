@@ -7,8 +7,8 @@ use native.Mathlib.Omega.{arith}
 use lib.Dec.{leb}
 use borrow.Author.Tests.{leb-true, ltb-true}
 use Rattle.words.specs.Tests.{count, lowest}
-use Rattle.words.proofs.Tests.{any-never, lowest-over}
-use Rattle.words.proofs.Counts.{count-ext}
+use Rattle.words.proofs.Tests.{any-never, lowest-over, same-test}
+use Rattle.words.proofs.Counts.{count-ext, count-zero}
 use Rattle.rules.specs.declared.file.File.{File}
 use Rattle.rules.specs.declared.item.Item.{Item}
 use Rattle.rules.specs.declared.list.LockList.{LockList}
@@ -16,11 +16,9 @@ use Rattle.rules.specs.Locks.{userOf, unpack, freshLock, isEmptyAt, freePlace, 
 use Rattle.rules.specs.Asks.{callerFile, recordOf}
 use Rattle.rules.specs.Codes.{isNew}
 use Rattle.rules.specs.Call.{call}
+use Rattle.rules.specs.Drive.{highest}
 use Rattle.rules.proofs.Sound.{SoundImage, sound-of}
-use Rattle.soundness.proofs.Items.{same-test}
-use Rattle.soundness.proofs.Locks.{SoundLocks}
-use Rattle.soundness.proofs.Packed.{list-sound-of}
-use Rattle.soundness.proofs.Counts.{count-zero}
+use Rattle.rules.proofs.SoundList.{SoundLocks, list-sound-of}
 use Rattle.soundness.proofs.Taken.{caller-user}
 use Rattle.history.specs.History.{Ask, State, Begun, outcomeOf}
 use Rattle.history.specs.Deeds.{fileBy}
@@ -34,7 +32,6 @@ use Rattle.history.proofs.Dead.{NoneBy, kind-by}
 use Rattle.history.proofs.Full.{answered-11, answered-14}
 use Rattle.history.proofs.Done.{lent, file-meant}
 use Rattle.history.proofs.Run.{Inv}
-use Rattle.rules.specs.Drive.{highest}
 
 module _ (g : Begun) (s : State) (items : List Item) (groups : List Group) (i : Inv g s items groups) where
   abbrev l : LockList

@@ -18,10 +18,8 @@ use Rattle.rules.specs.Drive.{entryOf}
 use Rattle.rules.specs.Locks.{itemAt, userOf, fileOf, freshOpen, unpack, pack, openOf, opensNameAt, freePlace}
 use Rattle.rules.specs.Asks.{callerFile, recordOf, openMode, makeMode}
 use Rattle.rules.specs.Effects.{placed, opened, closed, unlockedRun, terminated, lockedRun, isOfFile, isInRun, unlessBy}
-use Rattle.soundness.proofs.Items.{IsOpen, open-is, open-so, name-sym, name-is, name-then}
-use Rattle.soundness.proofs.Locks.{GoodOpen, GoodLock, Used, Vacant, capacity-fits}
-use Rattle.soundness.proofs.LocksBack.{one-open}
-use Rattle.soundness.proofs.Packed.{unpacked}
+use Rattle.rules.proofs.Items.{IsOpen, open-is, open-so, name-sym, name-is, name-then}
+use Rattle.rules.proofs.SoundList.{GoodOpen, GoodLock, Used, Vacant, capacity-fits, one-open, unpacked}
 use Rattle.soundness.proofs.Placed.{free-room}
 use Rattle.soundness.proofs.Emptied.{close-empties, unlock-empties, end-empties}
 use Rattle.soundness.proofs.Kept.{SoundShape, opened-shape, made-shape, closed-shape, unlocked-shape, ended-shape, locked-shape}

@@ -8,13 +8,11 @@ use native.Mathlib.Omega.{arith}
 use lib.Dec.{eqb, leb}
 use borrow.Author.Tests.{eqb-true, eq-eqb, ne-eqb, le-leb, leb-true, not-true}
 use Rattle.words.specs.Tests.{_and_, _or_, any, count}
-use Rattle.words.proofs.Tests.{either, and-fst, and-snd, any-found, any-some, any-never}
-use Rattle.words.proofs.Counts.{count-ext, count-one}
+use Rattle.words.proofs.Tests.{either, and-fst, and-snd, any-found, any-some, any-never, same-test}
+use Rattle.words.proofs.Counts.{count-ext, count-one, count-yes, count-not, count-zero}
 use Rattle.words.proofs.Sets.{and-both, and-left, not-of-false, count-none}
 use Rattle.rules.specs.Drive.{highest, blocks, mapNumber, holds, names, isUsed}
 use Rattle.rules.proofs.Sound.{Names, SoundImage}
-use Rattle.soundness.proofs.Items.{same-test}
-use Rattle.soundness.proofs.Counts.{count-yes, count-not, count-zero}
 use Rattle.history.specs.Groups.{isNumbered, isInUse, blocksInUse}
 use Rattle.history.proofs.Positions.{numbered-names, names-flat, flat-entry, flat-place}
 

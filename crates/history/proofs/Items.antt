@@ -12,7 +12,7 @@ use Rattle.words.proofs.Tests.{either, never, and-fst, and-snd}
 use Rattle.words.proofs.Sets.{and-both}
 use Rattle.rules.specs.declared.item.Item.{Item}
 use Rattle.rules.specs.Locks.{freshOpen, sameName}
-use Rattle.soundness.proofs.Items.{name-refl, name-sym, name-then}
+use Rattle.rules.proofs.Items.{name-refl, name-sym, name-then}
 use Rattle.history.specs.Deeds.{Deed, nothing, opens, closes, locks, unlocks, ends, touches, drops, carries, tells}
 use Rattle.history.specs.Held.{sameItem, tally, isAmong, granting, grantingAt, grantingRun, without, holding}
 use Rattle.history.proofs.Tallies.{tally-less, tally-without}

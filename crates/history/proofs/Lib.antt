@@ -14,7 +14,6 @@ pub mod AddsUp
 pub mod Frame
 pub mod Grouping
 pub mod Run
-pub mod Parts
 pub mod Seen
 pub mod Unharmed
 pub mod Apart

@@ -13,8 +13,8 @@ use Rattle.rules.specs.declared.item.Item.{Item}
 use Rattle.rules.specs.declared.list.LockList.{LockList}
 use Rattle.rules.specs.Locks.{itemAt, userOf, withItems, freshLock, freePlace, held}
 use Rattle.rules.specs.Effects.{placed, lockedAt}
-use Rattle.soundness.proofs.Items.{name-sym}
-use Rattle.soundness.proofs.Locks.{Shape, GoodOpen, GoodLock, Used, Vacant, SoundLocks, capacity-fits}
+use Rattle.rules.proofs.Items.{name-sym}
+use Rattle.rules.proofs.SoundList.{Shape, GoodOpen, GoodLock, Used, Vacant, SoundLocks, capacity-fits}
 use Rattle.soundness.proofs.Placed.{free-room}
 use Rattle.soundness.proofs.Held.{held-some, held-found}
 use Rattle.soundness.proofs.Run.{Takes, Running, running, run-room}

@@ -8,15 +8,15 @@ use native.Mathlib.Omega.{arith}
 use lib.ListN.{length}
 use borrow.Author.Tests.{eqb-true, eqb-false, eq-eqb, ne-eqb, not-true}
 use Rattle.words.specs.Tests.{_and_, _or_, _if_else_, count}
-use Rattle.words.proofs.Tests.{either, never, and-fst, and-snd, any-found, any-some}
+use Rattle.words.proofs.Tests.{either, never, and-fst, and-snd, any-found, any-some, same-test}
 use Rattle.words.proofs.Sets.{and-both, not-of-false}
+use Rattle.words.proofs.Counts.{any-count, count-any}
 use Rattle.rules.specs.declared.file.File.{File}
 use Rattle.rules.specs.Drive.{highest, fileAt, extentAt, mapNumber, mapPlace}
 use Rattle.rules.specs.Locks.{sameFile}
 use Rattle.rules.proofs.Sound.{Is, Names, SoundImage, file-long}
-use Rattle.soundness.proofs.Items.{file-is, file-refl, same-test}
+use Rattle.rules.proofs.Items.{file-is, file-refl}
 use Rattle.soundness.proofs.Blocks.{At, at-of, of-at, at-names}
-use Rattle.soundness.proofs.Counts.{any-count, count-any}
 use Rattle.history.specs.Held.{tally}
 use Rattle.history.specs.Groups.{Group, group, sameGroup, isCounted, hasBlock, isNumbered, groupAt, groupsBelow, groupsOf}
 

@@ -5,12 +5,12 @@ use mathlib.Core.List.{List, [], _∷_}
 use native.Mathlib.Omega.{arith}
 use lib.ListN.{length}
 use Rattle.words.proofs.Tests.{any-never}
+use Rattle.words.proofs.Counts.{count-zero}
 use Rattle.rules.specs.declared.item.Item.{Item}
 use Rattle.rules.specs.declared.list.LockList.{LockList}
 use Rattle.rules.specs.Serves.{Outcome}
 use Rattle.rules.specs.Locks.{unpack}
 use Rattle.rules.specs.Call.{call}
-use Rattle.soundness.proofs.Counts.{count-zero}
 use Rattle.soundness.proofs.Kept.{SoundBoth, call-sound}
 use Rattle.soundness.proofs.Walk.{walk}
 use Rattle.history.specs.History.{Ask, State, Begun, outcomeOf, kept, event, stateAfter, eventsOf, firstState, after, historyOf}

@@ -6,8 +6,11 @@ use mathlib.Core.List.{List}
 use mathlib.Core.Logic.{_⊎_, inl, inr, ⊎-elim}
 use native.Mathlib.Omega.{arith}
 use lib.ListN.{length}
+use borrow.Author.Tests.{ltb-true, ltb-false}
+use lib.Dec.{ltb}
 use Rattle.words.specs.Bytes.{byte, part}
 use Rattle.words.proofs.Tests.{equal?, either}
+use Rattle.words.proofs.Bytes.{part-same}
 use Rattle.rules.specs.declared.file.File.{File}
 use Rattle.rules.specs.Drive.{highest, blocks, mapPlace, blockOf, recordAt}
 use Rattle.rules.proofs.Sound.{SoundImage, sound-so, length-whole}
@@ -16,9 +19,6 @@ use Rattle.soundness.proofs.Changes.{Data}
 use Rattle.soundness.proofs.Blocks.{At, of-at, at-names, at-grown}
 use Rattle.soundness.proofs.Written.{Old, New}
 use Rattle.soundness.proofs.Stored.{free-unnamed}
-use Rattle.history.proofs.Parts.{part-same}
-use borrow.Author.Tests.{ltb-true, ltb-false}
-use lib.Dec.{ltb}
 
 -- the record has its block still, and its bytes
 pub record Seen (s t : List ℕ) (f : File) (r b : ℕ) : Type 0 where

@@ -1,6 +1,6 @@
 -- What is held is an open or a lock, and the items and the free places add up. Assumes nothing.
 use Prim.Native.Nat.{ℕ, zero, suc, _+_, _≤_, _<_}
-use mathlib.Core.Path.{_≡_, refl, _∙_}
+use mathlib.Core.Path.{_≡_, refl}
 use mathlib.Core.Bool.{Bool, true, false, not}
 use mathlib.Core.List.{List, [], _∷_}
 use mathlib.Core.Logic.{⊎-elim}
@@ -14,7 +14,6 @@ use Rattle.words.proofs.Tests.{either, equal?, and-fst}
 use Rattle.rules.specs.declared.item.Item.{Item}
 use Rattle.rules.specs.declared.list.LockList.{LockList}
 use Rattle.rules.specs.Locks.{freshOpen, itemAt, isEmptyAt}
-use Rattle.soundness.proofs.Counts.{count-not}
 use Rattle.history.specs.Deeds.{Deed, nothing, opens, closes, locks, unlocks, ends, touches, drops, carries, tells}
 use Rattle.history.specs.Held.{tally, isAmong, granting, grantingAt, grantingRun, without, holding}
 use Rattle.history.specs.Demands.{sumBelow}
@@ -82,14 +81,6 @@ empty-or-not l zero = refl
 empty-or-not l (suc n) =
     let k = empty-or-not l n in
     ⊎-elim (λ (q : eqb (itemAt l n .kind) 0 ≡ true). rw q (omega arith)) (λ (q : eqb (itemAt l n .kind) 0 ≡ false). rw q (omega arith)) (either (eqb (itemAt l n .kind) 0))
-
--- those from c on do not pass
-pub count-up : (f : ℕ → Bool) (c n : ℕ) → c ≤ n → ((i : ℕ) → c ≤ i → i < n → f i ≡ false) → count f n ≡ count f c
-unfolding count
-count-up f c zero m h = let e : c ≡ 0 = omega arith in rw e refl
-count-up f c (suc n) m h =
-    ⊎-elim (λ (e : c ≡ suc n). rw e refl)
-    (λ (e : c ≡ suc n → ⊥). count-not f n (h n (omega arith) (omega arith)) ∙ count-up f c n (omega arith) (λ i a b. h i a (omega arith))) (equal? c (suc n))
 
 -- ---- sums
 

@@ -16,13 +16,13 @@ use Rattle.words.proofs.Tests.{either, any-never, or-fst, or-snd}
 use Rattle.words.proofs.Lists.{tab-getD}
 use Rattle.words.proofs.Sets.{and-both, and-left}
 use Rattle.words.proofs.Tables.{row-off}
+use Rattle.words.proofs.Counts.{count-zero}
 use Rattle.rules.specs.declared.item.Item.{Item}
 use Rattle.rules.specs.declared.list.LockList.{LockList}
 use Rattle.rules.specs.Locks.{places, placeSize, blank, emptyPlace, itemAt, firstMark, secondMark, packItem, pack, unpack, isKindBy, isKindByAt, opensBy, locksBy, isZero, goodEmpty, clashAt, keepsLimits, badStart, rowsStart, freshList, startEnds, start}
-use Rattle.soundness.proofs.Items.{clash-none}
-use Rattle.soundness.proofs.Locks.{Shape, Limits, SoundLocks}
-use Rattle.soundness.proofs.Packed.{unpacked, list-sound-so, pack-long}
-use Rattle.soundness.proofs.Counts.{count-zero}
+use Rattle.rules.proofs.Items.{clash-none}
+use Rattle.rules.proofs.SoundList.{Shape, Limits, SoundLocks, unpacked, list-sound-so}
+use Rattle.rules.proofs.Packing.{pack-long}
 use Rattle.soundness.proofs.Kept.{SoundBoth}
 use Rattle.history.specs.History.{Begun, firstState}
 

@@ -8,17 +8,16 @@ use lib.ListN.{set}
 use borrow.Author.Tests.{ne-eqb}
 use Rattle.words.specs.Tests.{_and_, _if_else_, count}
 use Rattle.words.proofs.Tests.{either, any-found, any-some, any-never}
-use Rattle.words.proofs.Counts.{count-ext}
+use Rattle.words.proofs.Counts.{count-ext, count-zero, any-count, count-any, count-set}
 use Rattle.words.proofs.Sets.{and-left}
 use Rattle.rules.specs.declared.item.Item.{Item}
 use Rattle.rules.specs.declared.list.LockList.{LockList}
 use Rattle.rules.specs.Locks.{itemAt, withItems, emptyPlace}
-use Rattle.soundness.proofs.Locks.{Shape}
+use Rattle.rules.proofs.SoundList.{Shape}
 use Rattle.soundness.proofs.Placed.{at-here, at-other}
 use Rattle.soundness.proofs.Emptied.{Empties, at-gone, at-kept}
-use Rattle.soundness.proofs.Counts.{count-zero, any-count, count-any}
 use Rattle.history.specs.Held.{sameItem, tally, isAmong, without}
-use Rattle.history.proofs.Tallies.{tally-without, count-set}
+use Rattle.history.proofs.Tallies.{tally-without}
 use Rattle.history.proofs.Items.{among-so, among-not, among-tally}
 
 -- a test that no empty place passes

@@ -15,6 +15,7 @@ use Rattle.words.specs.Bytes.{byte, lowFrom, part}
 use Rattle.words.proofs.Tests.{never, all-at}
 use Rattle.words.proofs.Lists.{tab-ext, tab-getD}
 use Rattle.words.proofs.Sets.{and-both}
+use Rattle.words.proofs.Bytes.{part-long}
 use Rattle.rules.specs.declared.file.File.{File}
 use Rattle.rules.specs.declared.list.LockList.{LockList}
 use Rattle.rules.specs.Serves.{Buffers, Outcome}
@@ -23,17 +24,16 @@ use Rattle.rules.specs.Locks.{itemAt, fileOf, isLow, anyOpen}
 use Rattle.rules.specs.Asks.{recordOf}
 use Rattle.rules.specs.Look.{mayLook, lookBlock, partAt, lookAt, partFrom, look}
 use Rattle.rules.proofs.Sound.{SoundImage, length-whole}
-use Rattle.soundness.proofs.Items.{name-refl}
+use Rattle.rules.proofs.Items.{name-refl}
+use Rattle.rules.proofs.SoundList.{GoodOpen, GoodLock, Used, Vacant}
 use Rattle.soundness.proofs.Blocks.{At, of-at, at-grown, at-forth}
 use Rattle.soundness.proofs.Erased.{all-erased, erased-touches}
 use Rattle.soundness.proofs.Renamed.{all-renamed}
-use Rattle.soundness.proofs.Locks.{GoodOpen, GoodLock, Used, Vacant}
 use Rattle.soundness.proofs.Held.{others-found}
 use Rattle.soundness.proofs.Taken.{caller-long, no-items}
 use Rattle.soundness.proofs.Ends.{shape-of, list-of, made-of, renamed-touch, written-of}
 use Rattle.soundness.proofs.Leaves.{Passed, Leaf, listOf, fileBy, newBy, MayWrite, refused, reopened, newlyOpened, newlyMade, nowClosed, nowErased, nowRenamed, nowRead, nowWritten, nowRewritten, nowLocked, lockIdle, nowUnlocked, unlockIdle, nowTold, nowEnded, imageWritten}
 use Rattle.history.specs.Demands.{Unchanged}
-use Rattle.history.proofs.Parts.{part-long}
 use Rattle.history.proofs.Seen.{Seen, at-range, seen-all, seen-written}
 
 -- ---- a lock at place i of the list, by another process

@@ -1,26 +1,26 @@
 -- Laws of the list check. Assumes nothing.
 use Prim.Native.Nat.{ℕ, zero, suc, _+_, _*_, _≤_, _<_}
 use mathlib.Core.Path.{_≡_, refl, sym, ap, _∙_}
-use mathlib.Core.Bool.{Bool, true, false, not}
+use mathlib.Core.Bool.{Bool, true, false, not, true≢false}
 use mathlib.Core.List.{List}
 use mathlib.Core.Logic.{⊎-elim}
 use native.Mathlib.Omega.{arith}
-use lib.ListN.{length, getD, take, drop}
+use lib.ListN.{length, getD, drop}
 use lib.Seq.{getD-take, getD-drop}
-use lib.Dec.{leb, ltb, eqb}
+use lib.Dec.{leb, eqb}
 use borrow.Author.Needs.{needs}
-use borrow.Author.Tests.{lt-ltb, le-ltb, lt-leb, le-leb, eq-eqb, ne-eqb}
-use Rattle.words.specs.Tests.{_and_, _or_, _if_else_, all, any}
+use borrow.Author.Tests.{lt-ltb, le-ltb, lt-leb, eq-eqb, ne-eqb, eqb-true}
+use Rattle.words.specs.Tests.{_and_, _if_else_, all, any, lowest}
 use Rattle.words.specs.Bytes.{byte, part}
-use Rattle.words.proofs.Tests.{either, all-none, all-more, any-never}
-use Rattle.words.proofs.Sets.{alls, answers, choices, and-first, and-then, and-left, or-none, not-of-false, not-of-true, not-yes, not-no, all-stops, all-ends}
+use Rattle.words.proofs.Tests.{either, all-none, all-more, any-none, any-found, any-never}
+use Rattle.words.proofs.Sets.{alls, answers, choices, and-first, and-then, and-left, or-none, not-of-false, not-of-true, not-yes, any-goes, all-stops, all-ends, lowest-stops, lowest-ends}
 use Rattle.rules.specs.declared.file.File.{File}
 use Rattle.rules.specs.declared.file.Found.{Found}
 use Rattle.rules.specs.declared.item.Item.{Item}
 use Rattle.rules.specs.declared.list.LockList.{LockList}
 use Rattle.rules.specs.Drive.{highest, lookUp, missing, blockOf}
-use Rattle.rules.specs.Locks.{placeAt, itemAt, fileOf, isLow, sameFile, openOf, isOpened, opensUnlocked, clash, clashAt, isApart, goodOpen, goodLock, goodItem, goodPlace, zeroAt, soundLocks}
-use Rattle.listcheck.specs.Check.{openAlone, lockAlone, itemAlone, placeAlone, placeAloneAt, lockOpened, lockOpenedAt}
+use Rattle.rules.specs.Locks.{unpack, placeAt, itemAt, isLow, sameFile, opensNameAt, openOf, isOpened, opensUnlocked, clash, clashAt, isApart, goodOpen, goodLock, goodItem, goodPlace, keepsLimits, zeroAt, soundLocks, soundList}
+use Rattle.listcheck.specs.Check.{openAlone, lockAlone, itemAlone, placeAlone, placeAloneAt, lockOpened, lockOpenedAt, goodHead}
 
 -- a name's length, as a callee asks it
 pub eleven : (name : List ℕ) → length name ≡ 11 → 11 ≤ length name
@@ -69,18 +69,33 @@ pub opened-skip : (l : LockList) (i : ℕ) → (itemAt l i .kind ≡ 2 → ⊥) 
 unfolding lockOpenedAt lockOpened _if_else_
 opened-skip l i h = rw (ne-eqb _ _ h)
 
-module _ (l : LockList) (i : ℕ) (r : Bool) (k : itemAt l i .kind ≡ 2) (e : r ≡ opensUnlocked l (openOf l (itemAt l i .process) (fileOf l (itemAt l i)))) where
-  opened-is : r ≡ lockOpenedAt l i
-  unfolding lockOpenedAt lockOpened _if_else_
-  opened-is = rw (eq-eqb _ _ k) e
+-- o: how far its open was looked for
+module _ (l : LockList) (i o p : ℕ) (name : List ℕ) (k : itemAt l i .kind ≡ 2) (w : p ≡ itemAt l i .process) (v : name ≡ itemAt l i .name) (h : any (opensNameAt l p name) o ≡ false) where
+  opened-is : (t : Bool) → t ≡ opensUnlocked l (lowest (opensNameAt l p name) 64) → t ≡ lockOpenedAt l i
+  unfolding lockOpenedAt lockOpened openOf _if_else_
+  opened-is t e = rw (eq-eqb _ _ k, ← w, ← v) e
 
-  pub opened-yes : not r ≡ false → lockOpenedAt l i ≡ true
-  opened-yes h = not-yes r _ opened-is h
+  module _ (r : Bool) (m : o < 64) (e : r ≡ opensNameAt l p name o) (y : r ≡ true) where
+    found-here : o ≡ lowest (opensNameAt l p name) 64
+    found-here = lowest-stops (opensNameAt l p name) 64 o m h (sym e ∙ y)
 
-  pub opened-no : not r ≡ true → lockOpenedAt l i ≡ false
-  opened-no h = not-no r _ opened-is h
+    here-is : eqb (itemAt l o .mode) 1 ≡ lockOpenedAt l i
+    unfolding opensUnlocked isOpened
+    here-is = opened-is _ (rw (← found-here) (and-then _ _ _ (lt-ltb _ _ m) refl))
 
-pub ruleset opens = (needs, all-none, all-more, all-stops, all-ends, opened-skip, opened-yes, opened-no)
+    pub opened-yes : itemAt l o .mode ≡ 1 → lockOpenedAt l i ≡ true
+    opened-yes q = sym here-is ∙ eq-eqb _ _ q
+
+    pub opened-no : (itemAt l o .mode ≡ 1 → ⊥) → lockOpenedAt l i ≡ false
+    opened-no q = sym here-is ∙ ne-eqb _ _ q
+
+  pub opened-none : 64 ≤ o → o ≤ 64 → lockOpenedAt l i ≡ false
+  unfolding opensUnlocked isOpened
+  opened-none g m =
+      let q : o ≡ lowest (opensNameAt l p name) 64 = lowest-ends (opensNameAt l p name) 64 o h g m in
+      sym (opened-is false (rw (← q) (and-first _ _ (le-ltb _ _ g))))
+
+pub ruleset opens = (needs, answers, all-none, all-more, all-stops, all-ends, any-none, any-goes, opened-skip, opened-yes, opened-no, opened-none)
 
 -- ---- a good place is good by itself, and a lock has its open
 
@@ -137,17 +152,35 @@ unfolding all
 all-both h f g zero e = with-true true
 all-both h f g (suc n) e = rw (all-both h f g n e, e n) (shuffle (all f n) (all g n) (f n) (g n))
 
-module _ (s : List ℕ) (l : LockList) where
-  places-split : all (goodPlace highest s l) 64 ≡ (all (placeAloneAt s l) 64 and all (lockOpenedAt l) 64)
-  places-split = all-both (goodPlace highest s l) (placeAloneAt s l) (lockOpenedAt l) 64 (place-split s l)
+join-four : (a b c d x : Bool) → (a and b and c and d and x) ≡ ((a and b and c and d) and x)
+unfolding _and_
+join-four true true true true x = refl
+join-four true true true false x = refl
+join-four true true false d x = refl
+join-four true false c d x = refl
+join-four false b c d x = refl
 
-  pub good-not : all (placeAloneAt s l) 64 ≡ false → false ≡ all (goodPlace highest s l) 64
-  good-not h = and-first _ _ h ∙ sym places-split
+join-two : (a b x : Bool) → (a and b and x) ≡ ((a and b) and x)
+unfolding _and_
+join-two true true x = refl
+join-two true false x = refl
+join-two false b x = refl
 
-  pub good-if : (r : Bool) → all (placeAloneAt s l) 64 ≡ true → r ≡ all (lockOpenedAt l) 64 → r ≡ all (goodPlace highest s l) 64
-  good-if r h e = and-then r _ _ h e ∙ sym places-split
+-- the list check in the order of its parts
+pub sound-as : (s list : List ℕ) (l : LockList) (r : Bool) → l ≡ unpack list → r ≡ (all (zeroAt list) 64 and goodHead (l .capacity) (l .openlimit) (l .locklimit) (l .users) and all (placeAloneAt s l) 64 and all (lockOpenedAt l) 64 and all (isApart l) 64 and all (keepsLimits l) 16) → r ≡ soundList highest list s
+unfolding soundList soundLocks goodHead
+sound-as s list l r e h =
+    let g = all-both (goodPlace highest s l) (placeAloneAt s l) (lockOpenedAt l) 64 (place-split s l) in
+    let rest = join-two _ _ _ ∙ ap (λ (x : Bool). x and all (isApart l) 64 and all (keepsLimits l) 16) (sym g) in
+    h ∙ ap (λ (x : Bool). all (zeroAt list) 64 and x) (ap (λ (x : Bool). goodHead (l .capacity) (l .openlimit) (l .locklimit) (l .users) and x) rest ∙ sym (join-four _ _ _ _ _))
+    ∙ ap (λ (m : LockList). all (zeroAt list) 64 and soundLocks highest m s) e
 
-pub ruleset goods = (answers, good-not, good-if)
+-- its first four parts were found good
+pub sound-after : (s list : List ℕ) (l : LockList) (a b c d r : Bool) → l ≡ unpack list → a ≡ all (zeroAt list) 64 → not a ≡ false → b ≡ goodHead (l .capacity) (l .openlimit) (l .locklimit) (l .users) → not b ≡ false → c ≡ all (placeAloneAt s l) 64 → not c ≡ false → d ≡ all (lockOpenedAt l) 64 → not d ≡ false → r ≡ (all (isApart l) 64 and all (keepsLimits l) 16) → r ≡ soundList highest list s
+sound-after s list l a b c d r e ea ha eb hb ec hc ed hd h =
+    sound-as s list l r e (and-then r _ _ (not-yes a _ ea ha) (and-then r _ _ (not-yes b _ eb hb) (and-then r _ _ (not-yes c _ ec hc) (and-then r _ _ (not-yes d _ ed hd) h))))
+
+pub ruleset sounds = (and-first, and-then, answers, sound-as)
 
 -- ---- clashes
 
@@ -155,22 +188,6 @@ pub files-as : (f g a b : File) (r : Bool) → r ≡ sameFile f g → f ≡ a �
 files-as f g a b r h d e = cc
 
 pub ruleset clashing = (choices, files-as)
-
--- ---- an open that was looked for
-
-module _ (l : LockList) (f g : File) (p o : ℕ) (h : o ≡ openOf l p f) (e : f ≡ g) where
-  found-open : o ≡ openOf l p g
-  found-open = cc
-
-  pub unlocked-none : 64 ≤ o → false ≡ opensUnlocked l (openOf l p g)
-  unfolding opensUnlocked isOpened
-  unlocked-none k = and-first _ _ (le-ltb _ _ (rw found-open at k))
-
-  pub unlocked-some : o < 64 → eqb (itemAt l o .mode) 1 ≡ opensUnlocked l (openOf l p g)
-  unfolding opensUnlocked isOpened
-  unlocked-some k = and-then _ _ _ (lt-ltb _ _ (rw found-open at k)) (ap (λ (i : ℕ). eqb (itemAt l i .mode) 1) found-open)
-
-pub ruleset unlocking = (unlocked-none, unlocked-some)
 
 -- ---- items apart
 
@@ -183,20 +200,35 @@ pub apart-empty : (l : LockList) (i : ℕ) → itemAt l i .kind ≡ 0 → isApar
 unfolding isApart clashAt
 apart-empty l i h = not-of-false _ (any-never (clashAt l i) i (λ j m. and-left _ _ (clash-empty (itemAt l i) (itemAt l j) h)))
 
-module _ (l : LockList) (i : ℕ) (r : Bool) (e : r ≡ any (clashAt l i) i) where
-  pub apart-yes : r ≡ false → isApart l i ≡ true
+-- two tests for different kinds
+kinds-apart : (m n k : ℕ) → (n ≡ m → ⊥) → (eqb m k and eqb n k) ≡ false
+unfolding _and_
+kinds-apart m n k h = ⊎-elim
+    (λ (y : eqb m k ≡ true). rw y (ne-eqb n k (λ q. h (q ∙ sym (eqb-true m k y)))))
+    (λ (y : eqb m k ≡ false). rw y)
+    (either (eqb m k))
+
+join-three : (x y z : Bool) → (x and y) ≡ false → (x and y and z) ≡ false
+unfolding _and_
+join-three true true z h = absurd (true≢false h)
+join-three true false z h = refl
+join-three false y z h = refl
+
+-- items of different kinds do not clash
+pub clash-not : (l : LockList) (i j : ℕ) → (itemAt l j .kind ≡ itemAt l i .kind → ⊥) → clashAt l i j ≡ false
+unfolding clashAt clash
+clash-not l i j h =
+    let m = itemAt l i .kind in
+    let n = itemAt l j .kind in
+    and-left _ _ (or-none _ _ (join-three _ _ _ (kinds-apart m n 1 h)) (join-three _ _ _ (kinds-apart m n 2 h)))
+
+module _ (l : LockList) (i j : ℕ) where
+  pub apart-yes : any (clashAt l i) j ≡ false → i ≤ j → j ≤ i → isApart l i ≡ true
   unfolding isApart
-  apart-yes h = not-of-false _ (sym e ∙ h)
+  apart-yes h g k = let q : j ≡ i = omega arith in not-of-false _ (rw q at h)
 
-  pub apart-no : r ≡ true → isApart l i ≡ false
+  pub apart-no : j < i → clashAt l i j ≡ true → isApart l i ≡ false
   unfolding isApart
-  apart-no h = not-of-true _ (sym e ∙ h)
+  apart-no k h = not-of-true _ (any-found (clashAt l i) i j k h)
 
-pub ruleset aparts = (needs, all-none, all-more, all-stops, all-ends, apart-empty, apart-yes, apart-no)
-
--- ---- the whole list
-
-pub locks-as : (top : ℕ) (l m : LockList) (s : List ℕ) (r : Bool) → r ≡ soundLocks top l s → l ≡ m → r ≡ soundLocks top m s
-locks-as top l m s r h e = cc
-
-pub ruleset sounds = (and-first, and-then, answers, locks-as)
+pub ruleset aparts = (needs, answers, all-none, all-more, all-stops, all-ends, any-none, any-goes, clash-not, apart-empty, apart-yes, apart-no)

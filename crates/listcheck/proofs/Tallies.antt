@@ -10,7 +10,7 @@ use lib.ListN.{length, getD, set, replicate, length-set, getD-replicate}
 use lib.Seq.{getD-set-same, getD-set-other}
 use lib.Dec.{leb, eqb}
 use borrow.Author.Needs.{needs}
-use borrow.Author.Tests.{lt-leb, le-leb, eq-eqb, ne-eqb}
+use borrow.Author.Tests.{lt-leb, le-leb, eq-eqb, ne-eqb, eqb-false}
 use Rattle.words.specs.Tests.{_and_, _if_else_, all, count}
 use Rattle.words.proofs.Tests.{equal?, all-ext}
 use Rattle.words.proofs.Counts.{count-within}
@@ -24,6 +24,11 @@ module _ (l : LockList) (kind : ℕ) where
   pub tally-none : Tally l kind (replicate 16 0) 0
   unfolding count
   tally-none = record { long = refl; each = λ p h. getD-replicate 16 p 0 0 h }
+
+  and-false : (b : Bool) → (b and false) ≡ false
+  unfolding _and_
+  and-false true = refl
+  and-false false = refl
 
   -- one place more, of which a process has an item or not
   skip : (p i : ℕ) → isKindByAt l kind p i ≡ false → count (isKindByAt l kind p) (i + 1) ≡ count (isKindByAt l kind p) i
@@ -43,12 +48,17 @@ module _ (l : LockList) (kind : ℕ) where
       each = λ p m. t .each p m ∙ sym (skip p i (and-left _ _ (ne-eqb _ _ h)));
     }
 
+    pub tally-other : (k : ℕ) → itemAt l i .kind ≡ k → eqb k kind ≡ false → Tally l kind c (i + 1)
+    tally-other k e h = tally-kind (λ q. eqb-false k kind h (sym e ∙ q))
+
     -- .. of no process
-    pub tally-past : itemAt l i .kind ≡ kind → 16 ≤ itemAt l i .process → Tally l kind c (i + 1)
+    pub tally-past : 16 ≤ itemAt l i .process → Tally l kind c (i + 1)
     unfolding isKindByAt isKindBy
-    tally-past k h = record {
+    tally-past h = record {
       long = t .long;
-      each = λ p m. t .each p m ∙ sym (skip p i (and-right _ _ (eq-eqb _ _ k) (ne-eqb (itemAt l i .process) p (λ q. absurd (omega arith)))));
+      each = λ p m.
+          let y : eqb (itemAt l i .process) p ≡ false = ne-eqb (itemAt l i .process) p (λ q. absurd (omega arith)) in
+          t .each p m ∙ sym (skip p i (rw y (and-false _)));
     }
 
     -- .. of that kind and of a process
@@ -74,10 +84,10 @@ module _ (l : LockList) (kind : ℕ) where
     pub tally-fits : (p : ℕ) → p < 16 → i < 64 → getD c p 0 + 1 < 256
     tally-fits p m h = omega (arith, t .each p m, count-within (isKindByAt l kind p) i)
 
-    pub tally-ends : 64 ≤ i → i ≤ 64 → Tally l kind c 64
+    tally-ends : 64 ≤ i → i ≤ 64 → Tally l kind c 64
     tally-ends g h = let q : i ≡ 64 = omega arith in rw q at t
 
-  pub keeps-as : (c : List ℕ) (most : ℕ) (r : Bool) → Tally l kind c 64 → r ≡ all (atMost c most) 16 → r ≡ all (keepsKind l kind most) 16
+  keeps-as : (c : List ℕ) (most : ℕ) (r : Bool) → Tally l kind c 64 → r ≡ all (atMost c most) 16 → r ≡ all (keepsKind l kind most) 16
   unfolding atMost keepsKind
   keeps-as c most r t e =
       e ∙ all-ext (atMost c most) (keepsKind l kind most) 16 (λ p m. ap (λ (n : ℕ). leb n most) (t .each p m))
@@ -93,7 +103,7 @@ module _ (c : List ℕ) (most p : ℕ) where
 
 pub ruleset mosts = (alls, at-most-yes, at-most-no)
 
-pub ruleset tallies = (needs, tally-none, tally-kind, tally-past, tally-more, tally-ends)
+pub ruleset tallies = (needs, refl, tally-none, tally-kind, tally-other, tally-past, tally-more)
 
 -- ---- both limits
 
@@ -102,10 +112,13 @@ module _ (l : LockList) where
   unfolding keepsLimits keepsKind opensBy locksBy
   both = all-both (keepsLimits l) (keepsKind l 1 (l .openlimit)) (keepsKind l 2 (l .locklimit)) 16 (λ p. refl)
 
-  pub keeps-not : all (keepsKind l 1 (l .openlimit)) 16 ≡ false → false ≡ all (keepsLimits l) 16
-  keeps-not h = and-first _ _ h ∙ sym both
+  pub keeps-not : (c : List ℕ) (i : ℕ) → Tally l 1 c i → 64 ≤ i → i ≤ 64 → all (atMost c (l .openlimit)) 16 ≡ false → false ≡ all (keepsLimits l) 16
+  keeps-not c i w g m h = let t = tally-ends l 1 c i w g m in and-first _ _ (sym (keeps-as l 1 c (l .openlimit) _ t refl) ∙ h) ∙ sym both
 
-  pub keeps-if : (r : Bool) → all (keepsKind l 1 (l .openlimit)) 16 ≡ true → r ≡ all (keepsKind l 2 (l .locklimit)) 16 → r ≡ all (keepsLimits l) 16
-  keeps-if r h e = and-then r _ _ h e ∙ sym both
+  pub keeps-if : (c d : List ℕ) (i : ℕ) (r : Bool) → Tally l 1 c i → Tally l 2 d i → 64 ≤ i → i ≤ 64 → all (atMost c (l .openlimit)) 16 ≡ true → r ≡ all (atMost d (l .locklimit)) 16 → r ≡ all (keepsLimits l) 16
+  keeps-if c d i r w x g m h e =
+      let t = tally-ends l 1 c i w g m in
+      let u = tally-ends l 2 d i x g m in
+      and-then r _ _ (sym (keeps-as l 1 c (l .openlimit) _ t refl) ∙ h) (keeps-as l 2 d (l .locklimit) r u e) ∙ sym both
 
 pub ruleset limits = (answers, keeps-not, keeps-if)

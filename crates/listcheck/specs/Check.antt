@@ -2,7 +2,7 @@
 -- Assumes nothing.
 use Prim.Native.Nat.{ℕ, _<_}
 use mathlib.Core.Path.{_≡_}
-use mathlib.Core.Bool.{Bool, true, false, not}
+use mathlib.Core.Bool.{Bool, true, not}
 use mathlib.Core.List.{List}
 use lib.ListN.{length, getD}
 use lib.Dec.{leb, ltb, eqb}
@@ -11,7 +11,7 @@ use Rattle.rules.specs.declared.file.File.{File}
 use Rattle.rules.specs.declared.item.Item.{Item}
 use Rattle.rules.specs.declared.list.LockList.{LockList}
 use Rattle.rules.specs.Drive.{highest, legalName, lookUp, missing, blockOf}
-use Rattle.rules.specs.Locks.{unlocked, itemAt, fileOf, isLow, goodEmpty, openOf, opensUnlocked, isKindByAt}
+use Rattle.rules.specs.Locks.{unlocked, itemAt, fileOf, isLow, goodEmpty, openOf, opensUnlocked, isKindByAt, isLimit, isUser}
 
 -- the file that an item names, of each process's user
 abbrev pub fileBy : List ℕ → Item → File
@@ -45,6 +45,10 @@ lockOpened l it = opensUnlocked l (openOf l (it .process) (fileOf l it)) if eqb 
 
 unfoldable pub lockOpenedAt : LockList → ℕ → Bool
 lockOpenedAt l i = lockOpened l (itemAt l i)
+
+-- the three limits and each process's user
+unfoldable pub goodHead : ℕ → ℕ → ℕ → List ℕ → Bool
+goodHead capacity openlimit locklimit users = isLimit capacity and isLimit openlimit and isLimit locklimit and all (isUser users) 16
 
 -- how many items of that kind each process has, of the first n places
 pub record Tally (l : LockList) (kind : ℕ) (counts : List ℕ) (n : ℕ) : Type 0 where

@@ -5,10 +5,9 @@ use rules::list::LockList;
 use rules::tests::same_name;
 ghost use mathlib.Core.Path.{_≡_};
 ghost use mathlib.Core.Bool.{not};
-ghost use Prim.Native.Nat.{_<_};
 ghost use lib.Dec.{eqb};
-ghost use Rattle.words.specs.Tests.{_and_, all, any};
-ghost use Rattle.rules.specs.Locks.{sameFile, standBeside, clash, clashAt, isApart};
+ghost use Rattle.words.specs.Tests.{_and_, all};
+ghost use Rattle.rules.specs.Locks.{sameFile, standBeside, clash, isApart};
 ghost use Rattle.listcheck.specs.Check.{fileBy};
 
 // Two files are the same.
@@ -84,36 +83,29 @@ fn file_clash(a: Item, b: Item, users: [u8; 16]) -> bool
     same_file(f, g)
 }
 
-// The item at a place clashes with one before it.
-fn any_clash(l: LockList, i: usize) -> bool
-    requires { ⌜ i < 64 ⌝ }
-    ensures { λ r. ⌜ r ≡ any (clashAt l i) i ⌝ }
-{
-    let users = l.users;
-    let it = l.items[i];
-    let mut j = 0;
-    while j < i {
-        let other = l.items[j];
-        if file_clash(it, other, users) {
-            return true;
-        }
-        j += 1;
-    }
-    false
-}
-
 // No item clashes with one before it.
 pub fn all_apart(l: LockList) -> bool
     ensures { λ r. ⌜ r ≡ all (isApart l) 64 ⌝ }
 {
+    let users = l.users;
     let mut i: usize = 0;
     while i < 64 {
-        if l.items[i].kind == 0 {
+        let it = l.items[i];
+        if it.kind == 0 {
             i += 1;
             continue;
         }
-        if any_clash(l, i) {
-            return false;
+        let mut j: usize = 0;
+        while j < i {
+            if l.items[j].kind != it.kind {
+                j += 1;
+                continue;
+            }
+            let other = l.items[j];
+            if file_clash(it, other, users) {
+                return false;
+            }
+            j += 1;
         }
         i += 1;
     }

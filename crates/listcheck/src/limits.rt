@@ -2,28 +2,7 @@ use rules::list::LockList;
 ghost use mathlib.Core.Path.{_≡_};
 ghost use Rattle.words.specs.Tests.{all};
 ghost use Rattle.rules.specs.Locks.{keepsLimits};
-ghost use Rattle.listcheck.specs.Check.{Tally, atMost, keepsKind};
-
-// How many items of that kind each process has.
-fn tally(l: LockList, kind: u8) -> [u8; 16]
-    ensures { λ r. ⌜ Tally l kind r 64 ⌝ }
-{
-    let mut counts = [0u8; 16];
-    let mut i: usize = 0;
-    while i < 64 {
-        let it = l.items[i];
-        i += 1;
-        if it.kind != kind {
-            continue;
-        }
-        let p = it.process as usize;
-        if 16 <= p {
-            continue;
-        }
-        counts[p] += 1;
-    }
-    counts
-}
+ghost use Rattle.listcheck.specs.Check.{atMost};
 
 // No count is above that.
 fn all_at_most(counts: [u8; 16], most: u8) -> bool
@@ -39,20 +18,30 @@ fn all_at_most(counts: [u8; 16], most: u8) -> bool
     true
 }
 
-// Each process has at most so many items of that kind.
-fn all_keep_kind(l: LockList, kind: u8, most: u8) -> bool
-    ensures { λ r. ⌜ r ≡ all (keepsKind l kind most) 16 ⌝ }
-{
-    let counts = tally(l, kind);
-    all_at_most(counts, most)
-}
-
-// Each process keeps both limits.
+// Each process keeps both limits: its opens and its locks are counted in one pass.
 pub fn all_keep(l: LockList) -> bool
     ensures { λ r. ⌜ r ≡ all (keepsLimits l) 16 ⌝ }
 {
-    if !all_keep_kind(l, 1, l.openlimit) {
+    let mut opens = [0u8; 16];
+    let mut locks = [0u8; 16];
+    let mut i: usize = 0;
+    while i < 64 {
+        let it = l.items[i];
+        let p = it.process as usize;
+        i += 1;
+        if 16 <= p {
+            continue;
+        }
+        if it.kind == 1 {
+            opens[p] += 1;
+            continue;
+        }
+        if it.kind == 2 {
+            locks[p] += 1;
+        }
+    }
+    if !all_at_most(opens, l.openlimit) {
         return false;
     }
-    all_keep_kind(l, 2, l.locklimit)
+    all_at_most(locks, l.locklimit)
 }

@@ -1,13 +1,12 @@
 -- 42, 43 and 143: the outcome at each end of their routines. Assumes nothing.
-use Prim.Native.Nat.{ℕ, _+_, _-_, _≤_, _<_}
+use Prim.Native.Nat.{ℕ, _≤_}
 use mathlib.Core.Path.{_≡_, refl, sym, ap, _∙_}
 use mathlib.Core.Bool.{Bool, true, false, not}
-use mathlib.Core.List.{List, [], _∷_}
+use mathlib.Core.List.{List, []}
 use native.Mathlib.Omega.{arith}
-use lib.ListN.{length}
-use lib.Dec.{leb, ltb, eqb}
+use lib.Dec.{eqb}
 use borrow.Author.Tests.{leb-true, not-true, not-false}
-use Rattle.words.specs.Tests.{_and_, _if_else_, all}
+use Rattle.words.specs.Tests.{_if_else_, all}
 use Rattle.words.specs.Tables.{firstOf, noneZero}
 use Rattle.words.proofs.Tests.{and-fst, and-snd}
 use Rattle.words.proofs.Tables.{nonzeros}
@@ -22,7 +21,7 @@ use Rattle.rules.specs.Locks.{unpack, pack, openOf, itemAt, isLimit, zeroAt, so
 use Rattle.rules.specs.Asks.{callerFile, recordOf}
 use Rattle.rules.specs.Codes.{rowsLacking, rows42, rows43}
 use Rattle.rules.specs.Effects.{lockedRun, unlockedRun, terminated, does42, does43, does143}
-use Rattle.rules.specs.Call.{unless, askedBy, asked, rowsOf, effectOf, served}
+use Rattle.rules.specs.Call.{askedBy, asked, rowsOf, effectOf, served}
 use Rattle.rules.proofs.Ends.{did-as, did-none, did-refuse, did-pass, served-as}
 use Rattle.locking.specs.By.{by42, by43}
 

@@ -5,13 +5,13 @@ use crate::run::not_to_take;
 use locklist::ask::caller_file;
 use locklist::ask::record_of;
 use locklist::pack::pack;
-use locklist::unpack::unpack;
 use rules::file::File;
 use rules::list::LockList;
 ghost use mathlib.Core.Path.{_≡_};
 ghost use lib.ListN.{length};
 ghost use Rattle.words.specs.Tables.{firstOf};
 ghost use Rattle.rules.specs.Serves.{Did, buffers};
+ghost use Rattle.rules.specs.Locks.{unpack};
 ghost use Rattle.rules.specs.Call.{Ready, served};
 ghost use Rattle.rules.specs.declared.routine.Chosen.the-variants.{Call};
 ghost use Prim.Native.Nat.{_+_, _<_, _≤_};
@@ -90,11 +90,18 @@ fn lock_by(
 }
 
 // 42 on the buffers.
-pub fn lock_records(p: u8, count: u32, fcb: &[u8], dma: &[u8], list: &mut [u8], image: &[u8]) -> u32
-    requires { ⌜ (1 ≤ count) × (count ≤ 16) × Ready (buffers (now fcb) (now dma) (now list) (now image)) ⌝ }
+pub fn lock_records(
+    p: u8,
+    l: LockList,
+    count: u32,
+    fcb: &[u8],
+    dma: &[u8],
+    list: &mut [u8],
+    image: &[u8],
+) -> u32
+    requires { ⌜ (l ≡ unpack (now list)) × (1 ≤ count) × (count ≤ 16) × Ready (buffers (now fcb) (now dma) (now list) (now image)) ⌝ }
     ensures { λ c. ⌜ Did (served (Call Lock) p count (buffers (now (fcb .entry)) (now (dma .entry)) (now (list .entry)) (now (image .entry)))) c (now (fcb .entry)) (now (dma .entry)) (now (list .exit)) (now (image .entry)) ⌝ }
 {
-    let l = unpack(&*list);
     let f = caller_file(l, p, fcb);
     let o = l.open_of(p, f);
     let r = record_of(fcb);

@@ -1,17 +1,17 @@
 use locklist::pack::pack;
-use locklist::unpack::unpack;
+use rules::list::LockList;
 ghost use mathlib.Core.Path.{_≡_};
 ghost use Rattle.rules.specs.Serves.{Did, buffers};
+ghost use Rattle.rules.specs.Locks.{unpack};
 ghost use Rattle.rules.specs.Call.{Ready, served};
 ghost use Rattle.rules.specs.declared.routine.Chosen.the-variants.{Call};
 ghost use Rattle.rules.specs.declared.routine.Routine.the-variants.{Terminate};
 
 // 143 on the buffers: whatever the process holds is taken back.
-pub fn terminate(p: u8, fcb: &[u8], dma: &[u8], list: &mut [u8], image: &[u8]) -> u32
-    requires { ⌜ Ready (buffers (now fcb) (now dma) (now list) (now image)) ⌝ }
+pub fn terminate(p: u8, l: LockList, fcb: &[u8], dma: &[u8], list: &mut [u8], image: &[u8]) -> u32
+    requires { ⌜ (l ≡ unpack (now list)) × Ready (buffers (now fcb) (now dma) (now list) (now image)) ⌝ }
     ensures { λ c. ⌜ Did (served (Call Terminate) p 1 (buffers (now (fcb .entry)) (now (dma .entry)) (now (list .entry)) (now (image .entry)))) c (now (fcb .entry)) (now (dma .entry)) (now (list .exit)) (now (image .entry)) ⌝ }
 {
-    let l = unpack(&*list);
     pack(l.terminate(p), list);
     0
 }

@@ -3,13 +3,13 @@ use crate::run::is_unlocked;
 use locklist::ask::caller_file;
 use locklist::ask::record_of;
 use locklist::pack::pack;
-use locklist::unpack::unpack;
 use rules::file::File;
 use rules::list::LockList;
 ghost use mathlib.Core.Path.{_≡_};
 ghost use lib.ListN.{length};
 ghost use Rattle.words.specs.Tables.{firstOf};
 ghost use Rattle.rules.specs.Serves.{Did, buffers};
+ghost use Rattle.rules.specs.Locks.{unpack};
 ghost use Rattle.rules.specs.Call.{Ready, served};
 ghost use Rattle.rules.specs.declared.routine.Chosen.the-variants.{Call};
 ghost use Prim.Native.Nat.{_+_, _<_, _≤_};
@@ -67,16 +67,16 @@ fn unlock_by(
 // 43 on the buffers.
 pub fn unlock_records(
     p: u8,
+    l: LockList,
     count: u32,
     fcb: &[u8],
     dma: &[u8],
     list: &mut [u8],
     image: &[u8],
 ) -> u32
-    requires { ⌜ (1 ≤ count) × (count ≤ 16) × Ready (buffers (now fcb) (now dma) (now list) (now image)) ⌝ }
+    requires { ⌜ (l ≡ unpack (now list)) × (1 ≤ count) × (count ≤ 16) × Ready (buffers (now fcb) (now dma) (now list) (now image)) ⌝ }
     ensures { λ c. ⌜ Did (served (Call Unlock) p count (buffers (now (fcb .entry)) (now (dma .entry)) (now (list .entry)) (now (image .entry)))) c (now (fcb .entry)) (now (dma .entry)) (now (list .exit)) (now (image .entry)) ⌝ }
 {
-    let l = unpack(&*list);
     let f = caller_file(l, p, fcb);
     let o = l.open_of(p, f);
     let r = record_of(fcb);

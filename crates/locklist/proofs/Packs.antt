@@ -1,19 +1,19 @@
 -- Laws of a list that is written place by place. Assumes nothing.
 use Prim.Native.Nat.{ℕ, _+_, _-_, _*_, _≤_, _<_}
 use mathlib.Core.Path.{_≡_, refl, sym, ap, _∙_}
-use mathlib.Core.List.{List, [], _∷_, _++_, append-nil, append-assoc}
+use mathlib.Core.List.{List, _++_, append-nil, append-assoc}
 use native.Mathlib.Omega.{arith}
-use lib.ListN.{length, take, drop}
+use lib.ListN.{length, take, drop, set}
 use lib.Seq.{take-all}
 use borrow.Author.Needs.{needs}
 use Rattle.words.specs.Lists.{tab, flat}
-use Rattle.words.specs.Bytes.{put, le}
-use Rattle.words.proofs.Lists.{length-mapped}
+use Rattle.words.specs.Bytes.{byte, byteFrom, put, le}
+use Rattle.words.proofs.Lists.{length-mapped, filled, filled-turn, filled-all}
 use Rattle.words.proofs.Bytes.{length-put}
 use Rattle.words.proofs.Items.{take-put, flat-more}
 use Rattle.rules.specs.declared.item.Item.{Item}
 use Rattle.rules.specs.declared.list.LockList.{LockList}
-use Rattle.rules.specs.Locks.{blank, itemAt, itemFrom, placeOf, packItem, pack}
+use Rattle.rules.specs.Locks.{blank, itemAt, withItems, itemFrom, placeOf, packItem, pack, unpack}
 use Rattle.locklist.specs.Heads.{heads}
 
 -- the head and the first i places of s are those of the list
@@ -69,3 +69,36 @@ pub ruleset packs = (needs, length-mapped, packed-none, packed-more, packed-ends
 pub place-as : (s : List ℕ) (i : ℕ) (r : Item) → r ≡ itemFrom (take (19 + 20 * i + 20 - (19 + 20 * i)) (drop (19 + 20 * i) s)) → r ≡ placeOf s i
 unfolding placeOf
 place-as s i r h = let q : 19 + 20 * i + 20 - (19 + 20 * i) ≡ 20 = omega arith in rw q at h
+
+-- ---- a list that is read place by place
+
+-- l is l₀ with its first i places those of the bytes
+pub record Placed (s : List ℕ) (l₀ l : LockList) (i : ℕ) : Type 0 where
+  pub long : length (l₀ .items) ≡ 64
+  pub so : l ≡ withItems l₀ (filled (placeOf s) i (l₀ .items))
+
+module _ (s : List ℕ) (l₀ : LockList) where
+  pub placed-none : length (l₀ .items) ≡ 64 → Placed s l₀ l₀ 0
+  unfolding tab
+  placed-none h = record { long = h; so = refl }
+
+  module _ (l : LockList) (i : ℕ) (p : Placed s l₀ l i) where
+    pub placed-more : (x : Item) → i < 64 → x ≡ placeOf s i → Placed s l₀ (withItems l (set (l .items) i x)) (i + 1)
+    placed-more x h e =
+        let k : i < length (l₀ .items) = omega (arith, p .long) in
+        record {
+          long = p .long;
+          so =
+              ap (λ (m : LockList). withItems m (set (m .items) i x)) (p .so)
+              ∙ ap (withItems l₀) (filled-turn (placeOf s) i (l₀ .items) _ x k refl e);
+        }
+
+-- it began with the limits and the users
+pub placed-ends : (s users : List ℕ) (items : List Item) (l : LockList) (i : ℕ) → users ≡ tab (byteFrom s 3) 16 → Placed s (record { capacity = byte s 0; openlimit = byte s 1; locklimit = byte s 2; users = users; items = items }) l i → 64 ≤ i → i ≤ 64 → l ≡ unpack s
+unfolding unpack
+placed-ends s users items l i u p g h =
+    let q : i ≡ 64 = omega arith in
+    let e : filled (placeOf s) i items ≡ tab (placeOf s) 64 = ap (λ (n : ℕ). filled (placeOf s) n items) q ∙ filled-all (placeOf s) 64 items (p .long) in
+    p .so ∙ rw (e, u)
+
+pub ruleset placing = (needs, place-as, placed-none, placed-more, placed-ends)

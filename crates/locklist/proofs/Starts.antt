@@ -1,21 +1,19 @@
 -- Laws of Start. Assumes nothing.
-use Prim.Native.Nat.{ℕ, _+_, _*_, _≤_, _<_}
+use Prim.Native.Nat.{ℕ, _≤_}
 use mathlib.Core.Path.{_≡_, refl, sym, ap, _∙_}
-use mathlib.Core.Bool.{Bool, true, false, not}
-use mathlib.Core.List.{List, [], _∷_, _++_}
-use native.Mathlib.Omega.{arith}
+use mathlib.Core.Bool.{true, false}
+use mathlib.Core.List.{List, _∷_, _++_}
 use lib.ListN.{length, replicate}
-use lib.Dec.{leb, eqb}
+use lib.Dec.{leb}
 use borrow.Author.Tests.{leb-true, eqb-true, not-false, eq-eqb, ne-eqb}
-use Rattle.words.specs.Tests.{_and_, _or_, _if_else_, all}
+use Rattle.words.specs.Tests.{_if_else_}
 use Rattle.words.specs.Lists.{tab, flat}
 use Rattle.words.specs.Bytes.{byteFrom, le}
-use Rattle.words.specs.Tables.{Row, firstOf}
+use Rattle.words.specs.Tables.{firstOf}
 use Rattle.words.proofs.Tests.{and-snd, or-fst, or-snd}
 use Rattle.words.proofs.Lists.{tab-getD}
 use Rattle.words.proofs.Sets.{answers, or-first, or-then, not-of-false, not-of-true}
-use Rattle.rules.specs.declared.list.LockList.{LockList}
-use Rattle.rules.specs.Locks.{emptyPlace, firstMark, secondMark, packItem, pack, isLimit, isUser, badStart, rowsStart, freshList, Started, startEnds, start}
+use Rattle.rules.specs.Locks.{emptyPlace, firstMark, secondMark, packItem, pack, isLimit, badStart, rowsStart, freshList, Started, startEnds, start}
 use Rattle.locklist.specs.Start.{DidStart, MayStart}
 
 limit-fits : (n : ℕ) → isLimit n ≡ true → n ≤ 64

@@ -7,7 +7,7 @@ ghost use Prim.Native.Nat.{_+_, _*_, _≤_, _<_};
 ghost use lib.ListN.{length};
 ghost use Rattle.words.specs.Lists.{tab};
 ghost use Rattle.words.specs.Bytes.{byteFrom, word};
-ghost use Rattle.rules.specs.Locks.{itemFrom, placeOf, unpack};
+ghost use Rattle.rules.specs.Locks.{itemFrom, unpack};
 
 // The number that four bytes say, low byte first.
 fn word_of(a: u8, b: u8, c: u8, d: u8) -> u32
@@ -47,34 +47,25 @@ pub fn item_from(b: &[u8]) -> Item
     }
 }
 
-// The 64 places.
-fn items_from(list: &[u8]) -> [Item; 64]
-    requires { ⌜ length (now list) ≡ 1299 ⌝ }
-    ensures { λ r. ⌜ r ≡ tab (placeOf (now (list .entry))) 64 ⌝ }
-{
-    let mut items = [Item::EMPTY; 64];
-    let mut i: usize = 0;
-    while i < 64 {
-        let at = 19 + 20 * i;
-        let end = at + 20;
-        items[i] = item_from(&list[at..end]);
-        i += 1;
-    }
-    items
-}
-
-// The list that 1,299 bytes say.
+// The list that 1,299 bytes say: its limits and users, then its places one by one.
 pub fn unpack(list: &[u8]) -> LockList
     requires { ⌜ length (now list) ≡ 1299 ⌝ }
     ensures { λ r. ⌜ r ≡ unpack (now (list .entry)) ⌝ }
 {
     let users = users_from(list, 3);
-    let items = items_from(list);
-    LockList {
+    let mut l = LockList {
         capacity: list[0],
         openlimit: list[1],
         locklimit: list[2],
         users: users,
-        items: items,
+        items: [Item::EMPTY; 64],
+    };
+    let mut i: usize = 0;
+    while i < 64 {
+        let at = 19 + 20 * i;
+        let end = at + 20;
+        l.items[i] = item_from(&list[at..end]);
+        i += 1;
     }
+    l
 }

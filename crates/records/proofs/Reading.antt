@@ -1,11 +1,10 @@
 -- 33: the outcome at each end of its routine. Assumes nothing.
-use Prim.Native.Nat.{ℕ, _+_, _-_, _*_, _/_, _%_, _≤_, _<_}
+use Prim.Native.Nat.{ℕ, _+_, _-_, _*_, _/_, _≤_, _<_}
 use mathlib.Core.Path.{_≡_, refl, sym, ap, _∙_}
-use mathlib.Core.Bool.{Bool, true, false}
-use mathlib.Core.List.{List, [], _∷_}
+use mathlib.Core.Bool.{true}
+use mathlib.Core.List.{List}
 use native.Mathlib.Omega.{arith}
 use lib.ListN.{length, take, drop}
-use lib.Dec.{eqb, leb}
 use borrow.Author.Tests.{eqb-false}
 use Rattle.words.specs.Bytes.{put, part}
 use Rattle.words.specs.Tables.{firstOf}
@@ -20,7 +19,7 @@ use Rattle.rules.specs.Locks.{unpack, openOf}
 use Rattle.rules.specs.Asks.{callerFile, recordOf}
 use Rattle.rules.specs.Codes.{rowsThere, rows33}
 use Rattle.rules.specs.Effects.{contents, does33}
-use Rattle.rules.specs.Call.{unless, askedBy, rowsOf, effectOf, served}
+use Rattle.rules.specs.Call.{askedBy, rowsOf, effectOf, served}
 use Rattle.rules.proofs.Sound.{sound-length, length-whole, block-within}
 use Rattle.rules.proofs.Ends.{did-as, did-refuse, did-pass, served-as}
 use Rattle.records.specs.By.{by33}

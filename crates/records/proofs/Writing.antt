@@ -1,12 +1,11 @@
 -- 34 and 40: the outcome at each end of their routine. Assumes nothing.
-use Prim.Native.Nat.{ℕ, _+_, _*_, _/_, _≤_, _<_}
+use Prim.Native.Nat.{ℕ, _/_, _<_}
 use mathlib.Core.Path.{_≡_, refl, sym, ap, _∙_}
 use mathlib.Core.Bool.{Bool, true, false}
-use mathlib.Core.List.{List, [], _∷_, _++_}
+use mathlib.Core.List.{List}
 use mathlib.Core.Logic.{⊎-elim}
 use native.Mathlib.Omega.{arith}
-use lib.ListN.{length}
-use lib.Dec.{leb, ltb, eqb}
+use lib.Dec.{leb, eqb}
 use borrow.Author.Tests.{ltb-false}
 use Rattle.words.specs.Tests.{_and_, _if_else_}
 use Rattle.words.specs.Tables.{firstOf, noneZero}
@@ -16,7 +15,6 @@ use Rattle.rules.specs.declared.file.File.{File}
 use Rattle.rules.specs.declared.file.Found.{Found}
 use Rattle.rules.specs.declared.list.LockList.{LockList}
 use Rattle.rules.specs.declared.spot.Spot.{Spot}
-use Rattle.rules.specs.declared.routine.Chosen.{Chosen}
 use Rattle.rules.specs.declared.routine.Chosen.the-variants.{Call}
 use Rattle.rules.specs.declared.routine.Routine.the-variants.{Write, WriteZeros}
 use Rattle.rules.specs.Serves.{Buffers, Did}
@@ -25,7 +23,7 @@ use Rattle.rules.specs.Locks.{unpack, openOf}
 use Rattle.rules.specs.Asks.{callerFile, recordOf}
 use Rattle.rules.specs.Codes.{rowsMay, rowsRoom, rows34}
 use Rattle.rules.specs.Effects.{spotAt, written, does34}
-use Rattle.rules.specs.Call.{unless, askedBy, rowsOf, effectOf, served}
+use Rattle.rules.specs.Call.{askedBy, rowsOf, effectOf, served}
 use Rattle.rules.proofs.Room.{Within, room-within}
 use Rattle.rules.proofs.Ends.{did-as, did-refuse, did-pass, did-refuse-first, did-go-on, served-as}
 use Rattle.records.specs.By.{by34}

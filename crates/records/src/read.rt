@@ -3,15 +3,16 @@ use drive::find::block_in;
 use drive::find::entry_of;
 use locklist::ask::caller_file;
 use locklist::ask::record_of;
-use locklist::unpack::unpack;
 use rules::bytes::put_bytes;
 use rules::file::File;
+use rules::list::LockList;
 ghost use mathlib.Core.Path.{_≡_};
 ghost use Prim.Native.Nat.{_<_, _≤_};
 ghost use lib.ListN.{length};
 ghost use Rattle.words.specs.Tables.{firstOf};
 ghost use Rattle.rules.specs.Serves.{Did, buffers};
 ghost use Rattle.rules.specs.Codes.{rows33};
+ghost use Rattle.rules.specs.Locks.{unpack};
 ghost use Rattle.rules.specs.Call.{Ready, served};
 ghost use Rattle.rules.specs.declared.routine.Chosen.the-variants.{Call};
 ghost use Rattle.rules.specs.declared.routine.Routine.the-variants.{Read};
@@ -56,11 +57,10 @@ fn read_by(
 }
 
 // 33 on the buffers.
-pub fn read_random(p: u8, fcb: &[u8], dma: &mut [u8], list: &[u8], image: &[u8]) -> u32
-    requires { ⌜ Ready (buffers (now fcb) (now dma) (now list) (now image)) ⌝ }
+pub fn read_random(p: u8, l: LockList, fcb: &[u8], dma: &mut [u8], list: &[u8], image: &[u8]) -> u32
+    requires { ⌜ (l ≡ unpack (now list)) × Ready (buffers (now fcb) (now dma) (now list) (now image)) ⌝ }
     ensures { λ c. ⌜ Did (served (Call Read) p 1 (buffers (now (fcb .entry)) (now (dma .entry)) (now (list .entry)) (now (image .entry)))) c (now (fcb .entry)) (now (dma .exit)) (now (list .entry)) (now (image .entry)) ⌝ }
 {
-    let l = unpack(list);
     let f = caller_file(l, p, fcb);
     let o = l.open_of(p, f);
     let r = record_of(fcb) as usize;

@@ -3,7 +3,6 @@ use drive::find::entry_of;
 use drive::find::look_up;
 use locklist::ask::caller_file;
 use locklist::ask::record_of;
-use locklist::unpack::unpack;
 use rules::file::File;
 use rules::list::LockList;
 use rules::spot::Spot;
@@ -20,6 +19,7 @@ ghost use Rattle.rules.specs.Serves.{Did, buffers};
 ghost use Rattle.rules.specs.Drive.{blocks};
 ghost use Rattle.rules.specs.Effects.{spotAt};
 ghost use Rattle.rules.specs.Codes.{rowsRoom};
+ghost use Rattle.rules.specs.Locks.{unpack};
 ghost use Rattle.rules.specs.Call.{Ready, served};
 ghost use Rattle.rules.specs.declared.routine.Chosen.the-variants.{Call};
 ghost use Rattle.rules.specs.declared.routine.Routine.the-variants.{Write, WriteZeros};
@@ -92,11 +92,17 @@ fn write_by(
 }
 
 // 34 on the buffers.
-pub fn write_random(p: u8, fcb: &[u8], dma: &[u8], list: &[u8], image: &mut [u8]) -> u32
-    requires { ⌜ Ready (buffers (now fcb) (now dma) (now list) (now image)) ⌝ }
+pub fn write_random(
+    p: u8,
+    l: LockList,
+    fcb: &[u8],
+    dma: &[u8],
+    list: &[u8],
+    image: &mut [u8],
+) -> u32
+    requires { ⌜ (l ≡ unpack (now list)) × Ready (buffers (now fcb) (now dma) (now list) (now image)) ⌝ }
     ensures { λ c. ⌜ Did (served (Call Write) p 1 (buffers (now (fcb .entry)) (now (dma .entry)) (now (list .entry)) (now (image .entry)))) c (now (fcb .entry)) (now (dma .entry)) (now (list .entry)) (now (image .exit)) ⌝ }
 {
-    let l = unpack(list);
     let f = caller_file(l, p, fcb);
     let o = l.open_of(p, f);
     let r = record_of(fcb);
@@ -104,11 +110,17 @@ pub fn write_random(p: u8, fcb: &[u8], dma: &[u8], list: &[u8], image: &mut [u8]
 }
 
 // 40 on the buffers.
-pub fn write_zero_fill(p: u8, fcb: &[u8], dma: &[u8], list: &[u8], image: &mut [u8]) -> u32
-    requires { ⌜ Ready (buffers (now fcb) (now dma) (now list) (now image)) ⌝ }
+pub fn write_zero_fill(
+    p: u8,
+    l: LockList,
+    fcb: &[u8],
+    dma: &[u8],
+    list: &[u8],
+    image: &mut [u8],
+) -> u32
+    requires { ⌜ (l ≡ unpack (now list)) × Ready (buffers (now fcb) (now dma) (now list) (now image)) ⌝ }
     ensures { λ c. ⌜ Did (served (Call WriteZeros) p 1 (buffers (now (fcb .entry)) (now (dma .entry)) (now (list .entry)) (now (image .entry)))) c (now (fcb .entry)) (now (dma .entry)) (now (list .entry)) (now (image .exit)) ⌝ }
 {
-    let l = unpack(list);
     let f = caller_file(l, p, fcb);
     let o = l.open_of(p, f);
     let r = record_of(fcb);

@@ -1,7 +1,6 @@
 -- The paper's numbers tell an enum's cases apart. Assumes nothing.
-use Prim.Native.Nat.{ℕ, _+_, _*_, _≤_, _<_}
+use Prim.Native.Nat.{ℕ, _<_}
 use mathlib.Core.Path.{_≡_, refl, sym, ap, _∙_}
-use mathlib.Core.Bool.{Bool, true}
 use mathlib.Core.List.{List}
 use native.Mathlib.Omega.{arith}
 use lib.Dec.{eqb}
@@ -11,8 +10,7 @@ use Rattle.rules.specs.declared.answer.ImageAnswer.{ImageAnswer}
 use Rattle.rules.specs.declared.answer.ImageAnswer.the-variants.{Sound, WrongLength, UnsoundDirectory}
 use Rattle.rules.specs.declared.routine.Routine.{Routine}
 use Rattle.rules.specs.declared.routine.Routine.the-variants.{Open, Close, Delete, Make, Rename, Read, Write, WriteZeros, TestWrite, Lock, Unlock, FreeSpace, Terminate}
-use Rattle.rules.specs.declared.routine.Chosen.{Chosen}
-use Rattle.rules.specs.declared.routine.Chosen.the-variants.{Call, Unknown}
+use Rattle.rules.specs.declared.routine.Chosen.the-variants.{Call}
 use Rattle.rules.specs.Serves.{functionOf, chosen}
 use Rattle.rules.specs.Drive.{highest, imageNumber}
 use Rattle.rules.specs.Asks.{recordOf}

@@ -1,9 +1,8 @@
 -- The ends of a routine: what its answer and its buffers are is the outcome of a table and an effect. Assumes nothing.
 use Prim.Native.Nat.{ℕ}
 use mathlib.Core.Path.{_≡_, refl, sym, ap, _∙_}
-use mathlib.Core.Bool.{Bool, true, false}
+use mathlib.Core.Bool.{true}
 use mathlib.Core.List.{List, _++_}
-use lib.Dec.{eqb}
 use borrow.Author.Tests.{eq-eqb, ne-eqb}
 use Rattle.words.specs.Tests.{_if_else_}
 use Rattle.words.specs.Tables.{Row, firstOf, noneZero}

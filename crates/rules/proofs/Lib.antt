@@ -6,3 +6,6 @@ pub mod Look
 pub mod Ends
 pub mod Room
 pub mod Lists
+pub mod Items
+pub mod SoundList
+pub mod Frames

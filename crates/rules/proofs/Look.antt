@@ -1,19 +1,19 @@
 -- Where Look's parts lie. Assumes nothing.
-use Prim.Native.Nat.{ℕ, _+_, _*_, _/_, _%_, _≤_, _<_}
+use Prim.Native.Nat.{ℕ, _+_, _/_, _%_, _≤_}
 use mathlib.Core.Path.{_≡_, refl, sym, ap, _∙_}
-use mathlib.Core.Bool.{Bool, true, false}
+use mathlib.Core.Bool.{true, false}
 use mathlib.Core.List.{List}
 use mathlib.Core.Logic.{_⊎_, inl, inr, ⊎-elim}
 use native.Mathlib.Omega.{arith}
 use lib.ListN.{length}
 use lib.Dec.{eqb, leb}
-use borrow.Author.Tests.{eqb-true, eqb-false, leb-true, leb-false}
-use Rattle.words.specs.Tests.{_and_, _if_else_}
+use borrow.Author.Tests.{eqb-false, leb-true, leb-false}
+use Rattle.words.specs.Tests.{_if_else_}
 use Rattle.words.proofs.Tests.{either, equal?, and-fst}
 use Rattle.rules.specs.declared.file.File.{File}
-use Rattle.rules.specs.Drive.{blocks, blockOf, recordAt, fileFrom, fileAt, entryOf, extentAt, mapPlace, soundImage}
+use Rattle.rules.specs.Drive.{blockOf, recordAt, fileFrom, fileAt, entryOf, extentAt, mapPlace, soundImage}
 use Rattle.rules.specs.Look.{mayLook, lookBlock, partAt, lookAt}
-use Rattle.rules.proofs.Sound.{SoundImage, sound-of, sound-length, length-whole, block-within, block-is, block-named, found-is, from-long}
+use Rattle.rules.proofs.Sound.{sound-of, sound-length, length-whole, block-within, block-is, block-named, found-is, from-long}
 
 -- two parts of 128 bytes that do not overlap
 pub record Apart (a b : ℕ) : Type 0 where

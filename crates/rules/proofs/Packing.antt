@@ -1,23 +1,23 @@
 -- A list that is packed is unpacked again, and the other way round. Assumes nothing.
-use Prim.Native.Nat.{ℕ, zero, suc, _+_, _*_, _/_, _%_, _≤_, _<_}
+use Prim.Native.Nat.{ℕ, zero, suc, _+_, _*_, _≤_, _<_}
 use mathlib.Core.Path.{_≡_, refl, sym, ap, _∙_}
-use mathlib.Core.Bool.{Bool, true, false}
+use mathlib.Core.Bool.{true, false}
 use mathlib.Core.List.{List, [], _∷_, _++_}
 use mathlib.Core.Logic.{⊎-elim}
 use native.Mathlib.Omega.{arith}
 use lib.ListN.{length, getD, take, drop, take-append-drop, length-take, length-drop, List·getD-eq-default}
-use lib.Seq.{drop-append-add, getD-take, getD-drop, length-take-le}
+use lib.Seq.{drop-append-add, getD-take, length-take-le}
 use lib.Dec.{eqb, leb}
 use borrow.Author.Tests.{eqb-true, leb-true, leb-false}
-use Rattle.words.specs.Tests.{_and_, _or_, _if_else_, all}
+use Rattle.words.specs.Tests.{_and_, _if_else_, all}
 use Rattle.words.specs.Lists.{tab, flat}
-use Rattle.words.specs.Bytes.{byte, byteFrom, part, le, word}
-use Rattle.words.proofs.Tests.{either, all-at, and-fst, and-snd}
-use Rattle.words.proofs.Lists.{tab-ext, tab-getD, tab-at, flat-block, flat-cut}
-use Rattle.words.proofs.Bytes.{word-back, word-first, word-second, word-third, word-fourth}
+use Rattle.words.specs.Bytes.{byte, byteFrom, part, le}
+use Rattle.words.proofs.Tests.{either, all-at, all-make, and-fst, and-snd}
+use Rattle.words.proofs.Lists.{tab-ext, tab-getD, tab-at, flat-block, flat-cut, length-flat}
+use Rattle.words.proofs.Bytes.{part-byte, word-back, word-first, word-second, word-third, word-fourth}
 use Rattle.rules.specs.declared.item.Item.{Item}
 use Rattle.rules.specs.declared.list.LockList.{LockList}
-use Rattle.rules.specs.Locks.{blank, kindOf, firstMark, secondMark, itemFrom, placeOf, placeAt, packItem, pack, unpack, itemAt, goodEmpty, goodItem, goodPlace, zeroAt, soundLocks, soundList}
+use Rattle.rules.specs.Locks.{blank, kindOf, firstMark, secondMark, itemFrom, placeOf, placeAt, packItem, pack, unpack, itemAt, goodPlace, zeroAt, soundLocks, soundList}
 
 -- ---- unpack (pack k) ≡ k
 
@@ -39,7 +39,7 @@ kind-back (suc zero) h = refl
 kind-back (suc (suc zero)) h = refl
 kind-back (suc (suc (suc k))) h = absurd (omega arith)
 
-packed-long : (it : Item) → length (packItem it) ≡ 20
+pub packed-long : (it : Item) → length (packItem it) ≡ 20
 unfolding packItem tab le
 packed-long it = refl
 
@@ -57,7 +57,7 @@ item-back it g = λ i. record {
 heads : LockList → List ℕ
 heads l = l .capacity ∷ l .openlimit ∷ l .locklimit ∷ tab (byteFrom (l .users) 0) 16
 
-place-part : (l : LockList) → length (l .items) ≡ 64 → (k : ℕ) → k < 64 → part (placeAt k) 20 (pack l) ≡ packItem (itemAt l k)
+pub place-part : (l : LockList) → length (l .items) ≡ 64 → (k : ℕ) → k < 64 → part (placeAt k) 20 (pack l) ≡ packItem (itemAt l k)
 unfolding pack tab heads
 place-part l g k h =
     ap (λ (s : List ℕ). take 20 s) (drop-append-add (heads l) (flat packItem (l .items)) (20 * k))
@@ -77,6 +77,21 @@ unpack-pack l g =
       users = tab-getD (l .users) 0 16 (g .users-long) i;
       items = e i;
     }
+
+-- ---- the bytes of a packed list
+
+zero-byte : (it : Item) → byte (packItem it) 15 ≡ 0
+unfolding packItem tab le
+zero-byte it = refl
+
+pub zero-packed : (l : LockList) → length (l .items) ≡ 64 → all (zeroAt (pack l)) 64 ≡ true
+unfolding zeroAt
+zero-packed l h =
+    all-make (zeroAt (pack l)) 64 (λ i m. ap (λ (s : List ℕ). eqb (byte s 15) 0) (place-part l h i m) ∙ ap (λ (n : ℕ). eqb n 0) (zero-byte (itemAt l i)))
+
+pub pack-long : (l : LockList) → length (l .items) ≡ 64 → length (pack l) ≡ 1299
+unfolding pack tab
+pack-long l h = let k : length (flat packItem (l .items)) ≡ 20 * length (l .items) = length-flat packItem 20 packed-long (l .items) in omega arith
 
 -- ---- pack (unpack l) ≡ l
 
@@ -137,8 +152,7 @@ part-small s at n k w =
     let j : length (part at n s) ≤ k = simp length-take (omega arith) in
     let z : byte (part at n s) k ≡ 0 = List·getD-eq-default (part at n s) 0 j in omega arith)
     (λ (q : leb n k ≡ false).
-    let z : byte (part at n s) k ≡ byte s (at + k) = getD-take n (drop at s) k 0 (leb-false n k q) ∙ getD-drop at s k 0 in
-    omega (arith, w (at + k)))
+    omega (arith, part-byte s at n k (leb-false n k q), w (at + k)))
     (either (leb n k))
 
 -- place i of a list that was unpacked

@@ -1,8 +1,8 @@
 -- What passing the rows for want of room says: the spot lies in the image. Assumes nothing.
-use Prim.Native.Nat.{ℕ, _+_, _*_, _/_, _%_, _≤_, _<_}
-use mathlib.Core.Path.{_≡_, refl, sym, ap, _∙_}
-use mathlib.Core.Bool.{Bool, true, false}
-use mathlib.Core.List.{List, [], _∷_}
+use Prim.Native.Nat.{ℕ, _+_, _*_, _/_, _≤_, _<_}
+use mathlib.Core.Path.{_≡_, sym, ap, _∙_}
+use mathlib.Core.Bool.{true, false}
+use mathlib.Core.List.{List}
 use mathlib.Core.Logic.{⊎-elim}
 use native.Mathlib.Omega.{arith}
 use lib.ListN.{length}
@@ -14,7 +14,7 @@ use Rattle.words.proofs.Tests.{either}
 use Rattle.words.proofs.Tables.{row-off, row-rest}
 use Rattle.rules.specs.declared.file.File.{File}
 use Rattle.rules.specs.declared.spot.Spot.{Spot}
-use Rattle.rules.specs.Drive.{blocks, entryOf, blockIn, blockOf, freeEntry, freeBlock, recordAt, soundImage}
+use Rattle.rules.specs.Drive.{blocks, entryOf, blockIn, blockOf, freeEntry, freeBlock, soundImage}
 use Rattle.rules.specs.Codes.{rowsRoom, rowsThere}
 use Rattle.rules.specs.Effects.{spotAt}
 use Rattle.rules.proofs.Sound.{sound-length, length-whole, length-few, block-within}

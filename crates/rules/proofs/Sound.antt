@@ -1,24 +1,23 @@
 -- A sound image, said of its entries and block numbers, and back. Assumes nothing.
 use Prim.Native.Nat.{ℕ, _+_, _-_, _*_, _/_, _%_, _≤_, _<_}
-use mathlib.Core.Path.{_≡_, refl, sym, ap, _∙_}
+use mathlib.Core.Path.{_≡_, sym, ap, _∙_}
 use mathlib.Core.Bool.{Bool, true, false, not}
 use mathlib.Core.List.{List}
-use mathlib.Core.Logic.{_⊎_, inl, inr, ⊎-elim}
+use mathlib.Core.Logic.{⊎-elim}
 use native.Mathlib.Omega.{arith}
 use lib.ListN.{length, getD}
 use lib.Dec.{eqb, leb, ltb}
-use borrow.Author.Tests.{eqb-true, eqb-false, eq-eqb, ne-eqb, leb-true, leb-false, ltb-true, le-leb, lt-ltb, not-true, not-false}
-use Rattle.words.specs.Tests.{_and_, _or_, _if_else_, all, any, count}
+use borrow.Author.Tests.{eqb-true, eqb-false, eq-eqb, ne-eqb, leb-true, leb-false, ltb-true, le-leb, lt-ltb, not-true}
+use Rattle.words.specs.Tests.{_and_, _if_else_, all, any, count}
 use Rattle.words.specs.Lists.{tab}
 use Rattle.words.specs.Bytes.{byte, lowFrom}
 use Rattle.words.proofs.Tests.{either, never, all-at, all-make, any-at, any-found, any-never, any-some, lowest-holds, and-fst, and-snd, or-fst, or-snd, or-so, or-case}
 use Rattle.words.proofs.Lists.{tab-ext, tab-getD, tab-at, length-tab}
 use Rattle.words.proofs.Counts.{count-split}
 use Rattle.words.proofs.Sets.{and-both, or-none, not-of-false}
-use Rattle.rules.specs.declared.answer.ImageAnswer.{ImageAnswer}
-use Rattle.rules.specs.declared.answer.ImageAnswer.the-variants.{Sound, WrongLength, UnsoundDirectory}
+use Rattle.rules.specs.declared.answer.ImageAnswer.the-variants.{Sound}
 use Rattle.rules.specs.declared.file.File.{File}
-use Rattle.rules.specs.Drive.{goodLength, blocks, isEmpty, nameAt, extentAt, mapNumber, mapPlace, sameLow, isNamed, fileFrom, fileAt, isEntry, entryOf, holds, names, isUsed, isFree, freeBlocks, goodUser, goodNumbers, goodFields, inRange, namedBefore, isFirst, isRepeat, goodEntry, isBegun, soundDirectory, soundImage, imageCheck, userByte, blockIn, blockOf, entryByte}
+use Rattle.rules.specs.Drive.{goodLength, blocks, isEmpty, nameAt, extentAt, mapNumber, mapPlace, sameLow, isNamed, fileFrom, fileAt, isEntry, entryOf, holds, names, isUsed, isFree, freeBlocks, goodFields, inRange, namedBefore, isFirst, isRepeat, goodEntry, isBegun, soundDirectory, soundImage, imageCheck, userByte, blockIn, blockOf}
 
 -- ---- entries
 

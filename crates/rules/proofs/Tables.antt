@@ -2,32 +2,31 @@
 use Prim.Native.Nat.{ℕ}
 use mathlib.Core.Path.{_≡_, refl, sym, ap, _∙_}
 use mathlib.Core.Bool.{Bool, true, false}
-use mathlib.Core.List.{List, [], _∷_, _++_}
+use mathlib.Core.List.{List, _∷_, _++_}
 use mathlib.Core.Logic.{⊎-elim}
 use lib.Dec.{eqb}
-use borrow.Author.Tests.{eq-eqb, ne-eqb, eqb-true, eqb-false}
+use borrow.Author.Tests.{ne-eqb, eqb-false}
 use Rattle.words.specs.Tests.{_if_else_}
 use Rattle.words.specs.Tables.{Row, _∕_, _when_, firstOf, anyRow, noneZero}
-use Rattle.words.proofs.Tests.{either, never}
+use Rattle.words.proofs.Tests.{either}
 use Rattle.words.proofs.Tables.{none-applies, first-applies, some-applies, first-then, first-stays, nonzeros, nonzero-append}
-use Rattle.rules.specs.declared.routine.Routine.{Routine}
 use Rattle.rules.specs.declared.routine.Routine.the-variants.{Open, Close, Delete, Make, Rename, Read, Write, WriteZeros, TestWrite, Lock, Unlock, FreeSpace, Terminate}
 use Rattle.rules.specs.declared.routine.Chosen.{Chosen}
 use Rattle.rules.specs.declared.routine.Chosen.the-variants.{Call, Unknown}
 use Rattle.rules.specs.Serves.{Buffers, Outcome, Did, buffers, outcome, chosen}
 use Rattle.rules.specs.Locks.{itemAt, unlocked, isOpened}
-use Rattle.rules.specs.Codes.{rowsAll, rows15, rows16, rows19, rows22, rows23, rows33, rows34, rows41, rows42, rows43, rowsThere, rowsMay, rowsRoom, rowsDiffer, rowsRun, rowsLacking, rowsTake}
+use Rattle.rules.specs.Codes.{rowsInside, rowsAll, rowsNew, rows15, rows16, rows19, rows22, rows23, rows33, rows34, rows41, rows42, rows43, rowsThere, rowsMay, rowsRoom, rowsDiffer, rowsRun, rowsLacking, rowsTake}
 use Rattle.rules.specs.Effects.{does15, does16, does19, does22, makes, does23, does33, does34, does41, does42, does43, does46, does143}
 use Rattle.rules.specs.Call.{Asked, ends, unless, asked, rowsOf, effectOf, served, rowsCall, call}
 
 -- ---- no row has the answer 0/0
 
 pub nonzero-all : (n p c : ℕ) (b : Buffers) → noneZero (rowsAll n p c b) ≡ true
-unfolding rowsAll
+unfolding rowsInside rowsAll
 nonzero-all n p c b = search nonzeros depth 20 fits 20000
 
 pub nonzero-of : (k : Chosen) (a : Asked) (b : Buffers) → noneZero (rowsOf k a b) ≡ true
-unfolding rowsOf rows15 rows16 rows19 rows22 rows23 rows33 rows34 rows41 rows42 rows43 rowsThere rowsMay rowsRoom rowsDiffer rowsRun rowsLacking rowsTake
+unfolding rowsOf rowsNew rows15 rows16 rows19 rows22 rows23 rows33 rows34 rows41 rows42 rows43 rowsThere rowsMay rowsRoom rowsDiffer rowsRun rowsLacking rowsTake
 nonzero-of (Call Open) a b = search nonzeros depth 20 fits 20000
 nonzero-of (Call Close) a b = search nonzeros depth 20 fits 20000
 nonzero-of (Call Delete) a b = search nonzeros depth 20 fits 20000

@@ -1,6 +1,5 @@
 -- "What each call does": what a call asks for. Assumes nothing.
 use Prim.Native.Nat.{ℕ, _+_, _-_, _*_}
-use mathlib.Core.Bool.{Bool, true, false}
 use mathlib.Core.List.{List}
 use lib.Dec.{leb}
 use Rattle.words.specs.Tests.{_if_else_}

@@ -1,7 +1,7 @@
 -- A call: any three numbers and any four buffers, to one outcome. Assumes nothing.
 use Prim.Native.Nat.{ℕ, _*_, _/_, _≤_}
 use mathlib.Core.Path.{_≡_}
-use mathlib.Core.Bool.{Bool, true, false}
+use mathlib.Core.Bool.{true, false}
 use mathlib.Core.List.{List, [], _++_}
 use lib.ListN.{length}
 use lib.Dec.{eqb}
@@ -10,7 +10,6 @@ use Rattle.words.specs.Tables.{Row, firstOf}
 use Rattle.rules.specs.declared.file.File.{File}
 use Rattle.rules.specs.declared.file.Found.{Found}
 use Rattle.rules.specs.declared.list.LockList.{LockList}
-use Rattle.rules.specs.declared.routine.Routine.{Routine}
 use Rattle.rules.specs.declared.routine.Routine.the-variants.{Open, Close, Delete, Make, Rename, Read, Write, WriteZeros, TestWrite, Lock, Unlock, FreeSpace, Terminate}
 use Rattle.rules.specs.declared.routine.Chosen.{Chosen}
 use Rattle.rules.specs.declared.routine.Chosen.the-variants.{Call, Unknown}

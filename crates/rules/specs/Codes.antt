@@ -2,20 +2,20 @@
 -- before it does. l is the list, f the caller's file, x what looking it up tells, o the place of the caller's open of it (64:
 -- none), e the entry of its extent with the record r (64: missing), s the image. Each table names the buffers that it reads. Assumes nothing.
 use Prim.Native.Nat.{ℕ, _+_, _/_}
-use mathlib.Core.Bool.{Bool, true, false, not}
+use mathlib.Core.Bool.{Bool, not}
 use mathlib.Core.List.{List, [], _∷_, _++_}
 use lib.ListN.{length}
 use lib.Dec.{leb, ltb, eqb}
 use Rattle.words.specs.Tests.{_and_, _or_, any, lowest, count}
-use Rattle.words.specs.Bytes.{byte, part}
+use Rattle.words.specs.Bytes.{byte}
 use Rattle.words.specs.Tables.{Row, _∕_, _when_, onlyIf}
 use Rattle.rules.specs.declared.file.File.{File}
 use Rattle.rules.specs.declared.file.Found.{Found}
 use Rattle.rules.specs.declared.item.Item.{Item}
 use Rattle.rules.specs.declared.list.LockList.{LockList}
 use Rattle.rules.specs.Serves.{Buffers, chosen, isUnknown, processes, fcbSize, dmaSize, listSize}
-use Rattle.rules.specs.Drive.{highest, entries, blocks, extentRecords, recordSize, legalName, entryOf, lookUp, missing, readOnly, freeEntry, freeBlock, blockIn, blockOf, recordAt, soundImage}
-use Rattle.rules.specs.Locks.{itemAt, userOf, locked, unlocked, readonly, isOpened, anyOpen, opensFileAt, lockedByOther, held, opensBy, locksBy, freePlace, freePlaces, soundList}
+use Rattle.rules.specs.Drive.{highest, entries, blocks, extentRecords, recordSize, legalName, entryOf, missing, readOnly, freeEntry, freeBlock, blockIn, blockOf, recordAt, soundImage}
+use Rattle.rules.specs.Locks.{itemAt, locked, unlocked, readonly, isOpened, anyOpen, opensFileAt, lockedByOther, held, opensBy, locksBy, freePlace, freePlaces, soundList}
 use Rattle.rules.specs.Asks.{openMode, lastOf}
 
 -- ---- The general table
@@ -30,13 +30,18 @@ badNumbers n p c fcb dma list =
 unfoldable pub badDrive : ℕ → List ℕ → Bool
 badDrive n fcb = ltb 1 (byte fcb 0) and not (eqb n 46) and not (eqb n 143)
 
+-- the rows that look into the buffers
+unfoldable pub rowsInside : ℕ → List ℕ → List ℕ → List ℕ → List Row
+rowsInside n fcb list s =
+    255 ∕ 1 when not (soundImage highest s)
+    ∷ 255 ∕ 12 when not (soundList highest list s)
+    ∷ 255 ∕ 4 when badDrive n fcb
+    ∷ []
+
 unfoldable pub rowsAll : ℕ → ℕ → ℕ → Buffers → List Row
 rowsAll n p c b =
     255 ∕ 13 when badNumbers n p c (b .fcb) (b .dma) (b .list)
-    ∷ 255 ∕ 1 when not (soundImage highest (b .image))
-    ∷ 255 ∕ 12 when not (soundList highest (b .list) (b .image))
-    ∷ 255 ∕ 4 when badDrive n (b .fcb)
-    ∷ []
+    ∷ rowsInside n (b .fcb) (b .list) (b .image)
 
 -- ---- 15
 
@@ -47,17 +52,21 @@ standsAgainst p mode it = not (eqb (it .process) p) and (eqb mode locked or not 
 unfoldable pub standsAgainstAt : LockList → ℕ → File → ℕ → ℕ → Bool
 standsAgainstAt l p f mode i = opensFileAt l f i and standsAgainst p mode (itemAt l i)
 
+-- the rows for a file that the caller has not open
+unfoldable pub rowsNew : ℕ → LockList → File → List ℕ → List Row
+rowsNew p l f fcb =
+    255 ∕ 5 when any (standsAgainstAt l p f (openMode fcb)) 64
+    ∷ 255 ∕ 10 when leb (l .openlimit) (opensBy l p)
+    ∷ 255 ∕ 11 when leb (l .capacity) (freePlace l)
+    ∷ []
+
 -- Where the caller has it open in the same mode, that is success: the rows after it are then no more looked at.
 unfoldable pub rows15 : ℕ → LockList → ℕ → File → Found → List ℕ → List Row
 rows15 p l o f x fcb =
     255 ∕ 9 when not (legalName fcb 1)
     ∷ 255 ∕ 0 when missing x
     ∷ 255 ∕ 5 when (isOpened o and not (eqb (itemAt l o .mode) (openMode fcb)))
-    ∷ onlyIf (not (isOpened o))
-    (255 ∕ 5 when any (standsAgainstAt l p f (openMode fcb)) 64
-    ∷ 255 ∕ 10 when leb (l .openlimit) (opensBy l p)
-    ∷ 255 ∕ 11 when leb (l .capacity) (freePlace l)
-    ∷ [])
+    ∷ onlyIf (not (isOpened o)) (rowsNew p l f fcb)
 
 -- ---- 22
 

@@ -1,8 +1,8 @@
 -- "The drive". Assumes nothing.
-use Prim.Native.Nat.{ℕ, suc, _+_, _*_, _/_, _%_}
-use mathlib.Core.Bool.{Bool, true, false, not}
-use mathlib.Core.List.{List, [], _∷_, _++_}
-use lib.ListN.{length, set, take, replicate}
+use Prim.Native.Nat.{ℕ, _+_, _*_, _/_, _%_}
+use mathlib.Core.Bool.{Bool, not}
+use mathlib.Core.List.{List}
+use lib.ListN.{length}
 use lib.Dec.{leb, ltb, eqb}
 use Rattle.words.specs.Tests.{_and_, _or_, _if_else_, all, any, lowest, count}
 use Rattle.words.specs.Lists.{tab}

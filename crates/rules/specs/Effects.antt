@@ -2,9 +2,9 @@
 use Prim.Native.Nat.{ℕ, _+_, _*_, _/_, _%_}
 use mathlib.Core.Bool.{Bool, true, false, not}
 use mathlib.Core.List.{List, [], _∷_, _++_, map}
-use lib.ListN.{length, set, take, replicate}
+use lib.ListN.{set, take, replicate}
 use lib.Dec.{leb, ltb, eqb}
-use Rattle.words.specs.Tests.{_and_, _or_, _if_else_}
+use Rattle.words.specs.Tests.{_and_, _if_else_}
 use Rattle.words.specs.Lists.{tab, turns}
 use Rattle.words.specs.Bytes.{byte, byteFrom, part, put, le}
 use Rattle.words.specs.Tables.{_∕_}

@@ -4,8 +4,8 @@ use crate::tests::one_if;
 use crate::tests::user_in;
 ghost use mathlib.Core.Path.{_≡_};
 ghost use Prim.Native.Nat.{_+_, _<_, _≤_};
-ghost use Rattle.words.specs.Tests.{_if_else_, any, count};
-ghost use Rattle.rules.specs.Locks.{itemAt, userOf, openOf, anyOpen, lockedByOther, held, opensBy, locksBy, freePlace, freePlaces, isKindByAt, freshLock};
+ghost use Rattle.words.specs.Tests.{any, count};
+ghost use Rattle.rules.specs.Locks.{itemAt, userOf, openOf, anyOpen, lockedByOther, opensBy, locksBy, freePlace, freePlaces, isKindByAt};
 ghost use Rattle.rules.specs.Codes.{standsAgainstAt, isOthers, isNew};
 ghost use Rattle.rules.specs.Effects.{placed, opened, closed, unlockedRun, terminated, lockedRun};
 
@@ -178,22 +178,6 @@ impl LockList {
         false
     }
 
-    // The process holds the record.
-    pub fn held(self, p: u8, f: File, r: u32) -> bool
-        ensures { λ t. ⌜ t ≡ held self p f r ⌝ }
-    {
-        let users = self.users;
-        let mut i = 0;
-        while i < 64 {
-            let it = self.items[i];
-            if it.is_own_lock(p, f, r, users) {
-                return true;
-            }
-            i += 1;
-        }
-        false
-    }
-
     // How many items of that kind the process has.
     fn kinds_by(self, kind: u8, p: u8) -> usize
         ensures { λ r. ⌜ (r ≡ count (isKindByAt self kind p) 64) × (r ≤ 64) ⌝ }
@@ -242,10 +226,17 @@ impl LockList {
         requires { ⌜ r + n < 4294967296 ⌝ }
         ensures { λ t. ⌜ t ≡ any (isOthers self p f r) n ⌝ }
     {
+        let users = self.users;
         let mut k = 0;
         while k < n {
-            if self.locked_by_other(p, f, r + k) {
-                return true;
+            let number = r + k;
+            let mut i = 0;
+            while i < 64 {
+                let it = self.items[i];
+                if it.is_others_lock(p, f, number, users) {
+                    return true;
+                }
+                i += 1;
             }
             k += 1;
         }
@@ -257,35 +248,47 @@ impl LockList {
         requires { ⌜ r + n < 4294967296 ⌝ }
         ensures { λ t. ⌜ (t ≡ count (isNew self p f r) n) × (t ≤ n) ⌝ }
     {
+        let users = self.users;
         let mut found = 0;
         let mut k = 0;
-        while k < n {
-            found += one_if(!self.held(p, f, r + k));
+        'records: while k < n {
+            let number = r + k;
+            let mut i = 0;
+            while i < 64 {
+                let it = self.items[i];
+                if it.is_own_lock(p, f, number, users) {
+                    k += 1;
+                    continue 'records;
+                }
+                i += 1;
+            }
+            found += 1;
             k += 1;
         }
         found
     }
 
-    // The list with the record locked, as it was where the process holds it.
-    fn lock_one(self, p: u8, f: File, r: u32) -> LockList
-        ensures { λ l. ⌜ l ≡ (self if held self p f r else placed (freshLock p (f .name) r) self) ⌝ }
-    {
-        if self.held(p, f, r) {
-            return self;
-        }
-        let name = f.name;
-        self.place(Item::lock(p, name, r))
-    }
-
-    // The list with the n records from r on locked, in rising order.
+    // The list with the n records from r on locked, in rising order; one that the process holds gets no new place.
     pub fn lock_run(self, p: u8, f: File, r: u32, n: u32) -> LockList
         requires { ⌜ r + n < 4294967296 ⌝ }
         ensures { λ l. ⌜ l ≡ lockedRun p f r n self ⌝ }
     {
+        let name = f.name;
         let mut l = self;
         let mut k = 0;
-        while k < n {
-            l = l.lock_one(p, f, r + k);
+        'records: while k < n {
+            let users = l.users;
+            let number = r + k;
+            let mut i = 0;
+            while i < 64 {
+                let it = l.items[i];
+                if it.is_own_lock(p, f, number, users) {
+                    k += 1;
+                    continue 'records;
+                }
+                i += 1;
+            }
+            l = l.place(Item::lock(p, name, number));
             k += 1;
         }
         l

@@ -1,7 +1,7 @@
 -- Laws of decimal digits: they read back as the number, 20 of them hold 64 bits, and a loop writes them from the last one on. Assumes nothing.
 use Prim.Native.Nat.{ℕ, zero, suc, _+_, _-_, _*_, _/_, _%_, _^_, _≤_, _<_}
 use mathlib.Core.Path.{_≡_, refl, sym, ap, _∙_}
-use mathlib.Core.Bool.{Bool, true, false}
+use mathlib.Core.Bool.{true, false}
 use mathlib.Core.List.{List, [], _∷_, _++_, append-assoc}
 use mathlib.Core.Logic.{⊎-elim}
 use native.Mathlib.Nat.{not-suc-le-zero, pow-suc}
@@ -9,7 +9,7 @@ use native.Mathlib.Omega.{arith}
 use borrow.Author.Needs.{needs}
 use borrow.Author.Tests.{ltb-true, ltb-false, lt-ltb, le-ltb}
 use lib.Dec.{ltb}
-use lib.ListN.{length, getD, set, drop, length-set, length-append, length-drop, drop-of-length-le, List·getD-append}
+use lib.ListN.{length, set, drop, length-set, length-append, length-drop, drop-of-length-le, List·getD-append}
 use lib.Seq.{drop-cons, drop-set-lt, getD-set-same}
 use Rattle.words.specs.Tests.{_if_else_}
 use Rattle.words.specs.Bytes.{byte}

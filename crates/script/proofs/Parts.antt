@@ -1,11 +1,12 @@
 -- Laws of parts of records. Assumes nothing.
 use Prim.Native.Nat.{ℕ, _+_, _-_, _≤_, _<_}
-use mathlib.Core.Path.{_≡_, refl, sym, ap, _∙_}
-use mathlib.Core.List.{List, [], _∷_, _++_, append-nil}
+use mathlib.Core.Path.{_≡_, sym, ap, _∙_}
+use mathlib.Core.List.{List, [], _++_, append-nil}
 use native.Mathlib.Omega.{arith}
-use lib.ListN.{length, take, drop, length-take, length-drop, drop-of-length-le}
+use lib.ListN.{length, drop, length-drop, drop-of-length-le}
 use lib.Seq.{take-all, take-nil}
 use Rattle.words.specs.Bytes.{part, put}
+use Rattle.words.proofs.Bytes.{part-long}
 
 -- ---- a part of which nothing, some or all is there
 
@@ -26,9 +27,6 @@ module _ (s : List ℕ) (at k : ℕ) where
   part-all = let e : at + k - at ≡ k = omega arith in rw e
 
 -- ---- a copy
-
-pub part-long : (s : List ℕ) (at k : ℕ) → at + k ≤ length s → length (part at k s) ≡ k
-part-long s at k h = rw (length-take, length-drop) (omega arith)
 
 pub copied : (v s l : List ℕ) → l ≡ put 0 v s → length v ≡ length s → l ≡ v
 unfolding put

@@ -1,7 +1,5 @@
 -- The session is as listed. Each call is computed from the state listed before it. Assumes nothing.
 use mathlib.Core.Path.{_≡_, refl}
-use mathlib.Core.List.{List, [], _∷_}
-use lib.ListN.{replicate}
 use Rattle.words.specs.Tables.{_∕_}
 use Rattle.rules.specs.Serves.{outcome, buffers}
 use Rattle.rules.specs.Call.{call}

@@ -4,7 +4,7 @@ use mathlib.Core.Path.{_≡_}
 use mathlib.Core.List.{List, [], _∷_, _++_}
 use lib.ListN.{replicate}
 use Rattle.words.specs.Tables.{_∕_}
-use Rattle.rules.specs.Serves.{Buffers, Outcome, buffers, outcome}
+use Rattle.rules.specs.Serves.{Outcome, buffers, outcome}
 use Rattle.rules.specs.Call.{call}
 
 -- ---- What the calls are given

@@ -13,7 +13,7 @@ use Rattle.words.proofs.Tests.{either, equal?, any-found, lowest-below}
 use Rattle.rules.specs.declared.file.File.{File}
 use Rattle.rules.specs.Drive.{highest, mapNumber, mapPlace, isEntry, entryOf, blockIn, blockOf}
 use Rattle.rules.proofs.Sound.{Is, Entries, Names, SoundImage, entry-so, found-is, block-is, block-named}
-use Rattle.soundness.proofs.Frames.{Same, head-of, same-back, is-same, map-same}
+use Rattle.rules.proofs.Frames.{Same, head-of, same-back, is-same, map-same}
 use Rattle.soundness.proofs.Changes.{Grown, Theirs, Touches}
 
 -- the record's block is b

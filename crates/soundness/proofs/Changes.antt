@@ -10,8 +10,8 @@ use Rattle.words.specs.Bytes.{byte}
 use Rattle.rules.specs.declared.file.File.{File}
 use Rattle.rules.specs.Drive.{highest, isEmpty, fileAt, mapNumber}
 use Rattle.rules.proofs.Sound.{Names, SoundImage}
+use Rattle.rules.proofs.Frames.{Head, Same, head-of, head-then, same-refl, same-then, empty-same, file-same}
 use Rattle.soundness.proofs.Steps.{Stays}
-use Rattle.soundness.proofs.Frames.{Head, Same, head-of, head-then, same-refl, same-then, empty-same, file-same}
 
 -- used entries keep their heads and their block numbers
 pub record Grown (s t : List ℕ) : Type 0 where

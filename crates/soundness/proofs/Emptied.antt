@@ -9,7 +9,7 @@ use lib.ListN.{length-map}
 use lib.Dec.{eqb}
 use borrow.Author.Tests.{eqb-true, eq-eqb, leb-true, le-leb, ne-eqb}
 use Rattle.words.specs.Tests.{_and_, _if_else_, all, count}
-use Rattle.words.proofs.Tests.{either, and-fst, and-snd}
+use Rattle.words.proofs.Tests.{either, and-fst, and-snd, fails-too}
 use Rattle.words.proofs.Counts.{count-less}
 use Rattle.words.proofs.Lists.{map-at}
 use Rattle.words.proofs.Sets.{and-both, and-left, not-of-false}
@@ -18,8 +18,8 @@ use Rattle.rules.specs.declared.item.Item.{Item}
 use Rattle.rules.specs.declared.list.LockList.{LockList}
 use Rattle.rules.specs.Locks.{blank, emptyPlace, itemAt, withItems, opensName, isKindBy, isKindByAt, opensBy, locksBy, isZero, goodEmpty, clashAt, keepsLimits}
 use Rattle.rules.specs.Effects.{isOfFile, unlessOfFile, isInRun, unlessInRun, unlessBy}
-use Rattle.soundness.proofs.Items.{clash-none, clash-no, open-is, name-then, name-sym, fails-too}
-use Rattle.soundness.proofs.Locks.{Shape, GoodOpen, GoodLock, Used, Vacant, SoundLocks}
+use Rattle.rules.proofs.Items.{clash-none, clash-no, open-is, name-then, name-sym}
+use Rattle.rules.proofs.SoundList.{Shape, GoodOpen, GoodLock, Used, Vacant, SoundLocks}
 
 empty-good : goodEmpty emptyPlace ≡ true
 unfolding goodEmpty isZero all _and_

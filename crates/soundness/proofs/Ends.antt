@@ -16,13 +16,12 @@ use Rattle.rules.specs.Locks.{userOf, isLow}
 use Rattle.rules.specs.Asks.{callerFile, newFile, recordOf}
 use Rattle.rules.specs.Effects.{made, renamed}
 use Rattle.rules.proofs.Sound.{SoundImage, sound-of}
+use Rattle.rules.proofs.SoundList.{Shape, SoundLocks, unpack-shape, user-fits, list-sound-of}
 use Rattle.soundness.proofs.Changes.{Change, Touches}
 use Rattle.soundness.proofs.Entered.{made-change, made-is, none-there}
 use Rattle.soundness.proofs.Blocks.{found-below}
 use Rattle.soundness.proofs.Renamed.{renamed-sound, renamed-touches, renamed-new}
 use Rattle.soundness.proofs.Written.{Old, New, written-step}
-use Rattle.soundness.proofs.Locks.{Shape, SoundLocks, unpack-shape, user-fits}
-use Rattle.soundness.proofs.Packed.{list-sound-of}
 use Rattle.soundness.proofs.Run.{Takes}
 use Rattle.soundness.proofs.Taken.{name-low, name-legal, caller-long, caller-user, caller-low, new-long, own-there, own-holder, own-legal}
 use Rattle.soundness.proofs.Leaves.{Passed, listOf, fileBy, newBy, MayMake, MayRename, MayWrite, MayLock, imageWritten}

@@ -21,7 +21,7 @@ use Rattle.rules.specs.declared.file.File.{File}
 use Rattle.rules.specs.Drive.{highest, isEmpty, nameAt, extentAt, mapNumber, fileFrom, fileAt, isEntry, entryOf, freeEntry, legalByte, legalAt, legalName, goodUser, goodNumbers, goodFields}
 use Rattle.rules.specs.Effects.{madeEntry, made, newEntry}
 use Rattle.rules.proofs.Sound.{Is, Names, SoundImage, entry-so, found-is, length-long}
-use Rattle.soundness.proofs.Frames.{Same, head-of, empty-same, extent-same, file-same, fields-same, map-same, names-same, user-good, user-is, long-same}
+use Rattle.rules.proofs.Frames.{Same, head-of, empty-same, extent-same, file-same, fields-same, map-same, names-same, user-good, user-is, long-same}
 use Rattle.soundness.proofs.Steps.{Stays, enters, fewer}
 use Rattle.soundness.proofs.Changes.{Change}
 

@@ -15,7 +15,7 @@ use Rattle.rules.specs.declared.file.File.{File}
 use Rattle.rules.specs.Drive.{highest, isEmpty, fileAt, isOf}
 use Rattle.rules.specs.Effects.{erasedAt, erased}
 use Rattle.rules.proofs.Sound.{Names, SoundImage, length-long}
-use Rattle.soundness.proofs.Frames.{Head, Same, head-of, first, empty-same, extent-same, file-same, fields-same, map-same, of-same, of-file, file-of, long-same}
+use Rattle.rules.proofs.Frames.{Head, Same, head-of, first, empty-same, extent-same, file-same, fields-same, map-same, of-same, of-file, file-of, long-same}
 use Rattle.soundness.proofs.Steps.{Stays, moves, fewer}
 use Rattle.soundness.proofs.Stored.{stays-same}
 use Rattle.soundness.proofs.Changes.{Touches}

@@ -8,9 +8,9 @@ use Rattle.rules.specs.declared.list.LockList.{LockList}
 use Rattle.rules.specs.Drive.{highest, entryOf, blockOf}
 use Rattle.rules.specs.Locks.{itemAt, fileOf}
 use Rattle.rules.proofs.Sound.{Is, SoundImage, found-is}
+use Rattle.rules.proofs.SoundList.{Shape, GoodOpen, GoodLock, Used, Vacant, SoundLocks}
 use Rattle.soundness.proofs.Changes.{Grown, Touches}
 use Rattle.soundness.proofs.Blocks.{At, at-of, of-at, at-grown, is-grown, at-forth, is-forth, found-below}
-use Rattle.soundness.proofs.Locks.{Shape, GoodOpen, GoodLock, Used, Vacant, SoundLocks}
 
 module _ (s t : List ℕ) (l : LockList) (g : SoundLocks l s)
     (files : (i : ℕ) → i < 64 → GoodOpen s l (itemAt l i) → entryOf t (fileOf l (itemAt l i)) 0 < 64)

@@ -6,6 +6,8 @@ use mathlib.Core.List.{List, map}
 use mathlib.Core.Logic.{_⊎_, ⊎-elim}
 use native.Mathlib.Omega.{arith}
 use lib.ListN.{length}
+use Rattle.words.proofs.Tests.{and-fst}
+use Rattle.words.proofs.Sets.{and-both}
 use Rattle.rules.specs.declared.file.File.{File}
 use Rattle.rules.specs.declared.item.Item.{Item}
 use Rattle.rules.specs.declared.list.LockList.{LockList}
@@ -16,12 +18,11 @@ use Rattle.rules.specs.Asks.{recordOf, openMode, makeMode}
 use Rattle.rules.specs.Effects.{placed, opened, made, closed, lockedRun, unlockedRun, terminated}
 use Rattle.rules.specs.Call.{call}
 use Rattle.rules.proofs.Sound.{SoundImage, sound-so}
+use Rattle.rules.proofs.SoundList.{Shape, SoundLocks, capacity-fits, locks-so, list-sound-so}
+use Rattle.rules.proofs.Packing.{pack-long}
 use Rattle.soundness.proofs.Changes.{Grown, Touches}
 use Rattle.soundness.proofs.Erased.{erased-sound, erased-touches}
 use Rattle.soundness.proofs.Written.{Old, New}
-use Rattle.soundness.proofs.Locks.{Shape, SoundLocks, capacity-fits}
-use Rattle.soundness.proofs.LocksBack.{locks-so}
-use Rattle.soundness.proofs.Packed.{pack-long, list-sound-so}
 use Rattle.soundness.proofs.Placed.{free-room, Fits, set-shape, set-sound}
 use Rattle.soundness.proofs.Emptied.{Empties, Whole, gone-shape, gone-sound, close-empties, close-whole, unlock-empties, unlock-whole, end-empties, end-whole}
 use Rattle.soundness.proofs.Follows.{follow-grown, follow-touched}
@@ -30,8 +31,6 @@ use Rattle.soundness.proofs.Taken.{caller-long, mayopen-fits, maymake-f
 use Rattle.soundness.proofs.Leaves.{Passed, Leaf, listOf, fileBy, newBy, MayOpen, MayMake, MayLock, refused, reopened, newlyOpened, newlyMade, nowClosed, nowErased, nowRenamed, nowRead, nowWritten, nowRewritten, nowLocked, lockIdle, nowUnlocked, unlockIdle, nowTold, nowEnded}
 use Rattle.soundness.proofs.Ends.{image-of, shape-of, list-of, made-of, made-there, renamed-of, renamed-touch, written-of, takes-of}
 use Rattle.soundness.proofs.Walk.{walk}
-use Rattle.words.proofs.Tests.{and-fst}
-use Rattle.words.proofs.Sets.{and-both}
 
 pub record SoundBoth (list image : List ℕ) : Type 0 where
   pub image-sound : soundImage highest image ≡ true

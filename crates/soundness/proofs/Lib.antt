@@ -1,4 +1,3 @@
-pub mod Frames
 pub mod Steps
 pub mod Changes
 pub mod Entered
@@ -11,14 +10,9 @@ pub mod Blocks
 pub mod Leaves
 pub mod Passed
 pub mod Walk
-pub mod Items
-pub mod Locks
-pub mod LocksBack
-pub mod Packed
 pub mod Placed
 pub mod Emptied
 pub mod Follows
-pub mod Counts
 pub mod Held
 pub mod Run
 pub mod Taken

@@ -14,7 +14,7 @@ use Rattle.rules.specs.Serves.{Buffers, chosen, isUnknown}
 use Rattle.rules.specs.Drive.{entryOf, lookUp, freeEntry, blockIn, blockOf, blocks, freeBlock}
 use Rattle.rules.specs.Locks.{isOpened}
 use Rattle.rules.specs.Asks.{recordOf}
-use Rattle.rules.specs.Codes.{badNumbers, rowsAll, rowsThere, rowsMay, rowsRoom}
+use Rattle.rules.specs.Codes.{badNumbers, rowsInside, rowsAll, rowsThere, rowsMay, rowsRoom}
 use Rattle.soundness.proofs.Leaves.{Passed, listOf, fileBy, openBy, MayWrite}
 
 -- ---- rows that do not apply
@@ -37,7 +37,7 @@ opened-so o h = ltb-true o 64 (not-false _ h)
 -- ---- the general table
 
 pub passed : (n p c : ℕ) (b : Buffers) → anyRow (rowsAll n p c b) ≡ false → Passed p c b
-unfolding rowsAll badNumbers anyRow
+unfolding rowsInside rowsAll badNumbers anyRow
 passed n p c b h =
     let a = or-fst _ _ h in
     let a₁ = or-snd _ _ a in
@@ -61,7 +61,7 @@ passed n p c b h =
     }
 
 pub known : (n p c : ℕ) (b : Buffers) → anyRow (rowsAll n p c b) ≡ false → isUnknown (chosen n) ≡ false
-unfolding rowsAll badNumbers anyRow
+unfolding rowsInside rowsAll badNumbers anyRow
 known n p c b h = or-fst _ _ (or-fst _ _ h)
 
 -- ---- the tables that calls share

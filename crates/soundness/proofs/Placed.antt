@@ -9,14 +9,14 @@ use lib.ListN.{length, set, length-set}
 use lib.Seq.{getD-set-same, getD-set-other}
 use borrow.Author.Tests.{eqb-true, ne-eqb, le-leb}
 use Rattle.words.specs.Tests.{_and_, count}
-use Rattle.words.proofs.Tests.{either, equal?, and-fst, and-snd, lowest-holds}
+use Rattle.words.proofs.Tests.{either, equal?, and-fst, and-snd, lowest-holds, fails-too}
 use Rattle.words.proofs.Counts.{count-ext, count-one}
 use Rattle.words.proofs.Sets.{and-both, and-left}
 use Rattle.rules.specs.declared.item.Item.{Item}
 use Rattle.rules.specs.declared.list.LockList.{LockList}
 use Rattle.rules.specs.Locks.{blank, itemAt, withItems, fileOf, opensName, isKindBy, isKindByAt, opensBy, locksBy, isEmptyAt, freePlace, sameFile, clash, clashAt, keepsLimits}
-use Rattle.soundness.proofs.Items.{clash-at-sym, fails-too}
-use Rattle.soundness.proofs.Locks.{Shape, Holder, GoodOpen, GoodLock, isPlain, Used, Vacant, SoundLocks, capacity-fits}
+use Rattle.rules.proofs.Items.{clash-at-sym}
+use Rattle.rules.proofs.SoundList.{Shape, Holder, GoodOpen, GoodLock, isPlain, Used, Vacant, SoundLocks, capacity-fits}
 
 -- a place below the capacity that holds nothing
 pub record Room (l : LockList) (j : ℕ) : Type 0 where

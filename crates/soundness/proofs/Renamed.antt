@@ -20,7 +20,7 @@ use Rattle.rules.specs.declared.file.File.{File}
 use Rattle.rules.specs.Drive.{highest, isEmpty, nameAt, fileFrom, fileAt, extentAt, mapNumber, isOf, legalByte, legalAt, legalName, goodUser, goodNumbers, goodFields}
 use Rattle.rules.specs.Effects.{lowChanged, renamedAt, renamed}
 use Rattle.rules.proofs.Sound.{Names, SoundImage, length-long}
-use Rattle.soundness.proofs.Frames.{Same, head-of, name-byte, file-same, fields-same, of-same, of-file, file-of, names-same, long-same}
+use Rattle.rules.proofs.Frames.{Same, head-of, name-byte, file-same, fields-same, of-same, of-file, file-of, names-same, long-same}
 use Rattle.soundness.proofs.Steps.{Stays, moves, fewer}
 use Rattle.soundness.proofs.Changes.{Touches}
 use Rattle.soundness.proofs.Turns.{Turned, turned}

@@ -10,8 +10,8 @@ use lib.Dec.{eqb}
 use borrow.Author.Tests.{eqb-true, eq-eqb, le-leb}
 use Rattle.words.specs.Tests.{_and_, _or_, _if_else_, all, count}
 use Rattle.words.specs.Lists.{turns}
-use Rattle.words.proofs.Tests.{either, equal?, never, and-fst, and-snd, lowest-below}
-use Rattle.words.proofs.Counts.{count-one}
+use Rattle.words.proofs.Tests.{either, equal?, never, and-fst, and-snd, lowest-below, same-test}
+use Rattle.words.proofs.Counts.{count-one, count-yes, count-not, count-any, count-grows}
 use Rattle.words.proofs.Sets.{and-both, not-of-false, not-of-true}
 use Rattle.rules.specs.declared.file.File.{File}
 use Rattle.rules.specs.declared.item.Item.{Item}
@@ -20,10 +20,9 @@ use Rattle.rules.specs.Drive.{legalName, blockOf}
 use Rattle.rules.specs.Locks.{itemAt, userOf, fileOf, withItems, freshLock, isKindBy, isKindByAt, isEmptyAt, freePlace, freePlaces, isLow, locksBy, held, lockedByOther, sameFile, clash, opensName}
 use Rattle.rules.specs.Codes.{isNew}
 use Rattle.rules.specs.Effects.{placed, lockedAt}
-use Rattle.soundness.proofs.Items.{name-sym, same-test}
-use Rattle.soundness.proofs.Locks.{Shape, Holder, isPlain, SoundLocks, capacity-fits}
+use Rattle.rules.proofs.Items.{name-sym}
+use Rattle.rules.proofs.SoundList.{Shape, Holder, isPlain, SoundLocks, capacity-fits}
 use Rattle.soundness.proofs.Placed.{Room, free-room, Fits, at-here, at-other, set-shape, set-sound, kind-more}
-use Rattle.soundness.proofs.Counts.{count-yes, count-not, count-any, count-grows}
 use Rattle.soundness.proofs.Held.{IsLock, held-found, held-some, others-found}
 
 clash-two : (p : ℕ) (name : List ℕ) (k : ℕ) (x : Item) → clash (freshLock p name k) x ≡ true → (eqb (x .kind) 2 and eqb k (x .number)) ≡ true

@@ -10,7 +10,7 @@ use Rattle.words.proofs.Tests.{equal?}
 use Rattle.rules.specs.declared.file.File.{File}
 use Rattle.rules.specs.Drive.{highest, blocks, isEmpty, fileAt, extentAt, mapNumber, goodFields}
 use Rattle.rules.proofs.Sound.{Is, Entries, Names, Maps}
-use Rattle.soundness.proofs.Frames.{Head, Same, head-of, head-back, empty-same, extent-same, file-same, fields-same, is-same}
+use Rattle.rules.proofs.Frames.{Head, Same, head-of, head-back, empty-same, extent-same, file-same, fields-same, is-same}
 
 -- an empty entry filled
 module _ (s t : List ℕ) (n : ℕ) (below : n < 64) (was : isEmpty s n ≡ true)

@@ -15,7 +15,7 @@ use Rattle.words.proofs.Sets.{and-both, not-of-false}
 use Rattle.rules.specs.declared.file.File.{File}
 use Rattle.rules.specs.Drive.{highest, blocks, isEmpty, fileAt, mapNumber, goodFields, holds, names, isUsed, isFree}
 use Rattle.rules.proofs.Sound.{Names, Maps, SoundImage, length-long}
-use Rattle.soundness.proofs.Frames.{Head, Same, head-of, empty-same, extent-same, file-same, fields-so, map-same, names-same, count-good, long-same}
+use Rattle.rules.proofs.Frames.{Head, Same, head-of, empty-same, extent-same, file-same, fields-so, map-same, names-same, count-good, long-same}
 use Rattle.soundness.proofs.Steps.{Stays, moves, fewer, takes}
 use Rattle.soundness.proofs.Changes.{Change, grown-same, touches-same}
 

@@ -23,8 +23,8 @@ use Rattle.rules.specs.Locks.{itemAt, userOf, fileOf, freshOpen, isKindBy, isLo
 use Rattle.rules.specs.Asks.{callerFile, newFile, openMode, makeMode}
 use Rattle.rules.specs.Codes.{standsAgainst, standsAgainstAt}
 use Rattle.rules.proofs.Sound.{from-long}
-use Rattle.soundness.proofs.Items.{IsOpen, open-is, open-so, name-sym, name-then, name-is, name-refl}
-use Rattle.soundness.proofs.Locks.{Shape, Holder, GoodOpen, GoodLock, isPlain, Used, Vacant, SoundLocks}
+use Rattle.rules.proofs.Items.{IsOpen, open-is, open-so, name-sym, name-then, name-is, name-refl}
+use Rattle.rules.proofs.SoundList.{Shape, Holder, GoodOpen, GoodLock, isPlain, Used, Vacant, SoundLocks}
 use Rattle.soundness.proofs.Placed.{Fits}
 use Rattle.soundness.proofs.Entered.{low-low}
 use Rattle.soundness.proofs.Leaves.{Passed, listOf, fileBy, openBy, modeBy, MayOpen, MayMake}

@@ -8,7 +8,7 @@ use lib.ListN.{length}
 use Rattle.words.specs.Lists.{turns}
 use Rattle.words.specs.Bytes.{byte}
 use Rattle.words.proofs.Tests.{equal?}
-use Rattle.soundness.proofs.Frames.{Same, same-refl}
+use Rattle.rules.proofs.Frames.{Same, same-refl}
 
 pub record Turned (step : ℕ → List ℕ → List ℕ) (s : List ℕ) (m : ℕ) (t : List ℕ) : Type 0 where
   pub len : length t ≡ length s

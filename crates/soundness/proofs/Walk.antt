@@ -21,7 +21,7 @@ use Rattle.rules.specs.Serves.{Buffers, Outcome, chosen, isUnknown}
 use Rattle.rules.specs.Drive.{lookUp, missing, blockIn}
 use Rattle.rules.specs.Locks.{isOpened}
 use Rattle.rules.specs.Asks.{openMode}
-use Rattle.rules.specs.Codes.{rowsAll, rows15, rows16, rows19, rows22, rows23, rows34, rows41, rows42, rows43, rowsThere, rowsMay, rowsRoom, rowsRun, rowsLacking, rowsTake, stopsDelete, stopsRename, lacks, firstLacking, isOthers, rowsDiffer}
+use Rattle.rules.specs.Codes.{rowsInside, rowsAll, rowsNew, rows15, rows16, rows19, rows22, rows23, rows34, rows41, rows42, rows43, rowsThere, rowsMay, rowsRoom, rowsRun, rowsLacking, rowsTake, stopsDelete, stopsRename, lacks, firstLacking, isOthers, rowsDiffer}
 use Rattle.rules.specs.Effects.{does15, does16, does19, does22, makes, does23, does33, does34, does41, does42, does43, does46, does143}
 use Rattle.rules.specs.Call.{asked, askedBy, rowsOf, effectOf, rowsCall, call}
 use Rattle.rules.proofs.Tables.{accepted, refused, nonzero-call}
@@ -32,7 +32,7 @@ use Rattle.soundness.proofs.Leaves.{Passed, Leaf, listOf, fileBy, openB
 
 module _ (n p c : ℕ) (b : Buffers) (ok : Passed p c b) where
   open-leaf : chosen n ≡ Call Open → anyRow (rowsOf (Call Open) (asked p c b) b) ≡ false → Leaf n p c b (effectOf (Call Open) (asked p c b) b)
-  unfolding rowsOf effectOf asked askedBy rows15 does15 anyRow missing lookUp isOpened _if_else_
+  unfolding rowsOf effectOf asked askedBy rowsNew rows15 does15 anyRow missing lookUp isOpened _if_else_
   open-leaf k h =
       let h₁ = or-snd _ _ h in
       let h₂ = or-snd _ _ h₁ in

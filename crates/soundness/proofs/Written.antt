@@ -18,7 +18,7 @@ use Rattle.rules.specs.declared.spot.Spot.{Spot}
 use Rattle.rules.specs.Drive.{highest, blocks, fileAt, mapNumber, mapPlace, entryOf, freeEntry, holds, names, isUsed, isFree, freeBlock, blockIn, recordAt}
 use Rattle.rules.specs.Effects.{spot, spotAt, newEntry, entered, mapped, counted, cleared, stored, written, countTo}
 use Rattle.rules.proofs.Sound.{Is, Names, SoundImage, found-is}
-use Rattle.soundness.proofs.Frames.{is-same, file-same, empty-same}
+use Rattle.rules.proofs.Frames.{is-same, file-same, empty-same}
 use Rattle.soundness.proofs.Steps.{Stays}
 use Rattle.soundness.proofs.Changes.{Change, change-then, no-change}
 use Rattle.soundness.proofs.Entered.{entered-change, entered-is, entered-stays, free-empty}

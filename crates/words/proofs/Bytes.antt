@@ -1,7 +1,7 @@
 -- Laws of bytes: parts, bytes put at a place, numbers in bytes. Assumes nothing.
-use Prim.Native.Nat.{ℕ, zero, suc, _+_, _-_, _*_, _/_, _%_, _≤_, _<_}
+use Prim.Native.Nat.{ℕ, _+_, _-_, _/_, _%_, _≤_, _<_}
 use mathlib.Core.Path.{_≡_, refl, sym, ap, _∙_}
-use mathlib.Core.List.{List, [], _∷_, _++_, append-assoc}
+use mathlib.Core.List.{List, _++_, append-assoc}
 use mathlib.Core.Logic.{_⊎_, ⊎-elim}
 use native.Mathlib.Numerals.{add-one}
 use native.Mathlib.Omega.{arith}
@@ -9,10 +9,26 @@ use lib.ListN.{length, getD, set, take, drop, replicate, length-append, length-t
 use lib.Seq.{getD-append-add, getD-take, getD-drop, length-take-le, take-length, take-at, drop-at, drop-drop, paste, paste-suc}
 use borrow.Rule.Slice.PartMut.{putMid}
 use Rattle.words.specs.Bytes.{byte, part, put, word}
+use Rattle.words.proofs.Lists.{tab-ext, tab-getD}
 
 -- what stands past the end of a list
 pub past-end : (l : List ℕ) (n i : ℕ) → length l ≡ n → n ≤ i → 0 ≡ getD l i 0
 past-end l n i h g = let k : length l ≤ i = omega arith in sym (List·getD-eq-default l 0 k)
+
+-- ---- parts
+
+pub part-long : (s : List ℕ) (at n : ℕ) → at + n ≤ length s → length (part at n s) ≡ n
+part-long s at n h = simp (length-take, length-drop) (omega arith)
+
+pub part-byte : (s : List ℕ) (at n k : ℕ) → k < n → byte (part at n s) k ≡ byte s (at + k)
+part-byte s at n k h = getD-take n (drop at s) k 0 h ∙ getD-drop at s k 0
+
+-- of two lists with the same bytes there
+pub part-same : (s t : List ℕ) (at n : ℕ) → at + n ≤ length s → length t ≡ length s → ((k : ℕ) → k < n → byte t (at + k) ≡ byte s (at + k)) → part at n t ≡ part at n s
+part-same s t at n h e b =
+    sym (tab-getD (part at n t) 0 n (part-long t at n (omega arith)))
+    ∙ tab-ext (λ (k : ℕ). getD (part at n t) k 0) (λ (k : ℕ). getD (part at n s) k 0) n (λ k l. part-byte t at n k l ∙ b k l ∙ sym (part-byte s at n k l))
+    ∙ tab-getD (part at n s) 0 n (part-long s at n h)
 
 -- ---- bytes of a list that v was put into
 

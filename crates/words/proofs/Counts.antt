@@ -6,8 +6,50 @@ use mathlib.Core.Logic.{⊎-elim}
 use native.Mathlib.Omega.{arith}
 use lib.Dec.{leb, eqb}
 use borrow.Author.Tests.{leb-true, leb-false, eqb-true, eqb-false}
-use Rattle.words.specs.Tests.{_and_, _if_else_, count}
-use Rattle.words.proofs.Tests.{either}
+use Rattle.words.specs.Tests.{_and_, _or_, _if_else_, any, count}
+use Rattle.words.proofs.Tests.{either, equal?, never}
+
+module _ (f : ℕ → Bool) where
+  pub count-yes : (n : ℕ) → f n ≡ true → count f (suc n) ≡ count f n + 1
+  unfolding count _if_else_
+  count-yes n h = rw h refl
+
+  pub count-not : (n : ℕ) → f n ≡ false → count f (suc n) ≡ count f n
+  unfolding count _if_else_
+  count-not n h = rw h (omega arith)
+
+  pub count-zero : (n : ℕ) → any f n ≡ false → count f n ≡ 0
+  unfolding count any _or_
+  count-zero zero h = refl
+  count-zero (suc n) h =
+      ⊎-elim (λ (e : any f n ≡ true). absurd (never refl (rw e at h)))
+      (λ (e : any f n ≡ false). count-not n (rw e at h) ∙ count-zero n e) (either (any f n))
+
+  -- what is counted is there
+  pub count-any : (n : ℕ) → 1 ≤ count f n → any f n ≡ true
+  count-any n h = ⊎-elim (λ (e : any f n ≡ true). e) (λ (e : any f n ≡ false). let k = count-zero n e in absurd (omega arith)) (either (any f n))
+
+  pub any-count : (n : ℕ) → any f n ≡ true → 1 ≤ count f n
+  unfolding count any _or_ _if_else_
+  any-count zero h = absurd (never h refl)
+  any-count (suc n) h =
+      ⊎-elim (λ (e : any f n ≡ true). let k = any-count n e in omega arith)
+      (λ (e : any f n ≡ false). let d : f n ≡ true = rw e at h in rw d (omega arith)) (either (any f n))
+
+  pub count-grows : (n m : ℕ) → n ≤ m → count f n ≤ count f m
+  unfolding count
+  count-grows n zero h = let e : n ≡ 0 = omega arith in rw e (omega arith)
+  count-grows n (suc m) h =
+      ⊎-elim (λ (e : n ≡ suc m). rw e (omega arith))
+      (λ (e : n ≡ suc m → ⊥). let k = count-grows n m (omega arith) in omega arith) (equal? n (suc m))
+
+  -- those from c on do not pass
+  pub count-up : (c n : ℕ) → c ≤ n → ((i : ℕ) → c ≤ i → i < n → f i ≡ false) → count f n ≡ count f c
+  unfolding count
+  count-up c zero m h = let e : c ≡ 0 = omega arith in rw e refl
+  count-up c (suc n) m h =
+      ⊎-elim (λ (e : c ≡ suc n). rw e refl)
+      (λ (e : c ≡ suc n → ⊥). count-not n (h n (omega arith) (omega arith)) ∙ count-up c n (omega arith) (λ i a b. h i a (omega arith))) (equal? c (suc n))
 
 -- of the numbers from a to n - 1 each passes or fails
 pub count-split : (a n : ℕ) (f : ℕ → Bool) → count (λ (i : ℕ). leb a i and not (f i)) n + count (λ (i : ℕ). leb a i and f i) n ≡ n - a
@@ -60,3 +102,14 @@ count-one f g p (suc n) l was now h =
     let k = count-one f g p n m was now (λ i j z. h i (omega arith) z) in
     rw (h n (omega arith) w) (omega arith))
     (either (eqb n p))
+
+-- one place of those counted is set to something else, which was not counted before
+pub count-set : (f g : ℕ → Bool) (j n : ℕ) → j < n → f j ≡ false → ((i : ℕ) → i < n → (i ≡ j → ⊥) → g i ≡ f i) → count g n ≡ count f n + (1 if g j else 0)
+unfolding _if_else_
+count-set f g j n m was h =
+    ⊎-elim
+    (λ (q : g j ≡ true). rw q (count-one f g j n m was q h))
+    (λ (q : g j ≡ false).
+    let k = count-ext g f n (λ i l. ⊎-elim (λ (e : i ≡ j). ap g e ∙ q ∙ sym was ∙ ap f (sym e)) (λ (e : i ≡ j → ⊥). h i l e) (equal? i j)) in
+    rw q (omega arith))
+    (either (g j))

@@ -1,11 +1,11 @@
 -- Laws of lists made by a rule. Assumes nothing.
 use Prim.Native.Nat.{ℕ, zero, suc, _+_, _*_, _≤_, _<_}
 use mathlib.Core.Path.{_≡_, refl, sym, ap, subst, _∙_}
-use mathlib.Core.List.{List, [], _∷_, _++_, map, append-nil, append-assoc}
+use mathlib.Core.List.{List, [], _∷_, _++_, map}
 use native.Mathlib.Nat.{le-of-suc-le-suc, not-suc-le-zero, mul-suc}
 use native.Mathlib.Numerals.{add-one}
 use native.Mathlib.Omega.{arith}
-use lib.ListN.{length, getD, set, take, drop, replicate, length-append, length-map, List·getD-append, drop-of-length-le, take-append-drop}
+use lib.ListN.{length, getD, set, take, drop, length-append, length-map, List·getD-append, drop-of-length-le, take-append-drop}
 use lib.Seq.{getD-append-add, drop-append-add, drop-drop, take-at}
 use Rattle.words.specs.Lists.{tab, flat, turns}
 

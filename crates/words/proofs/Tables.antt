@@ -1,14 +1,13 @@
 -- Laws of tables of codes. Assumes nothing.
 use Prim.Native.Nat.{ℕ}
 use mathlib.Core.Path.{_≡_, refl, sym, ap, _∙_}
-use mathlib.Core.Bool.{Bool, true, false, not, true≢false}
+use mathlib.Core.Bool.{Bool, true, false, true≢false}
 use mathlib.Core.List.{List, [], _∷_, _++_}
 use mathlib.Core.Logic.{⊎-elim}
 use lib.Dec.{eqb}
-use borrow.Author.Tests.{eqb-true}
 use Rattle.words.specs.Tests.{_and_, _or_, _if_else_}
 use Rattle.words.specs.Tables.{Row, _when_, firstOf, anyRow, noneZero, onlyIf}
-use Rattle.words.proofs.Tests.{either, and-fst, and-snd}
+use Rattle.words.proofs.Tests.{either}
 
 -- no row applies: the code is 0
 pub none-applies : (rows : List Row) → anyRow rows ≡ false → firstOf rows ≡ 0

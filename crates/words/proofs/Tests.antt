@@ -1,7 +1,7 @@
 -- Laws of tests and of the numbers below a bound. Assumes nothing.
 use Prim.Native.Nat.{ℕ, zero, suc, _+_, _≤_, _<_}
-use mathlib.Core.Path.{_≡_, refl, sym, ap, _∙_}
-use mathlib.Core.Bool.{Bool, true, false, not, true≢false}
+use mathlib.Core.Path.{_≡_, refl, sym, _∙_}
+use mathlib.Core.Bool.{Bool, true, false, true≢false}
 use mathlib.Core.Logic.{_⊎_, inl, inr, ⊎-elim}
 use native.Mathlib.Nat.{le-of-suc-le-suc, not-suc-le-zero, eq-or-lt-of-le}
 use native.Mathlib.Numerals.{add-one}
@@ -21,6 +21,14 @@ equal? a b = ⊎-elim (λ h. inl (eqb-true a b h)) (λ h. inr (eqb-false a b h))
 
 pub never : {b : Bool} → b ≡ true → b ≡ false → ⊥
 never h k = true≢false (sym h ∙ k)
+
+-- where one of two tests that imply each other fails, so does the other
+pub fails-too : (x y : Bool) → (y ≡ true → x ≡ true) → x ≡ false → y ≡ false
+fails-too x y h e = ⊎-elim (λ (q : y ≡ true). absurd (never (h q) e)) (λ (q : y ≡ false). q) (either y)
+
+pub same-test : (x y : Bool) → (x ≡ true → y ≡ true) → (y ≡ true → x ≡ true) → x ≡ y
+same-test x y f g =
+    ⊎-elim (λ (q : x ≡ true). q ∙ sym (f q)) (λ (q : x ≡ false). q ∙ sym (fails-too x y g q)) (either x)
 
 -- ---- what joined tests say
 

@@ -1,6 +1,6 @@
 -- Laws of the steps that change an image. Assumes nothing.
-use Prim.Native.Nat.{ℕ, _+_, _*_, _/_, _≤_, _<_}
-use mathlib.Core.Path.{_≡_, refl, sym, ap, _∙_}
+use Prim.Native.Nat.{ℕ, _+_, _*_, _/_, _<_}
+use mathlib.Core.Path.{_≡_, refl, ap}
 use mathlib.Core.Bool.{Bool, true}
 use mathlib.Core.List.{List, [], _∷_, _++_}
 use lib.ListN.{length, getD, replicate}
@@ -9,7 +9,7 @@ use borrow.Author.Tests.{ltb-true}
 use Rattle.words.specs.Tests.{all}
 use Rattle.words.specs.Lists.{tab}
 use Rattle.words.proofs.Tests.{all-at}
-use Rattle.words.proofs.Lists.{tab-getD, filled, filled-turn}
+use Rattle.words.proofs.Lists.{tab-getD, filled-turn}
 use Rattle.words.proofs.Sets.{filled-none, filled-ends}
 use Rattle.rules.specs.Locks.{isLow}
 use Rattle.rules.specs.Effects.{madeEntry, lowChanged}

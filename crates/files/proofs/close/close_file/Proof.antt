@@ -7,14 +7,10 @@ pub close-file-spec : {M : Type 1} → statement M
 close-file-spec =
     tie.close
     (tie.spec
-    -- unpack-requires src/close.rt:15:9
-    (λ c κs. search needs)
     -- caller-file-requires src/close.rt:16:9
     (λ c κs. search needs)
     -- open-of-requires src/close.rt:17:14
     (λ c κs. search needs)
-    -- same-length src/close.rt:18:9
-    (λ c. search needs)
     -- returns src/close.rt:18:9
     (λ c. search close-refused)
     -- close-requires src/close.rt:20:10

@@ -7,8 +7,6 @@ pub delete-file-spec : {M : Type 1} → statement M
 delete-file-spec =
     tie.close
     (tie.spec
-    -- unpack-requires src/delete.rt:61:9
-    (λ c κs. search needs)
     -- caller-file-requires src/delete.rt:62:9
     (λ c κs. search needs)
     -- delete-by-requires src/delete.rt:63:5

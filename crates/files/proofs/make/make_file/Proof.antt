@@ -7,8 +7,6 @@ pub make-file-spec : {M : Type 1} → statement M
 make-file-spec =
     tie.close
     (tie.spec
-    -- unpack-requires src/make.rt:82:9
-    (λ c κs. search needs)
     -- caller-file-requires src/make.rt:83:9
     (λ c κs. search needs)
     -- make-by-requires src/make.rt:84:5

@@ -1,6 +1,6 @@
 use borrow.Author.Needs.{needs}
 use Rattle.words.proofs.Sets.{codes}
-use Rattle.files.specs.By.{rowsNew}
+use Rattle.rules.specs.Codes.{rowsNew}
 use Rattle.files.proofs.open.new_refusal.Statement.{statement}
 use Rattle.files.proofs.open.new_refusal.Tie as tie
 

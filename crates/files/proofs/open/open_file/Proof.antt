@@ -7,8 +7,6 @@ pub open-file-spec : {M : Type 1} → statement M
 open-file-spec =
     tie.close
     (tie.spec
-    -- unpack-requires src/open.rt:130:9
-    (λ c κs. search needs)
     -- caller-file-requires src/open.rt:131:9
     (λ c κs. search needs)
     -- open-of-requires src/open.rt:132:9

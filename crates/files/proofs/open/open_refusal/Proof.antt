@@ -1,8 +1,7 @@
 use borrow.Author.Needs.{needs}
 use Rattle.words.proofs.Sets.{codes}
-use Rattle.rules.specs.Codes.{rows15}
+use Rattle.rules.specs.Codes.{rowsNew, rows15}
 use Rattle.rules.specs.Locks.{isOpened}
-use Rattle.files.specs.By.{rowsNew}
 use Rattle.files.proofs.open.open_refusal.Statement.{statement}
 use Rattle.files.proofs.open.open_refusal.Tie as tie
 

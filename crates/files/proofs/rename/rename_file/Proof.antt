@@ -7,8 +7,6 @@ pub rename-file-spec : {M : Type 1} → statement M
 rename-file-spec =
     tie.close
     (tie.spec
-    -- unpack-requires src/rename.rt:90:9
-    (λ c κs. search needs)
     -- caller-file-requires src/rename.rt:91:9
     (λ c κs. search needs)
     -- new-file-requires src/rename.rt:92:9

@@ -1,43 +1,73 @@
-use Prim.Native.Nat.{_-_, _≤_}
+use Prim.Native.Nat.{_-_, _≤_, _<_}
 use mathlib.Core.Path.{_≡_}
-use mathlib.Core.Bool.{true}
-use Rattle.words.specs.Tests.{all}
-use Rattle.rules.specs.Locks.{isApart}
+use mathlib.Core.Bool.{true, false}
+use Rattle.words.specs.Tests.{all, any}
+use Rattle.words.proofs.Sets.{any-goes, is-no}
+use Rattle.rules.specs.Locks.{clashAt, isApart}
 use Rattle.listcheck.proofs.Checks.{aparts}
 use Rattle.listcheck.proofs.apart.all_apart.Statement.{statement}
 use Rattle.listcheck.proofs.apart.all_apart.Tie as tie
 
+abbrev Inv-loop2 : tie.InvT-loop2
+Inv-loop2 l users i it j₀ j = (i < 64) × (all (isApart l) i ≡ true) × (j ≤ i) × (any (clashAt l i) j ≡ false)
+
+abbrev μ-loop2 : tie.MeasureT-loop2
+μ-loop2 l users i it j₀ j = i - j
+
 abbrev Inv-loop : tie.InvT-loop
-Inv-loop l i₀ i = (i ≤ 64) × (all (isApart l) i ≡ true)
+Inv-loop l users i₀ i = (i ≤ 64) × (all (isApart l) i ≡ true)
 
 abbrev μ-loop : tie.MeasureT-loop
-μ-loop l i₀ i = 64 - i
+μ-loop l users i₀ i = 64 - i
 
 pub all-apart-spec : {M : Type 1} → statement M
+unfolding clashAt
 all-apart-spec =
     tie.close
-    (tie.spec Inv-loop μ-loop
-    -- loop-holds src/apart.rt:110:5
+    (tie.spec Inv-loop2 μ-loop2 Inv-loop μ-loop
+    -- loop-holds src/apart.rt:92:5
     (λ c. search aparts)
-    -- mul-if1 src/apart.rt:111:12
+    -- mul-it src/apart.rt:93:18
     (λ c. search aparts)
-    -- element-copy-out-if1 src/apart.rt:111:12
+    -- element-copy-out-it src/apart.rt:93:18
     (λ c. search aparts)
-    -- add-i src/apart.rt:112:13
+    -- add-i src/apart.rt:95:13
     (λ c. search aparts)
-    -- loop-less src/apart.rt:110:5
+    -- loop-less src/apart.rt:92:5
     (λ c. search aparts)
-    -- loop-again src/apart.rt:110:5
+    -- loop-again src/apart.rt:92:5
     (λ c. search aparts)
-    -- any-clash-requires src/apart.rt:115:12
+    -- loop2-holds src/apart.rt:99:9
+    (λ c. search aparts)
+    -- mul-if2 src/apart.rt:100:16
+    (λ c. search aparts)
+    -- element-copy-out-if2 src/apart.rt:100:16
+    (λ c. search aparts)
+    -- add-j src/apart.rt:101:17
+    (λ c. search aparts)
+    -- loop2-less src/apart.rt:99:9
+    (λ c. search aparts)
+    -- loop2-again src/apart.rt:99:9
+    (λ c. (search aparts, search aparts, search aparts, search aparts))
+    -- mul-other src/apart.rt:104:25
+    (λ c. search aparts)
+    -- element-copy-out-other src/apart.rt:104:25
+    (λ c. search aparts)
+    -- file-clash-requires src/apart.rt:105:16
     (λ c κs. search aparts)
-    -- returns src/apart.rt:116:13
+    -- returns src/apart.rt:106:17
     (λ c. search aparts)
-    -- add-i-2 src/apart.rt:118:9
+    -- add-j-2 src/apart.rt:108:13
     (λ c. search aparts)
-    -- loop-less-2 src/apart.rt:110:5
+    -- loop2-less-2 src/apart.rt:99:9
     (λ c. search aparts)
-    -- loop-again-2 src/apart.rt:110:5
+    -- loop2-again-2 src/apart.rt:99:9
+    (λ c. let i = c .before .before .before .before .before .before .loop2 .inv in (i .0, i .1, search aparts, any-goes _ _ (i .3) (is-no _ _ (c .before .file-clash .ensures) (c .if3 .left))))
+    -- add-i-2 src/apart.rt:110:9
     (λ c. search aparts)
-    -- returns-2 src/apart.rt:106:1
+    -- loop-less-2 src/apart.rt:92:5
+    (λ c. search aparts)
+    -- loop-again-2 src/apart.rt:92:5
+    (λ c. search aparts)
+    -- returns-2 src/apart.rt:87:1
     (λ c. search aparts))

@@ -7,8 +7,6 @@ pub lock-records-spec : {M : Type 1} → statement M
 lock-records-spec =
     tie.close
     (tie.spec
-    -- unpack-requires src/lock.rt:97:9
-    (λ c κs. search needs)
     -- caller-file-requires src/lock.rt:98:9
     (λ c κs. search needs)
     -- open-of-requires src/lock.rt:99:9
@@ -16,7 +14,7 @@ lock-records-spec =
     -- record-of-requires src/lock.rt:100:9
     (λ c κs. search needs)
     -- lock-by-requires src/lock.rt:101:5
-    (λ c κs. let h = capacity-fits _ _ _ (c .before .before .before .before .unpack .ensures) (c .before .before .before .before .before .before .before .before .before .before .pre .2 .list-sound) in search needs)
+    (λ c κs. search (needs, capacity-fits))
     -- same-length src/lock.rt:93:1
     (λ c. search needs)
     -- returns src/lock.rt:93:1

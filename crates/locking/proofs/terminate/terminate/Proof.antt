@@ -7,8 +7,6 @@ pub terminate-spec : {M : Type 1} → statement M
 terminate-spec =
     tie.close
     (tie.spec
-    -- unpack-requires src/terminate.rt:14:9
-    (λ c κs. search needs)
     -- terminate-requires src/terminate.rt:15:10
     (λ c κs. search needs)
     -- pack-requires src/terminate.rt:15:5

@@ -7,8 +7,6 @@ pub unlock-records-spec : {M : Type 1} → statement M
 unlock-records-spec =
     tie.close
     (tie.spec
-    -- unpack-requires src/unlock.rt:79:9
-    (λ c κs. search needs)
     -- caller-file-requires src/unlock.rt:80:9
     (λ c κs. search needs)
     -- open-of-requires src/unlock.rt:81:9

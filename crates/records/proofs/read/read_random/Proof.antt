@@ -7,8 +7,6 @@ pub read-random-spec : {M : Type 1} → statement M
 read-random-spec =
     tie.close
     (tie.spec
-    -- unpack-requires src/read.rt:63:9
-    (λ c κs. search needs)
     -- caller-file-requires src/read.rt:64:9
     (λ c κs. search needs)
     -- open-of-requires src/read.rt:65:9

@@ -7,8 +7,6 @@ pub test-write-spec : {M : Type 1} → statement M
 test-write-spec =
     tie.close
     (tie.spec
-    -- unpack-requires src/test.rt:79:9
-    (λ c κs. search needs)
     -- caller-file-requires src/test.rt:80:9
     (λ c κs. search needs)
     -- open-of-requires src/test.rt:81:9

@@ -7,8 +7,6 @@ pub write-random-spec : {M : Type 1} → statement M
 write-random-spec =
     tie.close
     (tie.spec
-    -- unpack-requires src/write.rt:99:9
-    (λ c κs. search needs)
     -- caller-file-requires src/write.rt:100:9
     (λ c κs. search needs)
     -- open-of-requires src/write.rt:101:9

@@ -7,8 +7,6 @@ pub write-zero-fill-spec : {M : Type 1} → statement M
 write-zero-fill-spec =
     tie.close
     (tie.spec
-    -- unpack-requires src/write.rt:111:9
-    (λ c κs. search needs)
     -- caller-file-requires src/write.rt:112:9
     (λ c κs. search needs)
     -- open-of-requires src/write.rt:113:9

@@ -1,33 +1,65 @@
-use Prim.Native.Nat.{_-_, _≤_}
+use Prim.Native.Nat.{_+_, _-_, _≤_, _<_}
 use mathlib.Core.Path.{_≡_}
+use mathlib.Core.Bool.{false}
+use Rattle.words.specs.Tests.{any}
 use Rattle.words.specs.Lists.{turns}
-use Rattle.words.proofs.Sets.{turning}
+use Rattle.rules.specs.Locks.{locksRecordAt, isOwnLock}
 use Rattle.rules.specs.Effects.{lockedAt, lockedRun}
+use Rattle.rules.proofs.Lists.{taking}
 use Rattle.rules.proofs.list.LockList.lock_run.Statement.{statement}
 use Rattle.rules.proofs.list.LockList.lock_run.Tie as tie
 
 abbrev Inv-loop : tie.InvT-loop
-Inv-loop p f r n l₀ k₀ l k = (k ≤ n) × (l ≡ turns (lockedAt p f r) k l₀)
+Inv-loop p f r n name l k₀ users number i₀ k i =
+    (k ≡ k₀) × (k < n) × (number ≡ r + k) × (i ≤ 64) × (any (isOwnLock l p f number) i ≡ false)
 
 abbrev μ-loop : tie.MeasureT-loop
-μ-loop p f r n l₀ k₀ l k = n - k
+μ-loop p f r n name l k₀ users number i₀ k i = 64 - i
+
+abbrev Inv-records : tie.InvT-records
+Inv-records p f r n name l₀ k₀ l k = (k ≤ n) × (l ≡ turns (lockedAt p f r) k l₀)
+
+abbrev μ-records : tie.MeasureT-records
+μ-records p f r n name l₀ k₀ l k = n - k
 
 pub lock-run-spec : {M : Type 1} → statement M
-unfolding lockedRun lockedAt
+unfolding lockedRun isOwnLock locksRecordAt
 lock-run-spec =
     tie.close
-    (tie.spec Inv-loop μ-loop
-    -- loop-holds src/list.rt:287:9
-    (λ c. search turning)
-    -- add-lock-one src/list.rt:288:34
-    (λ c. search turning)
-    -- lock-one-requires src/list.rt:288:13
-    (λ c κs. search turning)
-    -- add-k src/list.rt:289:13
-    (λ c. search turning)
-    -- loop-less src/list.rt:287:9
-    (λ c. search turning)
-    -- loop-again src/list.rt:287:9
-    (λ c. search turning)
-    -- returns src/list.rt:281:5
-    (λ c. search turning))
+    (tie.spec Inv-loop μ-loop Inv-records μ-records
+    -- records-holds src/list.rt:279:9
+    (λ c. search taking)
+    -- add-number src/list.rt:281:26
+    (λ c. search taking)
+    -- loop-holds src/list.rt:283:13
+    (λ c. search taking)
+    -- mul-it src/list.rt:284:26
+    (λ c. search taking)
+    -- element-copy-out-it src/list.rt:284:26
+    (λ c. search taking)
+    -- is-own-lock-requires src/list.rt:285:20
+    (λ c κs. search taking)
+    -- add-k src/list.rt:286:21
+    (λ c. search taking)
+    -- records-less src/list.rt:279:9
+    (λ c. search taking)
+    -- records-again src/list.rt:279:9
+    (λ c. search taking)
+    -- add-i src/list.rt:289:17
+    (λ c. search taking)
+    -- loop-less src/list.rt:283:13
+    (λ c. search taking)
+    -- loop-again src/list.rt:283:13
+    (λ c. search taking)
+    -- lock-requires src/list.rt:291:25
+    (λ c κs. search taking)
+    -- place-requires src/list.rt:291:17
+    (λ c κs. search taking)
+    -- add-k-2 src/list.rt:292:13
+    (λ c. search taking)
+    -- records-less-2 src/list.rt:279:9
+    (λ c. search taking)
+    -- records-again-2 src/list.rt:279:9
+    (λ c. search taking)
+    -- returns src/list.rt:272:5
+    (λ c. search taking))

@@ -1,7 +1,7 @@
 -- Items: names and files compared, and two that clash. Assumes nothing.
 use Prim.Native.Nat.{ℕ, _<_}
 use mathlib.Core.Path.{_≡_, refl, sym, _∙_}
-use mathlib.Core.Bool.{Bool, true, false, not}
+use mathlib.Core.Bool.{true, false, not}
 use mathlib.Core.List.{List}
 use mathlib.Core.Logic.{⊎-elim}
 use lib.ListN.{length, getD}
@@ -9,21 +9,13 @@ use lib.Dec.{eqb}
 use borrow.Author.Tests.{eqb-true, eqb-false, eq-eqb, ne-eqb, not-true}
 use Rattle.words.specs.Tests.{_and_, _or_}
 use Rattle.words.specs.Bytes.{byte}
-use Rattle.words.proofs.Tests.{either, never, all-at, all-make, and-fst, and-snd, or-so, or-case}
+use Rattle.words.proofs.Tests.{either, fails-too, all-at, all-make, and-fst, and-snd, or-so, or-case}
 use Rattle.words.proofs.Lists.{tab-ext, tab-getD}
 use Rattle.words.proofs.Sets.{and-both, and-left, or-left, not-of-false, not-of-true}
 use Rattle.rules.specs.declared.file.File.{File}
 use Rattle.rules.specs.declared.item.Item.{Item}
 use Rattle.rules.specs.declared.list.LockList.{LockList}
 use Rattle.rules.specs.Locks.{itemAt, sameByte, sameName, sameFile, opensName, standBeside, clash, clashAt}
-
--- where one of two tests that imply each other fails, so does the other
-pub fails-too : (x y : Bool) → (y ≡ true → x ≡ true) → x ≡ false → y ≡ false
-fails-too x y h e = ⊎-elim (λ (q : y ≡ true). absurd (never (h q) e)) (λ (q : y ≡ false). q) (either y)
-
-pub same-test : (x y : Bool) → (x ≡ true → y ≡ true) → (y ≡ true → x ≡ true) → x ≡ y
-same-test x y f g =
-    ⊎-elim (λ (q : x ≡ true). q ∙ sym (f q)) (λ (q : x ≡ false). q ∙ sym (fails-too x y g q)) (either x)
 
 -- ---- names and files
 
