@@ -1,0 +1,9 @@
+//! Links the objects that MPM_OBJECTS names, parted by colons: the engine, the plain version, the stack probe.
+
+fn main() {
+    println!("cargo:rerun-if-env-changed=MPM_OBJECTS");
+    for path in std::env::var("MPM_OBJECTS").unwrap_or_default().split(':') {
+        println!("cargo:rerun-if-changed={path}");
+        println!("cargo:rustc-link-arg={path}");
+    }
+}

@@ -1,0 +1,734 @@
+/* The thirteen calls in plain C: the checks and the work of the engine, step by step the same, as one would write them
+   by hand. Structs are passed by address. */
+#include "plain.h"
+
+#include <stdbool.h>
+#include <string.h>
+
+#include "mpm.h"
+
+enum { ENTRIES = 64, ENTRY = 32, MAP = 16, PLACES = 64, PLACE = 20, HEAD = 19, NAME = 11, LAST_RECORD = 262143 };
+enum { EMPTY, OPEN, LOCK, NO_MARK }; /* the kinds of a place */
+enum { LOCKED, UNLOCKED, READ_ONLY };
+
+struct file {
+    uint8_t user;
+    uint8_t name[NAME];
+};
+
+struct item {
+    uint8_t kind;
+    uint8_t process;
+    uint8_t name[NAME];
+    uint8_t mode;
+    uint32_t record;
+};
+
+struct locks {
+    uint8_t capacity;
+    uint8_t open_limit;
+    uint8_t lock_limit;
+    uint8_t users[MPM_PROCESSES];
+    struct item items[PLACES];
+};
+
+struct drive {
+    uint8_t *bytes;
+    size_t blocks;
+};
+
+/* Where a record is to be written. */
+struct spot {
+    size_t entry;
+    bool fresh;
+    size_t block;
+    bool taken;
+};
+
+/* What the routines of the calls work on. */
+struct job {
+    uint8_t process;
+    uint32_t count;
+    uint8_t *fcb;
+    uint8_t *dma;
+    uint8_t *list;
+    struct drive drive;
+    struct locks locks;
+    struct file file;
+};
+
+/* ---- Names ---- */
+
+static bool legal_name(const uint8_t *bytes) {
+    if ((bytes[0] & 0x7F) == ' ') return false;
+    for (size_t k = 0; k < NAME; k++) {
+        uint8_t low = bytes[k] & 0x7F;
+        if (low < 32 || low > 126 || low == '?') return false;
+    }
+    return true;
+}
+
+static bool is_named(const uint8_t *bytes, const uint8_t *name) {
+    for (size_t k = 0; k < NAME; k++)
+        if ((bytes[k] & 0x7F) != name[k]) return false;
+    return true;
+}
+
+static bool same_name(const uint8_t *a, const uint8_t *b) { return memcmp(a, b, NAME) == 0; }
+
+static struct file file_from(uint8_t user, const uint8_t *bytes) {
+    struct file f = {user, {0}};
+    for (size_t k = 0; k < NAME; k++) f.name[k] = bytes[k] & 0x7F;
+    return f;
+}
+
+/* ---- The directory ---- */
+
+static uint8_t *entry_at(const struct drive *d, size_t e) { return d->bytes + ENTRY * e; }
+
+static unsigned extent_at(const uint8_t *entry) { return entry[12] + 32u * entry[14]; }
+
+static bool is_of(const uint8_t *entry, const struct file *f) {
+    return entry[0] != MPM_EMPTY && entry[0] == f->user && is_named(entry + 1, f->name);
+}
+
+static bool is_entry(const uint8_t *entry, const struct file *f, unsigned extent) {
+    return entry[0] != MPM_EMPTY && entry[0] == f->user && extent_at(entry) == extent && is_named(entry + 1, f->name);
+}
+
+static bool any_entry(const struct drive *d, const struct file *f, unsigned extent, size_t end) {
+    for (size_t e = 0; e < end; e++)
+        if (is_entry(entry_at(d, e), f, extent)) return true;
+    return false;
+}
+
+static size_t entry_of(const struct drive *d, const struct file *f, unsigned extent) {
+    size_t e = 0;
+    while (e < ENTRIES && !is_entry(entry_at(d, e), f, extent)) e++;
+    return e;
+}
+
+static size_t free_entry(const struct drive *d) {
+    size_t e = 0;
+    while (e < ENTRIES && entry_at(d, e)[0] != MPM_EMPTY) e++;
+    return e;
+}
+
+static size_t block_in(const struct drive *d, size_t e, uint32_t record) {
+    return e < ENTRIES ? entry_at(d, e)[16 + record % 128 / 8] : 0;
+}
+
+static size_t block_of(const struct drive *d, const struct file *f, uint32_t record) {
+    return block_in(d, entry_of(d, f, record / 128), record);
+}
+
+static void mark_used(const struct drive *d, bool used[256]) {
+    memset(used, 0, 256);
+    for (size_t e = 0; e < ENTRIES; e++) {
+        const uint8_t *entry = entry_at(d, e);
+        if (entry[0] == MPM_EMPTY) continue;
+        for (size_t k = 0; k < MAP; k++) used[entry[16 + k]] = true;
+    }
+}
+
+static size_t free_block(const struct drive *d) {
+    bool used[256];
+    mark_used(d, used);
+    size_t b = 2;
+    while (b < d->blocks && used[b]) b++;
+    return b;
+}
+
+static size_t free_blocks(const struct drive *d) {
+    bool used[256];
+    mark_used(d, used);
+    size_t free = 0;
+    for (size_t b = 2; b < d->blocks; b++) free += !used[b];
+    return free;
+}
+
+/* ---- The image check ---- */
+
+static bool good_fields(const uint8_t *entry) {
+    return entry[0] <= 15 && legal_name(entry + 1) && entry[12] <= 31 && entry[14] <= 63 && entry[15] <= 128;
+}
+
+static bool all_in_range(const uint8_t *entry, size_t blocks) {
+    for (size_t k = 0; k < MAP; k++) {
+        uint8_t b = entry[16 + k];
+        if (b != 0 && (b < 2 || b >= blocks)) return false;
+    }
+    return true;
+}
+
+static bool mark_entry(const uint8_t *entry, bool seen[256]) {
+    for (size_t k = 0; k < MAP; k++) {
+        uint8_t b = entry[16 + k];
+        if (b == 0) continue;
+        if (seen[b]) return false;
+        seen[b] = true;
+    }
+    return true;
+}
+
+static bool good_entry(const struct drive *d, size_t e, bool seen[256]) {
+    const uint8_t *entry = entry_at(d, e);
+    if (entry[0] == MPM_EMPTY) return true;
+    if (!good_fields(entry) || !all_in_range(entry, d->blocks) || !mark_entry(entry, seen)) return false;
+    struct file f = file_from(entry[0], entry + 1);
+    return !any_entry(d, &f, extent_at(entry), e);
+}
+
+static bool is_begun(const struct drive *d, size_t e) {
+    const uint8_t *entry = entry_at(d, e);
+    if (entry[0] == MPM_EMPTY || extent_at(entry) == 0) return true;
+    struct file f = file_from(entry[0], entry + 1);
+    return any_entry(d, &f, 0, ENTRIES);
+}
+
+static bool good_length(size_t len) { return len % 1024 == 0 && len / 1024 >= 3 && len / 1024 <= 256; }
+
+static bool sound_directory(const struct drive *d) {
+    bool seen[256] = {false};
+    for (size_t e = 0; e < ENTRIES; e++)
+        if (!good_entry(d, e, seen)) return false;
+    for (size_t e = 0; e < ENTRIES; e++)
+        if (!is_begun(d, e)) return false;
+    return true;
+}
+
+/* ---- The list, packed and unpacked ---- */
+
+static uint8_t kind_of(const uint8_t *mark) {
+    if (mark[0] == 0x4F && mark[1] == 0x46) return OPEN;
+    if (mark[0] == 0x4C && mark[1] == 0x52) return LOCK;
+    return mark[0] == 0 && mark[1] == 0 ? EMPTY : NO_MARK;
+}
+
+static void unpack(struct locks *l, const uint8_t *list) {
+    l->capacity = list[0];
+    l->open_limit = list[1];
+    l->lock_limit = list[2];
+    memcpy(l->users, list + 3, MPM_PROCESSES);
+    for (size_t i = 0; i < PLACES; i++) {
+        const uint8_t *place = list + HEAD + PLACE * i;
+        struct item *it = &l->items[i];
+        it->kind = kind_of(place);
+        it->process = place[2];
+        memcpy(it->name, place + 3, NAME);
+        it->mode = place[14];
+        it->record = place[16] + 256u * place[17] + 65536u * place[18] + 16777216u * place[19];
+    }
+}
+
+static void pack(const struct locks *l, uint8_t *list) {
+    static const uint8_t marks[][2] = {{0, 0}, {0x4F, 0x46}, {0x4C, 0x52}};
+    list[0] = l->capacity;
+    list[1] = l->open_limit;
+    list[2] = l->lock_limit;
+    memcpy(list + 3, l->users, MPM_PROCESSES);
+    for (size_t i = 0; i < PLACES; i++) {
+        uint8_t *place = list + HEAD + PLACE * i;
+        const struct item *it = &l->items[i];
+        memcpy(place, marks[it->kind], 2);
+        place[2] = it->process;
+        memcpy(place + 3, it->name, NAME);
+        place[14] = it->mode;
+        place[15] = 0;
+        place[16] = (uint8_t)it->record;
+        place[17] = (uint8_t)(it->record >> 8);
+        place[18] = (uint8_t)(it->record >> 16);
+        place[19] = (uint8_t)(it->record >> 24);
+    }
+}
+
+static struct file file_of(const struct locks *l, const struct item *it) {
+    struct file f = {l->users[it->process], {0}};
+    memcpy(f.name, it->name, NAME);
+    return f;
+}
+
+static bool is_on(const struct locks *l, const struct item *it, const struct file *f) {
+    return l->users[it->process] == f->user && same_name(it->name, f->name);
+}
+
+/* ---- The list check ---- */
+
+static bool is_limit(uint8_t n) { return n >= 1 && n <= 64; }
+
+static bool all_zero(const uint8_t *list) {
+    for (size_t i = 0; i < PLACES; i++)
+        if (list[HEAD + PLACE * i + 15] != 0) return false;
+    return true;
+}
+
+static bool good_empty(const struct item *it) {
+    static const uint8_t zeros[NAME];
+    return it->process == 0 && same_name(it->name, zeros) && it->mode == 0 && it->record == 0;
+}
+
+static bool low_name(const uint8_t *name) {
+    for (size_t k = 0; k < NAME; k++)
+        if (name[k] >= 128) return false;
+    return true;
+}
+
+static bool item_alone(const struct drive *d, const struct locks *l, const struct item *it) {
+    if (it->process > 15 || !legal_name(it->name) || !low_name(it->name) || it->record > LAST_RECORD) return false;
+    struct file f = file_of(l, it);
+    if (it->kind == OPEN) return it->mode <= READ_ONLY && it->record == 0 && entry_of(d, &f, 0) < ENTRIES;
+    return it->mode == UNLOCKED && block_of(d, &f, it->record) != 0;
+}
+
+static bool place_alone(const struct drive *d, const struct locks *l, size_t i) {
+    const struct item *it = &l->items[i];
+    if (it->kind == EMPTY) return good_empty(it);
+    return i < l->capacity && it->kind != NO_MARK && item_alone(d, l, it);
+}
+
+static size_t open_of(const struct locks *l, uint8_t process, const uint8_t *name) {
+    size_t i = 0;
+    for (; i < PLACES; i++) {
+        const struct item *it = &l->items[i];
+        if (it->kind == OPEN && it->process == process && same_name(it->name, name)) break;
+    }
+    return i;
+}
+
+static bool is_opened_unlocked(const struct locks *l, const struct item *it) {
+    size_t o = open_of(l, it->process, it->name);
+    return o < PLACES && l->items[o].mode == UNLOCKED;
+}
+
+static bool all_good(const struct drive *d, const struct locks *l) {
+    for (size_t i = 0; i < PLACES; i++)
+        if (!place_alone(d, l, i)) return false;
+    for (size_t i = 0; i < PLACES; i++)
+        if (l->items[i].kind == LOCK && !is_opened_unlocked(l, &l->items[i])) return false;
+    return true;
+}
+
+static bool stand_beside(const struct item *a, const struct item *b) {
+    return a->process != b->process && a->mode == b->mode && a->mode != LOCKED;
+}
+
+static bool clash(const struct locks *l, const struct item *a, const struct item *b) {
+    bool opens = a->kind == OPEN && b->kind == OPEN && !stand_beside(a, b);
+    bool both = a->kind == LOCK && b->kind == LOCK && a->record == b->record;
+    return (opens || both) && l->users[a->process] == l->users[b->process] && same_name(a->name, b->name);
+}
+
+static bool all_apart(const struct locks *l) {
+    for (size_t i = 0; i < PLACES; i++) {
+        if (l->items[i].kind == EMPTY) continue;
+        for (size_t j = 0; j < i; j++)
+            if (clash(l, &l->items[i], &l->items[j])) return false;
+    }
+    return true;
+}
+
+static bool all_keep(const struct locks *l, uint8_t kind, uint8_t most) {
+    uint8_t counts[MPM_PROCESSES] = {0};
+    for (size_t i = 0; i < PLACES; i++)
+        if (l->items[i].kind == kind) counts[l->items[i].process]++;
+    for (size_t p = 0; p < MPM_PROCESSES; p++)
+        if (counts[p] > most) return false;
+    return true;
+}
+
+static bool sound_locks(const struct drive *d, const struct locks *l) {
+    if (!is_limit(l->capacity) || !is_limit(l->open_limit) || !is_limit(l->lock_limit)) return false;
+    for (size_t p = 0; p < MPM_PROCESSES; p++)
+        if (l->users[p] > 15) return false;
+    return all_good(d, l) && all_apart(l) && all_keep(l, OPEN, l->open_limit) && all_keep(l, LOCK, l->lock_limit);
+}
+
+/* ---- Asking the list ---- */
+
+static bool any_open(const struct locks *l, const struct file *f) {
+    for (size_t i = 0; i < PLACES; i++)
+        if (l->items[i].kind == OPEN && is_on(l, &l->items[i], f)) return true;
+    return false;
+}
+
+static bool any_against(const struct job *j, uint8_t mode) {
+    for (size_t i = 0; i < PLACES; i++) {
+        const struct item *it = &j->locks.items[i];
+        if (it->kind == OPEN && is_on(&j->locks, it, &j->file) && it->process != j->process &&
+            (mode == LOCKED || it->mode != mode))
+            return true;
+    }
+    return false;
+}
+
+static bool locks_record(const struct job *j, const struct item *it, uint32_t record) {
+    return it->kind == LOCK && it->record == record && is_on(&j->locks, it, &j->file);
+}
+
+static bool locked_by_other(const struct job *j, uint32_t record) {
+    for (size_t i = 0; i < PLACES; i++) {
+        const struct item *it = &j->locks.items[i];
+        if (it->process != j->process && locks_record(j, it, record)) return true;
+    }
+    return false;
+}
+
+static bool held(const struct job *j, uint32_t record) {
+    for (size_t i = 0; i < PLACES; i++) {
+        const struct item *it = &j->locks.items[i];
+        if (it->process == j->process && locks_record(j, it, record)) return true;
+    }
+    return false;
+}
+
+static size_t kinds_by(const struct job *j, uint8_t kind) {
+    size_t n = 0;
+    for (size_t i = 0; i < PLACES; i++) n += j->locks.items[i].kind == kind && j->locks.items[i].process == j->process;
+    return n;
+}
+
+static size_t free_place(const struct locks *l) {
+    size_t i = 0;
+    while (i < l->capacity && l->items[i].kind != EMPTY) i++;
+    return i;
+}
+
+static size_t free_places(const struct locks *l) {
+    size_t n = 0;
+    for (size_t i = 0; i < l->capacity; i++) n += l->items[i].kind == EMPTY;
+    return n;
+}
+
+static size_t own_open(const struct job *j) { return open_of(&j->locks, j->process, j->file.name); }
+
+static void place(struct job *j, uint8_t kind, uint8_t mode, uint32_t record) {
+    struct item *it = &j->locks.items[free_place(&j->locks)];
+    it->kind = kind;
+    it->process = j->process;
+    memcpy(it->name, j->file.name, NAME);
+    it->mode = mode;
+    it->record = record;
+}
+
+static void take_away(struct item *it) { memset(it, 0, sizeof *it); }
+
+/* ---- Files ---- */
+
+static void set_fcb(const struct job *j, size_t e, uint8_t mode, size_t o) {
+    memset(j->fcb + 12, 0, 3);
+    memcpy(j->fcb + 15, entry_at(&j->drive, e) + 15, 17);
+    if (mode != UNLOCKED) return;
+    j->fcb[33] = (uint8_t)o;
+    j->fcb[34] = 0;
+    j->fcb[35] = 0;
+}
+
+static uint32_t open_new(struct job *j, size_t e, uint8_t mode) {
+    set_fcb(j, e, mode, free_place(&j->locks));
+    place(j, OPEN, mode, 0);
+    pack(&j->locks, j->list);
+    return MPM_OK;
+}
+
+static uint32_t open_file(struct job *j) {
+    uint8_t mode = j->fcb[6] >= 128 ? READ_ONLY : j->fcb[5] >= 128 ? UNLOCKED : LOCKED;
+    if (!legal_name(j->fcb + 1)) return MPM_BAD_NAME;
+    size_t e = entry_of(&j->drive, &j->file, 0);
+    if (e == ENTRIES) return MPM_NOT_FOUND;
+    size_t o = own_open(j);
+    if (o < PLACES) {
+        if (j->locks.items[o].mode != mode) return MPM_IN_USE;
+        set_fcb(j, e, mode, o);
+        return MPM_OK;
+    }
+    if (any_against(j, mode)) return MPM_IN_USE;
+    if (kinds_by(j, OPEN) >= j->locks.open_limit) return MPM_OPEN_LIMIT;
+    if (free_place(&j->locks) >= j->locks.capacity) return MPM_OPEN_LIST_FULL;
+    return open_new(j, e, mode);
+}
+
+static uint32_t make_file(struct job *j) {
+    if (!legal_name(j->fcb + 1)) return MPM_BAD_NAME;
+    if (entry_of(&j->drive, &j->file, 0) < ENTRIES) return MPM_EXISTS;
+    if (kinds_by(j, OPEN) >= j->locks.open_limit) return MPM_OPEN_LIMIT;
+    if (free_place(&j->locks) >= j->locks.capacity) return MPM_OPEN_LIST_FULL;
+    size_t e = free_entry(&j->drive);
+    if (e == ENTRIES) return MPM_NOT_FOUND;
+    uint8_t *entry = entry_at(&j->drive, e);
+    memset(entry, 0, ENTRY);
+    entry[0] = j->file.user;
+    memcpy(entry + 1, j->file.name, NAME);
+    return open_new(j, e, j->fcb[5] >= 128 ? UNLOCKED : LOCKED);
+}
+
+static uint32_t close_file(struct job *j) {
+    if (own_open(j) == PLACES) return MPM_CLOSE_NOT_OPEN;
+    for (size_t i = 0; i < PLACES; i++) {
+        struct item *it = &j->locks.items[i];
+        if (it->kind != EMPTY && it->process == j->process && same_name(it->name, j->file.name)) take_away(it);
+    }
+    pack(&j->locks, j->list);
+    return MPM_OK;
+}
+
+static uint32_t delete_file(struct job *j) {
+    if (!legal_name(j->fcb + 1)) return MPM_BAD_NAME;
+    size_t e = entry_of(&j->drive, &j->file, 0);
+    if (e == ENTRIES) return MPM_NOT_FOUND;
+    if (any_open(&j->locks, &j->file)) return MPM_IN_USE;
+    if (entry_at(&j->drive, e)[9] >= 128) return MPM_READ_ONLY;
+    for (e = 0; e < ENTRIES; e++)
+        if (is_of(entry_at(&j->drive, e), &j->file)) entry_at(&j->drive, e)[0] = MPM_EMPTY;
+    return MPM_OK;
+}
+
+static void rename_entry(uint8_t *entry, const uint8_t *name) {
+    for (size_t k = 0; k < NAME; k++) entry[1 + k] = (uint8_t)((entry[1 + k] & 0x80) | name[k]);
+}
+
+static uint32_t rename_file(struct job *j) {
+    if (!legal_name(j->fcb + 1) || !legal_name(j->fcb + 17)) return MPM_BAD_NAME;
+    struct file new = file_from(j->file.user, j->fcb + 17);
+    size_t e = entry_of(&j->drive, &j->file, 0);
+    if (e == ENTRIES) return MPM_NOT_FOUND;
+    if (any_open(&j->locks, &j->file)) return MPM_IN_USE;
+    if (entry_at(&j->drive, e)[9] >= 128) return MPM_READ_ONLY;
+    if (entry_of(&j->drive, &new, 0) < ENTRIES) return MPM_EXISTS;
+    for (e = 0; e < ENTRIES; e++)
+        if (is_of(entry_at(&j->drive, e), &j->file)) rename_entry(entry_at(&j->drive, e), new.name);
+    return MPM_OK;
+}
+
+/* ---- Records ---- */
+
+static uint32_t record_of(const struct job *j) { return j->fcb[33] + 256u * j->fcb[34] + 65536u * j->fcb[35]; }
+
+static uint8_t *record_at(const struct job *j, size_t block, uint32_t record) {
+    return j->drive.bytes + 1024 * block + 128 * (record % 8);
+}
+
+static uint32_t read_record(struct job *j) {
+    uint32_t record = record_of(j);
+    if (own_open(j) == PLACES) return MPM_NOT_OPEN;
+    if (record > LAST_RECORD) return MPM_PAST_END;
+    size_t e = entry_of(&j->drive, &j->file, record / 128);
+    if (e == ENTRIES) return MPM_NO_EXTENT;
+    size_t block = block_in(&j->drive, e, record);
+    if (block == 0) return MPM_NO_BLOCK;
+    memcpy(j->dma, record_at(j, block, record), MPM_RECORD_LEN);
+    return MPM_OK;
+}
+
+/* The refusals that 34, 40 and 41 share. */
+static uint32_t may_write(const struct job *j, size_t first, uint32_t record) {
+    size_t o = own_open(j);
+    if (o == PLACES) return MPM_NOT_OPEN;
+    if (entry_at(&j->drive, first)[9] >= 128 || j->locks.items[o].mode == READ_ONLY) return MPM_READ_ONLY;
+    if (record > LAST_RECORD) return MPM_PAST_END;
+    return locked_by_other(j, record) ? MPM_LOCKED : MPM_OK;
+}
+
+static void raise_count(uint8_t *entry, uint32_t record) {
+    uint8_t count = (uint8_t)(record % 128 + 1);
+    if (entry[15] < count) entry[15] = count;
+}
+
+static struct spot spot_at(const struct drive *d, size_t e, uint32_t record) {
+    struct spot w = {e, e == ENTRIES, block_in(d, e, record), false};
+    if (w.fresh) w.entry = free_entry(d);
+    w.taken = w.block == 0;
+    if (w.taken) w.block = free_block(d);
+    return w;
+}
+
+static void write_at(const struct job *j, const struct spot *w, size_t first, uint32_t record, bool zeros) {
+    uint8_t *entry = entry_at(&j->drive, w->entry);
+    if (w->fresh) {
+        memset(entry, 0, ENTRY);
+        entry[0] = j->file.user;
+        memcpy(entry + 1, entry_at(&j->drive, first) + 1, NAME);
+        entry[12] = (uint8_t)(record / 128 % 32);
+        entry[14] = (uint8_t)(record / 128 / 32);
+    }
+    if (w->taken) entry[16 + record % 128 / 8] = (uint8_t)w->block;
+    raise_count(entry, record);
+    if (zeros && w->taken) memset(j->drive.bytes + 1024 * w->block, 0, 1024);
+    memcpy(record_at(j, w->block, record), j->dma, MPM_RECORD_LEN);
+}
+
+static uint32_t write_record(struct job *j, bool zeros) {
+    uint32_t record = record_of(j);
+    size_t first = entry_of(&j->drive, &j->file, 0);
+    uint32_t refused = may_write(j, first, record);
+    if (refused != MPM_OK) return refused;
+    struct spot w = spot_at(&j->drive, entry_of(&j->drive, &j->file, record / 128), record);
+    if (w.entry == ENTRIES) return MPM_DIRECTORY_FULL;
+    if (w.block == j->drive.blocks) return MPM_DISK_FULL;
+    write_at(j, &w, first, record, zeros);
+    return MPM_OK;
+}
+
+static uint32_t test_write(struct job *j) {
+    uint32_t record = record_of(j);
+    uint32_t refused = may_write(j, entry_of(&j->drive, &j->file, 0), record);
+    if (refused != MPM_OK) return refused;
+    size_t e = entry_of(&j->drive, &j->file, record / 128);
+    if (e == ENTRIES) return MPM_NO_EXTENT;
+    size_t block = block_in(&j->drive, e, record);
+    if (block == 0) return MPM_NO_BLOCK;
+    if (memcmp(j->dma, record_at(j, block, record), MPM_RECORD_LEN) != 0) return MPM_DIFFERS;
+    raise_count(entry_at(&j->drive, e), record);
+    memcpy(record_at(j, block, record), j->dma + 128, MPM_RECORD_LEN);
+    return MPM_OK;
+}
+
+static uint32_t free_space(struct job *j) {
+    size_t records = 8 * free_blocks(&j->drive);
+    j->dma[0] = (uint8_t)records;
+    j->dma[1] = (uint8_t)(records >> 8);
+    j->dma[2] = (uint8_t)(records >> 16);
+    return MPM_OK;
+}
+
+/* ---- Locks ---- */
+
+static uint32_t lacking(const struct job *j, uint32_t record) {
+    for (uint32_t k = 0; k < j->count; k++) {
+        size_t e = entry_of(&j->drive, &j->file, (record + k) / 128);
+        if (e == ENTRIES) return MPM_NO_EXTENT;
+        if (block_in(&j->drive, e, record + k) == 0) return MPM_NO_BLOCK;
+    }
+    return MPM_OK;
+}
+
+static uint32_t not_to_take(const struct job *j, uint32_t record) {
+    for (uint32_t k = 0; k < j->count; k++)
+        if (locked_by_other(j, record + k)) return MPM_LOCKED;
+    if (kinds_by(j, LOCK) + j->count > j->locks.lock_limit) return MPM_LOCK_LIMIT;
+    size_t fresh = 0;
+    for (uint32_t k = 0; k < j->count; k++) fresh += !held(j, record + k);
+    return free_places(&j->locks) < fresh ? MPM_LOCK_LIST_FULL : MPM_OK;
+}
+
+/* The refusals that 42 and 43 share; *done where the mode has no locks. */
+static uint32_t may_lock(const struct job *j, uint32_t record, bool *done) {
+    size_t o = own_open(j);
+    if (o == PLACES) return MPM_NOT_OPEN;
+    *done = j->locks.items[o].mode != UNLOCKED;
+    if (*done) return MPM_OK;
+    if (j->dma[0] != o || j->dma[1] != 0) return MPM_BAD_FILE_ID;
+    return record + j->count - 1 > LAST_RECORD ? MPM_PAST_END : MPM_OK;
+}
+
+static uint32_t lock_records(struct job *j) {
+    uint32_t record = record_of(j);
+    bool done = false;
+    uint32_t refused = may_lock(j, record, &done);
+    if (refused != MPM_OK || done) return refused;
+    refused = lacking(j, record);
+    if (refused == MPM_OK) refused = not_to_take(j, record);
+    if (refused != MPM_OK) return refused;
+    for (uint32_t k = 0; k < j->count; k++)
+        if (!held(j, record + k)) place(j, LOCK, UNLOCKED, record + k);
+    pack(&j->locks, j->list);
+    return MPM_OK;
+}
+
+static uint32_t unlock_records(struct job *j) {
+    uint32_t record = record_of(j);
+    bool done = false;
+    uint32_t refused = may_lock(j, record, &done);
+    if (refused != MPM_OK || done) return refused;
+    for (size_t i = 0; i < PLACES; i++) {
+        struct item *it = &j->locks.items[i];
+        if (it->kind == LOCK && it->record >= record && it->record - record < j->count && it->process == j->process &&
+            same_name(it->name, j->file.name))
+            take_away(it);
+    }
+    pack(&j->locks, j->list);
+    return MPM_OK;
+}
+
+static uint32_t terminate(struct job *j) {
+    for (size_t i = 0; i < PLACES; i++)
+        if (j->locks.items[i].process == j->process) take_away(&j->locks.items[i]);
+    pack(&j->locks, j->list);
+    return MPM_OK;
+}
+
+/* ---- The call ---- */
+
+static bool is_known(uint32_t function) {
+    switch (function) {
+    case MPM_OPEN:
+    case MPM_CLOSE:
+    case MPM_DELETE:
+    case MPM_MAKE:
+    case MPM_RENAME:
+    case MPM_READ:
+    case MPM_WRITE:
+    case MPM_WRITE_ZEROS:
+    case MPM_TEST_WRITE:
+    case MPM_LOCK:
+    case MPM_UNLOCK:
+    case MPM_FREE_SPACE:
+    case MPM_TERMINATE:
+        return true;
+    default:
+        return false;
+    }
+}
+
+static bool reads_drive(uint32_t function) { return function != MPM_FREE_SPACE && function != MPM_TERMINATE; }
+
+static uint32_t serve(uint32_t function, struct job *j) {
+    switch (function) {
+    case MPM_OPEN:
+        return open_file(j);
+    case MPM_CLOSE:
+        return close_file(j);
+    case MPM_DELETE:
+        return delete_file(j);
+    case MPM_MAKE:
+        return make_file(j);
+    case MPM_RENAME:
+        return rename_file(j);
+    case MPM_READ:
+        return read_record(j);
+    case MPM_WRITE:
+        return write_record(j, false);
+    case MPM_WRITE_ZEROS:
+        return write_record(j, true);
+    case MPM_TEST_WRITE:
+        return test_write(j);
+    case MPM_LOCK:
+        return lock_records(j);
+    case MPM_UNLOCK:
+        return unlock_records(j);
+    case MPM_FREE_SPACE:
+        return free_space(j);
+    default:
+        return terminate(j);
+    }
+}
+
+uint32_t plain_call(uint32_t function, uint32_t process, uint32_t count,
+                    uint8_t *fcb, size_t fcb_len, uint8_t *dma, size_t dma_len,
+                    uint8_t *list, size_t list_len, uint8_t *image, size_t image_len) {
+    if (!is_known(function) || process > 15 || count < 1 || count > 16) return MPM_BAD_CALL;
+    if (fcb_len != MPM_FCB_LEN || dma_len != MPM_DMA_LEN || list_len != MPM_LIST_LEN) return MPM_BAD_CALL;
+    struct job j;
+    j.drive = (struct drive){image, image_len / 1024};
+    if (!good_length(image_len) || !sound_directory(&j.drive)) return MPM_BAD_IMAGE;
+    if (!all_zero(list)) return MPM_BAD_LIST;
+    unpack(&j.locks, list);
+    if (!sound_locks(&j.drive, &j.locks)) return MPM_BAD_LIST;
+    if (fcb[0] > 1 && reads_drive(function)) return MPM_BAD_DRIVE;
+    j.process = (uint8_t)process;
+    j.count = count;
+    j.fcb = fcb;
+    j.dma = dma;
+    j.list = list;
+    j.file = file_from(j.locks.users[process], fcb + 1);
+    return serve(function, &j);
+}

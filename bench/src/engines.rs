@@ -1,0 +1,77 @@
+//! The three that are timed, called in one way.
+
+use crate::books::Call;
+use reference::calls::{Buffers, Numbers};
+use reference::engine::{Engine, Reference};
+use reference::linked::Linked;
+
+extern "C" {
+    fn plain_call(
+        function: u32,
+        process: u32,
+        count: u32,
+        fcb: *mut u8,
+        fcb_len: usize,
+        dma: *mut u8,
+        dma_len: usize,
+        list: *mut u8,
+        list_len: usize,
+        image: *mut u8,
+        image_len: usize,
+    ) -> u32;
+}
+
+#[derive(Clone, Copy)]
+pub enum Who {
+    Engine,
+    Plain,
+    Reference,
+}
+
+pub const ALL: [Who; 3] = [Who::Engine, Who::Plain, Who::Reference];
+
+impl Who {
+    pub fn answer(self, call: &mut Call, list: &mut [u8], image: &mut [u8]) -> u32 {
+        match self {
+            Who::Engine => Linked.call(numbers(call), buffers(call, list, image)),
+            Who::Plain => plain(call, list, image),
+            Who::Reference => Reference::default().call(numbers(call), buffers(call, list, image)),
+        }
+    }
+}
+
+fn numbers(call: &Call) -> Numbers {
+    Numbers {
+        function: call.function,
+        process: call.process,
+        count: call.count,
+    }
+}
+
+fn buffers<'a>(call: &'a mut Call, list: &'a mut [u8], image: &'a mut [u8]) -> Buffers<'a> {
+    Buffers {
+        fcb: &mut call.fcb,
+        dma: &mut call.dma,
+        list,
+        image,
+    }
+}
+
+fn plain(call: &mut Call, list: &mut [u8], image: &mut [u8]) -> u32 {
+    // SAFETY: each pointer comes with the length of the slice it is taken from, and the slices are separate.
+    unsafe {
+        plain_call(
+            call.function,
+            call.process,
+            call.count,
+            call.fcb.as_mut_ptr(),
+            call.fcb.len(),
+            call.dma.as_mut_ptr(),
+            call.dma.len(),
+            list.as_mut_ptr(),
+            list.len(),
+            image.as_mut_ptr(),
+            image.len(),
+        )
+    }
+}

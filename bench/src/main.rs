@@ -1,0 +1,80 @@
+//! Times the engine, its plain C version and the reference on the same books in one run.
+//! bench FOLDER [ROUNDS]: writes table.md, rows.csv and plot.svg to the folder.
+//! bench --agree: times nothing, only compares what the three answer and leave.
+
+mod books;
+mod engines;
+mod measure;
+mod plot;
+mod report;
+
+use books::Kind;
+use measure::{Row, BOOKS};
+use std::path::Path;
+use std::process::ExitCode;
+
+const ROUNDS: usize = 200;
+
+fn main() -> ExitCode {
+    let words: Vec<String> = std::env::args().skip(1).collect();
+    let done = match words.iter().map(String::as_str).collect::<Vec<_>>()[..] {
+        ["--agree"] => agree(),
+        [folder] => measure_into(folder, ROUNDS),
+        [folder, rounds] => match rounds.parse() {
+            Ok(rounds @ 1..) => measure_into(folder, rounds),
+            _ => Err("ROUNDS is a number from 1 on".to_string()),
+        },
+        _ => Err("use: bench FOLDER [ROUNDS], or bench --agree".to_string()),
+    };
+    match done {
+        Ok(text) => {
+            print!("{text}");
+            ExitCode::SUCCESS
+        }
+        Err(text) => {
+            eprintln!("bench: {text}");
+            ExitCode::from(2)
+        }
+    }
+}
+
+/// Each function on each kind of book on each size of drive.
+fn cases() -> Vec<(Kind, usize, u32)> {
+    let mut cases = Vec::new();
+    for kind in books::KINDS {
+        for blocks in books::SIZES {
+            for (function, _) in books::FUNCTIONS {
+                cases.push((kind, blocks, function));
+            }
+        }
+    }
+    cases
+}
+
+fn agree() -> Result<String, String> {
+    let cases = cases();
+    for &(kind, blocks, function) in &cases {
+        measure::agree(kind, blocks, function);
+    }
+    let count = cases.len();
+    Ok(format!("{count} calls, each on {BOOKS} books: all three agree\n"))
+}
+
+fn measure_into(folder: &str, rounds: usize) -> Result<String, String> {
+    let row = |(kind, blocks, function)| measure::row(kind, blocks, function, rounds);
+    let rows: Vec<Row> = cases().into_iter().map(row).collect();
+    let checks = books::KINDS.map(|kind| measure::image_check(kind, report::SHOWN, rounds));
+    let summary = report::summary(&rows, &checks) + &report::goals(&rows);
+    write(Path::new(folder), &rows, &summary).map_err(|error| format!("{folder}: {error}"))?;
+    Ok(summary)
+}
+
+fn write(folder: &Path, rows: &[Row], summary: &str) -> std::io::Result<()> {
+    std::fs::create_dir_all(folder)?;
+    std::fs::write(
+        folder.join("table.md"),
+        summary.to_string() + &report::details(rows),
+    )?;
+    std::fs::write(folder.join("rows.csv"), report::csv(rows))?;
+    std::fs::write(folder.join("plot.svg"), plot::svg(rows))
+}

@@ -1,0 +1,107 @@
+//! The figures as a picture: a panel for each kind of book, a column for each call, a mark for each of the three.
+
+use crate::books::{FUNCTIONS, KINDS};
+use crate::measure::Row;
+use crate::report::{of, SHOWN};
+use std::fmt::Write;
+
+const LEFT: f64 = 70.0;
+const COLUMN: f64 = 62.0;
+const TOP: f64 = 70.0;
+const PANEL: f64 = 190.0;
+const INNER: f64 = 150.0;
+const WIDTH: f64 = LEFT + COLUMN * 13.0 + 20.0;
+
+/// The scale is in powers of two of a microsecond, from the first to the last.
+const LOWEST: f64 = -2.0;
+const HIGHEST: f64 = 7.0;
+
+const MARKS: [(&str, &str); 3] = [
+    ("engine", "#14599d"),
+    ("the same in plain C", "#8a8a8a"),
+    ("Rust reference", "#d0812a"),
+];
+
+pub fn svg(rows: &[Row]) -> String {
+    let height = TOP + PANEL * KINDS.len() as f64 + 30.0;
+    let mut text = format!(
+        "<svg xmlns=\"http://www.w3.org/2000/svg\" width=\"{WIDTH}\" height=\"{height}\" font-family=\"sans-serif\" font-size=\"12\">\n\
+         <rect width=\"100%\" height=\"100%\" fill=\"white\"/>\n",
+    );
+    legend(&mut text);
+    for (at, kind) in KINDS.iter().enumerate() {
+        let top = TOP + PANEL * at as f64;
+        let _ = writeln!(
+            text,
+            "<text x=\"{LEFT}\" y=\"{}\" font-weight=\"bold\">{}: {}</text>",
+            top - 6.0,
+            kind.title(),
+            kind.describe()
+        );
+        grid(&mut text, top);
+        for (column, row) in of(rows, *kind, SHOWN).iter().enumerate() {
+            points(&mut text, top, column, row);
+        }
+    }
+    functions(&mut text, height - 22.0);
+    text.push_str("</svg>\n");
+    text
+}
+
+fn legend(text: &mut String) {
+    let _ = writeln!(text, "<text x=\"{LEFT}\" y=\"20\" font-size=\"14\">Microseconds a call, drive of 256 blocks (logarithmic)</text>");
+    for (at, (name, colour)) in MARKS.iter().enumerate() {
+        let x = LEFT + 6.0 + 180.0 * at as f64;
+        let _ = writeln!(
+            text,
+            "<circle cx=\"{x}\" cy=\"36\" r=\"5\" fill=\"{colour}\"/><text x=\"{}\" y=\"40\">{name}</text>",
+            x + 12.0
+        );
+    }
+}
+
+fn grid(text: &mut String, top: f64) {
+    for power in LOWEST as i32..=HIGHEST as i32 {
+        let y = height(top, f64::from(power));
+        let _ = writeln!(
+            text,
+            "<line x1=\"{LEFT}\" y1=\"{y:.1}\" x2=\"{}\" y2=\"{y:.1}\" stroke=\"#e2e2e2\"/><text x=\"{}\" y=\"{:.1}\" text-anchor=\"end\" font-size=\"10\">{}</text>",
+            WIDTH - 20.0,
+            LEFT - 8.0,
+            y + 3.5,
+            2f64.powi(power)
+        );
+    }
+}
+
+fn points(text: &mut String, top: f64, column: usize, row: &Row) {
+    let x = LEFT + COLUMN * (column as f64 + 0.5);
+    for (at, (_, colour)) in MARKS.iter().enumerate().rev() {
+        let y = height(top, (row.ns[at] / 1000.0).log2());
+        let _ = writeln!(
+            text,
+            "<circle cx=\"{:.1}\" cy=\"{y:.1}\" r=\"4.5\" fill=\"{colour}\"/>",
+            x + 9.0 * (at as f64 - 1.0)
+        );
+    }
+}
+
+fn functions(text: &mut String, y: f64) {
+    for (column, (number, name)) in FUNCTIONS.iter().enumerate() {
+        let x = LEFT + COLUMN * (column as f64 + 0.5);
+        let short = name.split([',', ' ']).next().unwrap_or(name);
+        let _ = writeln!(
+            text,
+            "<text x=\"{x:.1}\" y=\"{y}\" text-anchor=\"middle\">{number}</text>"
+        );
+        let _ = writeln!(
+            text,
+            "<text x=\"{x:.1}\" y=\"{}\" text-anchor=\"middle\" font-size=\"9\">{short}</text>",
+            y + 12.0
+        );
+    }
+}
+
+fn height(top: f64, power: f64) -> f64 {
+    top + INNER * (HIGHEST - power.clamp(LOWEST, HIGHEST)) / (HIGHEST - LOWEST)
+}
