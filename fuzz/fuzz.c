@@ -1,0 +1,370 @@
+/* The fuzz test of the engine, for libFuzzer: plays the steps of an input (steps.h) and holds every call against the
+   rules and against the plain C version. The first thing that is wrong ends it with a line that says what.
+   At the end it prints which pairs of function and answer were met. With FUZZ_TELL set it prints every call. */
+#include <stdbool.h>
+#include <stdio.h>
+#include <stdlib.h>
+#include <string.h>
+
+#include "mpm.h"
+#include "plain.h"
+#include "steps.h"
+
+typedef uint32_t engine(uint32_t function, uint32_t process, uint32_t count, uint8_t *fcb, size_t fcb_len, uint8_t *dma,
+                        size_t dma_len, uint8_t *list, size_t list_len, uint8_t *image, size_t image_len);
+
+struct buffer {
+    uint8_t *memory; /* where the length is 0, one byte, and `bytes` is its end: AddressSanitizer sees every access */
+    uint8_t *bytes;
+    size_t length;
+};
+
+struct state {
+    struct buffer of[BUFFERS];
+};
+
+struct call {
+    uint32_t function, process, count, answer;
+};
+
+/* ---- What the rules allow ---- */
+
+enum { ANSWERS = 14, CHANGES = 4 };
+
+struct rule {
+    uint32_t function;
+    uint32_t answers[ANSWERS]; /* 0, then the refusals; unused ones are 0 */
+    struct {
+        int buffer;
+        size_t from, to;
+    } changes[CHANGES];
+};
+
+#define NO_FCB MPM_OK, MPM_BAD_CALL, MPM_BAD_IMAGE, MPM_BAD_LIST
+#define ALL NO_FCB, MPM_BAD_DRIVE
+#define NO_RECORD MPM_NO_EXTENT, MPM_NO_BLOCK
+#define WRITE ALL, MPM_NOT_OPEN, MPM_READ_ONLY, MPM_PAST_END, MPM_LOCKED
+#define FILL WRITE, MPM_DIRECTORY_FULL, MPM_DISK_FULL
+#define PLACES {LIST, MPM_LIST_PLACES, MPM_LIST_LEN}
+#define OPENED {FCB, 12, 32}, {FCB, MPM_FCB_RECORD, MPM_FCB_LEN}, PLACES
+#define DIRECTORY {IMAGE, 0, MPM_DIRECTORY_BLOCKS * MPM_BLOCK_LEN}
+#define DRIVE {IMAGE, 0, MPM_MAX_BLOCKS * MPM_BLOCK_LEN}
+
+static const struct rule rules[] = {
+    {MPM_OPEN, {ALL, MPM_BAD_NAME, MPM_NOT_FOUND, MPM_IN_USE, MPM_OPEN_LIMIT, MPM_OPEN_LIST_FULL}, {OPENED}},
+    {MPM_CLOSE, {ALL, MPM_CLOSE_NOT_OPEN}, {PLACES}},
+    {MPM_DELETE, {ALL, MPM_BAD_NAME, MPM_NOT_FOUND, MPM_IN_USE, MPM_READ_ONLY}, {DIRECTORY}},
+    {MPM_MAKE, {ALL, MPM_BAD_NAME, MPM_EXISTS, MPM_OPEN_LIMIT, MPM_OPEN_LIST_FULL, MPM_NOT_FOUND}, {OPENED, DIRECTORY}},
+    {MPM_RENAME, {ALL, MPM_BAD_NAME, MPM_NOT_FOUND, MPM_IN_USE, MPM_READ_ONLY, MPM_EXISTS}, {DIRECTORY}},
+    {MPM_READ, {ALL, MPM_NOT_OPEN, MPM_PAST_END, NO_RECORD}, {{DMA, 0, MPM_RECORD_LEN}}},
+    {MPM_WRITE, {FILL}, {DRIVE}},
+    {MPM_WRITE_ZEROS, {FILL}, {DRIVE}},
+    {MPM_TEST_WRITE, {WRITE, NO_RECORD, MPM_DIFFERS}, {DRIVE}},
+    {MPM_LOCK,
+     {ALL, MPM_NOT_OPEN, MPM_BAD_FILE_ID, MPM_PAST_END, NO_RECORD, MPM_LOCKED, MPM_LOCK_LIMIT, MPM_LOCK_LIST_FULL},
+     {PLACES}},
+    {MPM_UNLOCK, {ALL, MPM_NOT_OPEN, MPM_BAD_FILE_ID, MPM_PAST_END}, {PLACES}},
+    {MPM_FREE_SPACE, {NO_FCB}, {{DMA, MPM_DMA_FREE, 3}}},
+    {MPM_TERMINATE, {NO_FCB}, {PLACES}},
+};
+
+enum { RULES = sizeof rules / sizeof rules[0] };
+
+static const struct rule *rule_of(uint32_t function) {
+    for (size_t i = 0; i < RULES; i++)
+        if (rules[i].function == function) return &rules[i];
+    return NULL;
+}
+
+static bool may_change(const struct rule *rule, int buffer, size_t i) {
+    for (size_t k = 0; k < CHANGES; k++)
+        if (rule->changes[k].buffer == buffer && i >= rule->changes[k].from && i < rule->changes[k].to) return true;
+    return false;
+}
+
+/* ---- What was met ---- */
+
+static unsigned long calls, accepted, met[RULES][ANSWERS];
+static bool telling;
+
+/* The pairs that this input met: libFuzzer keeps an input that meets a new one. */
+static uint8_t pairs_met[RULES][ANSWERS] __attribute__((section("__libfuzzer_extra_counters")));
+
+static void print_met(void) {
+    unsigned pairs = 0, seen = 0;
+    for (size_t i = 0; i < RULES; i++)
+        for (size_t k = 0; k < ANSWERS && (k == 0 || rules[i].answers[k] != 0); k++) {
+            uint32_t answer = rules[i].answers[k];
+            pairs++;
+            seen += met[i][k] != 0;
+            if (met[i][k] == 0)
+                printf("not met: %u with %u/%u\n", rules[i].function, mpm_a(answer), mpm_h(answer));
+        }
+    printf("met: %lu calls, %lu accepted, %u of %u pairs of function and answer\n", calls, accepted, seen, pairs);
+}
+
+static void want(bool good, const struct call *call, const char *what) {
+    if (good) return;
+    fprintf(stderr, "WRONG: function %u, process %u, count %u, answer %u/%u: %s\n", call->function, call->process,
+            call->count, mpm_a(call->answer), mpm_h(call->answer), what);
+    abort();
+}
+
+/* ---- Buffers ---- */
+
+static struct buffer new_buffer(size_t length) {
+    struct buffer b = {malloc(length == 0 ? 1 : length), NULL, length};
+    if (b.memory == NULL) exit(2);
+    b.bytes = length == 0 ? b.memory + 1 : b.memory;
+    return b;
+}
+
+static void set_length(struct buffer *b, size_t length, int fill) {
+    struct buffer new = new_buffer(length);
+    size_t kept = b->length < length ? b->length : length;
+    memcpy(new.bytes, b->bytes, kept);
+    memset(new.bytes + kept, fill, length - kept);
+    free(b->memory);
+    *b = new;
+}
+
+/* At most so many bytes of a buffer, from one of them on. */
+static struct buffer part(const struct buffer *b, size_t from, size_t most) {
+    size_t start = from < b->length ? from : b->length, left = b->length - start;
+    struct buffer p = {NULL, b->bytes + start, left < most ? left : most};
+    return p;
+}
+
+static struct state copy_of(const struct state *s) {
+    struct state copy;
+    for (int k = 0; k < BUFFERS; k++) {
+        copy.of[k] = new_buffer(s->of[k].length);
+        memcpy(copy.of[k].bytes, s->of[k].bytes, s->of[k].length);
+    }
+    return copy;
+}
+
+static void release(struct state *s) {
+    for (int k = 0; k < BUFFERS; k++) free(s->of[k].memory);
+}
+
+static bool same_bytes(const struct buffer *a, const struct buffer *b) {
+    return memcmp(a->bytes, b->bytes, a->length) == 0;
+}
+
+static bool same_state(const struct state *a, const struct state *b) {
+    for (int k = 0; k < BUFFERS; k++)
+        if (!same_bytes(&a->of[k], &b->of[k])) return false;
+    return true;
+}
+
+static uint32_t run(engine *e, const struct call *c, struct state *s) {
+    struct buffer *b = s->of;
+    return e(c->function, c->process, c->count, b[FCB].bytes, b[FCB].length, b[DMA].bytes, b[DMA].length,
+             b[LIST].bytes, b[LIST].length, b[IMAGE].bytes, b[IMAGE].length);
+}
+
+/* ---- The checks of a call ---- */
+
+static bool bad_call(const struct call *c, const struct state *s) {
+    return rule_of(c->function) == NULL || c->process >= MPM_PROCESSES || c->count < 1 || c->count > MPM_MAX_COUNT ||
+           s->of[FCB].length != MPM_FCB_LEN || s->of[DMA].length != MPM_DMA_LEN || s->of[LIST].length != MPM_LIST_LEN;
+}
+
+static void check_answer(const struct call *c, const struct state *before) {
+    const struct rule *rule = rule_of(c->function);
+    bool bad = bad_call(c, before);
+    want((c->answer == MPM_BAD_CALL) == bad, c, bad ? "255/13 is due" : "255/13 is not due");
+    if (rule == NULL) return;
+    size_t k = 0;
+    while (k < ANSWERS && rule->answers[k] != c->answer) k++;
+    want(k < ANSWERS, c, "the function does not have this answer");
+    met[rule - rules][k]++;
+    pairs_met[rule - rules][k] = 1;
+}
+
+static void check_image(const struct call *c, const struct state *before) {
+    const struct buffer *image = &before->of[IMAGE];
+    size_t blocks = image->length / MPM_BLOCK_LEN;
+    bool whole = image->length % MPM_BLOCK_LEN == 0 && blocks >= MPM_MIN_BLOCKS && blocks <= MPM_MAX_BLOCKS;
+    uint32_t check = mpm_check(image->bytes, image->length);
+    want(whole ? check == MPM_SOUND || check == MPM_UNSOUND : check == MPM_WRONG_LENGTH, c, "the image check is wrong");
+    if (c->answer == MPM_BAD_CALL) return;
+    want((c->answer == MPM_BAD_IMAGE) == (check != MPM_SOUND), c, "the image check says otherwise");
+}
+
+static void check_changes(const struct call *c, const struct state *before, const struct state *after) {
+    const struct rule *rule = rule_of(c->function);
+    for (int k = 0; k < BUFFERS; k++) {
+        const struct buffer *old = &before->of[k], *new = &after->of[k];
+        if (same_bytes(old, new)) continue;
+        want(c->answer == MPM_OK, c, "a refusal changed a buffer");
+        for (size_t i = 0; i < old->length; i++)
+            want(old->bytes[i] == new->bytes[i] || may_change(rule, k, i), c, "a byte changed that is not the call's");
+    }
+}
+
+static void check_sound(const struct call *c, const struct state *after) {
+    const struct call free_space = {MPM_FREE_SPACE, 0, 1, 0};
+    const struct buffer *image = &after->of[IMAGE];
+    struct state copy = copy_of(after);
+    want(mpm_check(image->bytes, image->length) == MPM_SOUND, c, "the image is not sound afterwards");
+    want(run(mpm_call, &free_space, &copy) == MPM_OK, c, "the list is not sound afterwards");
+    release(&copy);
+}
+
+/* The record that the FCB names, as Look shows it: inside the image, and what an accepted call has read or written. */
+static void check_look(const struct call *c, const struct state *after) {
+    const struct buffer *image = &after->of[IMAGE];
+    struct buffer name = part(&after->of[FCB], MPM_FCB_NAME, MPM_NAME_LEN);
+    struct buffer number = part(&after->of[FCB], MPM_FCB_RECORD, 3);
+    struct buffer user = part(&after->of[LIST], MPM_LIST_USERS + c->process, 1);
+    uint32_t record = c->count;
+    if (number.length == 3) record = number.bytes[0] + 256u * number.bytes[1] + 65536u * number.bytes[2];
+    uint32_t at = mpm_look(user.length == 1 ? user.bytes[0] : c->process, name.bytes, name.length, record,
+                           image->bytes, image->length);
+    bool inside = at >= MPM_DIRECTORY_BLOCKS * MPM_BLOCK_LEN && (size_t)at + MPM_RECORD_LEN <= image->length;
+    want(at == 0 || (inside && at % MPM_RECORD_LEN == 0), c, "Look shows something that is no record");
+    if (c->answer != MPM_OK || c->function < MPM_READ || c->function > MPM_TEST_WRITE) return;
+    size_t from = c->function == MPM_TEST_WRITE ? MPM_DMA_NEW : MPM_DMA_RECORD;
+    want(at != 0 && memcmp(after->of[DMA].bytes + from, image->bytes + at, MPM_RECORD_LEN) == 0, c,
+         "Look shows another record");
+}
+
+/* Start, with the call's numbers and the list's users, over a list of the same length. */
+static void check_start(const struct call *c, const struct state *s) {
+    const uint32_t numbers[] = {c->function, c->process, c->count};
+    struct buffer users = part(&s->of[LIST], MPM_LIST_USERS, MPM_USERS_LEN);
+    struct buffer list = new_buffer(s->of[LIST].length), due = new_buffer(list.length);
+    bool good = list.length == MPM_LIST_LEN;
+    for (size_t i = 0; i < 3; i++) good = good && numbers[i] >= 1 && numbers[i] <= MPM_PLACES;
+    for (size_t i = 0; i < users.length; i++) good = good && users.bytes[i] < MPM_USERS;
+    memset(list.bytes, 0xA5, list.length);
+    memset(due.bytes, good ? 0 : 0xA5, due.length);
+    for (size_t i = 0; good && i < 3; i++) due.bytes[i] = (uint8_t)numbers[i];
+    if (good) memcpy(due.bytes + MPM_LIST_USERS, users.bytes, users.length);
+    uint32_t answer =
+        mpm_start(numbers[0], numbers[1], numbers[2], users.bytes, users.length, list.bytes, list.length);
+    want(answer == (good ? MPM_OK : MPM_BAD_CALL) && same_bytes(&list, &due), c, "Start does otherwise");
+    free(list.memory);
+    free(due.memory);
+}
+
+static void check_plain(const struct call *c, struct state *before, const struct state *after) {
+    uint32_t answer = run(plain_call, c, before);
+    want(answer == c->answer, c, "the plain version has another answer");
+    want(same_state(before, after), c, "the plain version leaves other bytes");
+}
+
+static void check_call(struct call *c, struct state *s) {
+    struct state before = copy_of(s);
+    if (telling) fprintf(stderr, "%u %u %u %lu", c->process, c->function, c->count, (unsigned long)s->of[IMAGE].length);
+    c->answer = run(mpm_call, c, s);
+    if (telling) fprintf(stderr, " %u %u\n", mpm_a(c->answer), mpm_h(c->answer));
+    calls++;
+    accepted += c->answer == MPM_OK;
+    check_answer(c, &before);
+    check_image(c, &before);
+    check_changes(c, &before, s);
+    if (c->answer == MPM_OK) check_sound(c, s);
+    check_look(c, s);
+    check_start(c, s);
+    check_plain(c, &before, s);
+    release(&before);
+}
+
+/* ---- The steps ---- */
+
+static uint32_t number_at(const uint8_t *bytes) {
+    return bytes[0] + 256u * bytes[1] + 65536u * bytes[2] + 16777216u * bytes[3];
+}
+
+static void put(struct buffer *b, const uint8_t *bytes, size_t length) {
+    memcpy(b->bytes, bytes, b->length < length ? b->length : length);
+}
+
+static void play_call(struct state *s, const uint8_t *step) {
+    unsigned flags = step[1];
+    struct call c = {number_at(step + 4), number_at(step + 8), number_at(step + 12), 0};
+    if (!(flags & WILD_FUNCTION) && rule_of(c.function) == NULL) c.function = rules[c.function % RULES].function;
+    if (!(flags & WILD_PROCESS)) c.process %= MPM_PROCESSES;
+    if (!(flags & WILD_COUNT)) c.count = (c.count - 1) % MPM_MAX_COUNT + 1;
+    if (!(flags & KEEP_FCB)) put(&s->of[FCB], step + CONTENT, FCB_GIVEN);
+    if (!(flags & KEEP_DMA)) put(&s->of[DMA], step + CONTENT + FCB_GIVEN, DMA_GIVEN);
+    check_call(&c, s);
+}
+
+static void play_patch(struct state *s, const uint8_t *step) {
+    struct buffer *b = &s->of[step[1] % BUFFERS];
+    uint8_t bytes[CONTENT_LEN];
+    size_t length = step[2] % (CONTENT_LEN + 1u), times = number_at(step + 8);
+    if (b->length == 0 || length == 0) return;
+    memcpy(bytes, step + CONTENT, CONTENT_LEN);
+    size_t at = number_at(step + 4) % b->length;
+    do {
+        if (b->length - at < length) return;
+        memcpy(b->bytes + at, bytes, length);
+        if (step[3] < length) bytes[step[3]]++;
+        at += length;
+    } while (times-- > 1);
+}
+
+static void play_length(struct state *s, const uint8_t *step) {
+    static const size_t exact[BUFFERS] = {MPM_FCB_LEN, MPM_DMA_LEN, MPM_LIST_LEN};
+    int k = step[1] % BUFFERS;
+    size_t number = number_at(step + 4);
+    bool large = step[2] & LARGE;
+    size_t length = exact[k];
+    if (step[2] & RAW) {
+        length = number % (large ? LARGE_LENGTHS : SMALL_LENGTHS);
+    } else if (k == IMAGE) {
+        length = number % (large ? LARGE_BLOCKS : SMALL_BLOCKS) * MPM_BLOCK_LEN;
+    }
+    set_length(&s->of[k], length, k == IMAGE ? (int)MPM_EMPTY : 0);
+}
+
+static void play(struct state *s, const uint8_t *step) {
+    unsigned kind = step[0] % 8;
+    if (kind == LENGTH) {
+        play_length(s, step);
+    } else if (kind < CALL) {
+        play_patch(s, step);
+    } else {
+        play_call(s, step);
+    }
+}
+
+static struct state begin(void) {
+    static const uint8_t head[] = {8, 4, 4};
+    static const size_t lengths[] = {MPM_FCB_LEN, MPM_DMA_LEN, MPM_LIST_LEN, 4 * MPM_BLOCK_LEN};
+    struct state s;
+    for (int k = 0; k < BUFFERS; k++) {
+        s.of[k] = new_buffer(0);
+        set_length(&s.of[k], lengths[k], k == IMAGE ? (int)MPM_EMPTY : 0);
+    }
+    put(&s.of[LIST], head, sizeof head);
+    return s;
+}
+
+int LLVMFuzzerInitialize(int *argc, char ***argv);
+int LLVMFuzzerTestOneInput(const uint8_t *data, size_t size);
+
+int LLVMFuzzerInitialize(int *argc, char ***argv) {
+    (void)argc, (void)argv;
+    telling = getenv("FUZZ_TELL") != NULL;
+    return atexit(print_met);
+}
+
+int LLVMFuzzerTestOneInput(const uint8_t *data, size_t size) {
+    struct state s = begin();
+    while (size > 0) {
+        uint8_t step[STEP_LEN] = {0};
+        size_t length = size < STEP_LEN ? size : STEP_LEN;
+        memcpy(step, data, length);
+        play(&s, step);
+        data += length;
+        size -= length;
+    }
+    release(&s);
+    return 0;
+}

@@ -1,0 +1,167 @@
+#!/usr/bin/env bash
+# Fuzzes the engine with libFuzzer, guided by the engine's own branches, under the sanitizers. See README.md.
+#   run.sh [--seconds N] [--seed S]   for N seconds (60) with seed S (1); the last line has the figures
+#   run.sh --replay FILE              plays a kept input and prints its calls: process, function, count, image, A, H
+#   run.sh --coverage                 how much of the engine's code the corpus reaches
+#   run.sh --selftest                 bad engines in place of the good one: each has to be found
+# Exit status: 0 if all is well, 1 if the engine does wrong or a bad one was not found, 2 for wrong use.
+set -euo pipefail
+here=$(cd "$(dirname "${BASH_SOURCE[0]}")" && pwd -P)
+# shellcheck source=../host/kit.sh
+. "$here/../host/kit.sh"
+work=$root/target/fuzz
+clang=${FUZZ_CLANG:-clang}
+sanitizers=("-fsanitize=address,undefined" -fno-sanitize-recover=all)
+seconds=60 seed=1 mode=fuzz replayed=
+export ASAN_OPTIONS=quarantine_size_mb=8:detect_leaks=0
+options=(-max_len=6144 -timeout=20 -detect_leaks=0 -print_final_stats=1)
+
+usage() {
+    sed -n '3,6s/^# *//p' "${BASH_SOURCE[0]}" >&2
+    exit 2
+}
+
+read_words() {
+    while [ $# -gt 0 ]; do
+        case $1 in
+        --seconds) seconds=${2:-} ;;
+        --seed) seed=${2:-} ;;
+        --replay) mode=replay replayed=${2:-} ;;
+        --coverage | --selftest) mode=${1#--} ;;
+        *) usage ;;
+        esac
+        case $1 in --seconds | --seed | --replay) shift ;; esac
+        [ $# -eq 0 ] || shift
+    done
+    [[ $seconds =~ ^[0-9]+$ && $seed =~ ^[0-9]+$ ]] || usage
+    if [ "$mode" = replay ] && [ ! -f "$replayed" ]; then usage; fi
+}
+
+# ---- Building ----
+
+system_clang() {
+    "$clang" -std=c99 -O1 -g "${warnings[@]}" "${sanitizers[@]}" -I "$root/include" -I "$root/bench" "$@"
+}
+
+compile() { # OBJECT WORDS..
+    local object=$1
+    shift
+    system_clang -c "$@" -o "$work/$object"
+}
+
+link() { # PROGRAM OBJECTS..
+    local program=$1
+    shift
+    (cd "$work" && "$clang" -fsanitize=fuzzer "${sanitizers[@]}" "$@" mutate.o plain.o -o "$program")
+}
+
+# The engine for this processor, with libFuzzer's counters and AddressSanitizer in its own code.
+compile_engine() { # LEVEL
+    "$own/toolchain/bin/clang" --target="$(uname -m)-unknown-linux-gnu" --no-default-config -Wno-override-module \
+        "-O$1" -fPIC -mllvm -trap-unreachable -mllvm -no-trap-after-noreturn -fsanitize=fuzzer-no-link,address \
+        -c -x ir "$work/engine.ll" -o "$work/engine$1.o"
+}
+
+take_engine() {
+    make_native
+    sed -E 's/^(attributes #[0-9]+ = \{)/\1 sanitize_address/' "$out/native/engine.ll" >"$work/engine.ll"
+    compile_engine 1
+}
+
+no_libfuzzer() {
+    echo "no libFuzzer: install clang and its runtime, on Debian the packages clang and libclang-rt-14-dev" >&2
+    exit 2
+}
+
+build() {
+    rm -rf "$work/seeds"
+    mkdir -p "$work/seeds" "$work/corpus" "$work/crashes"
+    command -v "$clang" >/dev/null || no_libfuzzer
+    compile fuzz.o "$here/fuzz.c"
+    compile mutate.o "$here/mutate.c"
+    compile plain.o "$root/bench/plain.c"
+    compile stub.o "$root/tests/pipe/stub.c"
+    link stub fuzz.o stub.o 2>"$work/log" || no_libfuzzer
+    system_clang "$here/seeds.c" -o "$work/make-seeds"
+    "$work/make-seeds" "$work/seeds"
+    take_engine
+}
+
+# ---- Running ----
+
+logged() { sed -n "s/$1/\\1/p" "$work/log" | tail -n 1; }
+
+print_figures() { # SECONDS CRASHES
+    sed -n '/^not met: /p; s/^met: //p' "$work/log"
+    echo "fuzz: $1 s, $(logged '^stat::number_of_executed_units: *\(.*\)') inputs," \
+        "$(logged '^stat::average_exec_per_sec: *\(.*\)') a second, $(logged '.* cov: \([0-9]*\) .*') of" \
+        "$(logged '.*Loaded 1 modules *(\([0-9]*\) .*') edges of the engine," \
+        "corpus $(find "$work/corpus" -type f | wc -l), crashes $2"
+}
+
+fuzz() {
+    local crashes=0 began=$SECONDS
+    link fuzz fuzz.o engine1.o
+    "$work/fuzz" "${options[@]}" -artifact_prefix="$work/crashes/" -seed="$seed" -max_total_time="$seconds" \
+        "$work/corpus" "$work/seeds" >"$work/log" 2>&1 || crashes=1
+    if [ "$crashes" -ne 0 ]; then
+        grep -E -m 1 -A 12 'WRONG|ERROR' "$work/log" || tail -n 20 "$work/log"
+        grep '^artifact_prefix' "$work/log" || true
+    fi
+    print_figures $((SECONDS - began)) "$crashes"
+    return "$crashes"
+}
+
+replay() {
+    local status=0
+    link fuzz fuzz.o engine1.o
+    FUZZ_TELL=1 "$work/fuzz" -detect_leaks=0 "$replayed" >"$work/log" 2>&1 || status=1
+    grep -E '^[0-9]+( [0-9]+){3}|WRONG|ERROR' "$work/log" || true
+    return "$status"
+}
+
+# The functions as they were written, before the compiler joins them. The counters have eight bits: an edge that every
+# input passes a multiple of 256 times is not seen.
+coverage() {
+    compile_engine 0
+    link coverage fuzz.o engine0.o
+    "$work/coverage" "${options[@]}" -runs=0 -print_coverage=1 "$work/corpus" "$work/seeds" >"$work/log" 2>&1
+    sed -n 's/.*COVERED_FUNC: hits: [0-9]* edges: \([0-9]*\).\([0-9]*\) \([^ ]*\).*/\1 \2 \3/p' "$work/log" | awk '
+        $1 < $2 { print "not all reached: " $3 ", " $1 " of " $2 " edges" }
+        { reached += $1; all += $2; functions += $1 > 0 }
+        END { print "coverage: " functions " of " NR " functions, " reached " of " all " edges" }'
+}
+
+finds() { # WHAT OBJECTS..
+    local what=$1 began=$SECONDS seen
+    shift
+    rm -rf "$work/bad"
+    mkdir "$work/bad"
+    link bad/fuzz "$@"
+    "$work/bad/fuzz" "${options[@]}" -artifact_prefix="$work/bad/" -seed="$seed" -max_total_time=120 \
+        "$work/bad" "$work/seeds" >"$work/log" 2>&1 || true
+    seen=$(grep -E -o -m 1 'WRONG: .*|ERROR: (AddressSanitizer|libFuzzer): [a-z -]*' "$work/log") || {
+        echo "an engine that $what: NOT FOUND"
+        return 1
+    }
+    echo "an engine that $what: found in $((SECONDS - began)) s: $seen"
+}
+
+selftest() {
+    local stubs=("refuses all" "accepts all" "writes before the FCB" "writes after the image" crashes "spoils images")
+    local faults=("writes at a refusal" "leaves locks" "fills no zeros" "locks 15 of 16" "has 4/0 for 6/0" "overreads")
+    local n
+    for n in "${!stubs[@]}"; do
+        compile bad.o -DSTUB=$((n + 1)) "$root/tests/pipe/stub.c"
+        finds "${stubs[n]}" fuzz.o bad.o
+    done
+    compile bad-fuzz.o -Dmpm_call=spoiled_call "$here/fuzz.c"
+    for n in "${!faults[@]}"; do
+        compile bad.o -DSPOILED=$((n + 1)) "$here/spoiled.c"
+        finds "${faults[n]}" bad-fuzz.o bad.o engine1.o
+    done
+}
+
+read_words "$@"
+build
+"$mode"

@@ -1,0 +1,14 @@
+#!/usr/bin/env bash
+# Compares the engine, built for this machine's own processor and linked into the second program, with it: millions of
+# calls, the answer and every byte of the four buffers.
+# linked.sh [COMPARE OPTIONS]: a minute with seed 1 unless said, as in `tests/linked.sh --seed 7 --seconds 600`.
+set -euo pipefail
+here=$(cd "$(dirname "${BASH_SOURCE[0]}")" && pwd -P)
+# shellcheck source=../host/kit.sh
+. "$here/../host/kit.sh"
+[ $# -gt 0 ] || set -- --seed 1 --seconds 60
+
+make_native
+MPM_ARCHIVE=$native cargo build --quiet --release --offline -j2 --features linked \
+    --manifest-path "$here/reference/Cargo.toml" --target-dir "$root/target/linked"
+"$root/target/linked/release/compare" --linked "$@" --failures "$root/target/failures"
