@@ -1,7 +1,7 @@
 #!/usr/bin/env bash
 # run.sh [--docs] [ROUNDS]: times the engine, its plain C version and the reference, all built for this machine's own
 # processor, on the same books in one run. Writes figures.md, rows.csv and plot.svg to target/bench and prints the summary.
-# --docs: puts the figures into docs/PERFORMANCE.md and the plot beside it.
+# --docs: puts the figures into docs/PERFORMANCE.md, the plot and all rows beside it.
 # run.sh --agree: times nothing, only compares what the three answer and leave.
 set -euo pipefail
 here=$(cd "$(dirname "${BASH_SOURCE[0]}")" && pwd -P)
@@ -40,6 +40,7 @@ put_into_docs() {
         /^<!-- figures -->$/ { off = 1; while ((getline line < figures) > 0) print line }' "$docs" >"$work/docs.md"
     cp "$work/docs.md" "$docs"
     cp "$work/plot.svg" "$root/docs/performance.svg"
+    cp "$work/rows.csv" "$root/docs/performance.csv"
 }
 
 into_docs=

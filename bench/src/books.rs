@@ -226,10 +226,16 @@ fn dma(function: u32, kind: Kind, book: &Book, name: &[u8; 11]) -> Vec<u8> {
         dma[128..].copy_from_slice(&record);
     }
     if function == 42 || function == 43 {
-        dma[0] = CALLER; // the place of the caller's open: 0 in the short list, 1 in the full one
-        if !kind.is_list_full() {
-            dma[0] = 0;
-        }
+        dma[0] = file_id(kind);
     }
     dma
+}
+
+/// The place of the caller's open: the short list begins with process 1, the full one with process 0.
+fn file_id(kind: Kind) -> u8 {
+    if kind.is_list_full() {
+        CALLER
+    } else {
+        CALLER - 1
+    }
 }

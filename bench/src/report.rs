@@ -120,17 +120,22 @@ fn table(rows: &[Row], kind: Kind) -> String {
     text
 }
 
+/// Every book, size and call, with the engine's time beside plain C's and the reference's beside the engine's.
 pub fn csv(rows: &[Row]) -> String {
-    let mut text = String::from("book,n,function,A,H,engine ns,plain C ns,reference ns,stack bytes\n");
+    let mut text = String::from(
+        "book,n,function,A,H,engine ns,plain C ns,reference ns,engine / C,reference / engine,stack bytes\n",
+    );
     for row in rows {
         let (a, h) = (row.answer % 256, row.answer / 256);
         let [engine, plain, reference] = row.ns;
         let _ = writeln!(
             text,
-            "{},{},{},{a},{h},{engine:.0},{plain:.0},{reference:.0},{}",
+            "{},{},{},{a},{h},{engine:.0},{plain:.0},{reference:.0},{:.2},{:.2},{}",
             row.kind.title(),
             row.blocks,
             row.function,
+            ratio(row),
+            reference / engine,
             row.stack
         );
     }

@@ -101,7 +101,7 @@ fn over_limit(p: u8, l: LockList, n: u32) -> bool
 
 // There are fewer empty places than records not yet held.
 fn too_few_places(p: u8, l: LockList, f: File, r: u32, n: u32) -> bool
-    requires { ⌜ (l .capacity ≤ 64) × (r + n < 4294967296) ⌝ }
+    requires { ⌜ (l .capacity ≤ 64) × (n ≤ 16) ⌝ }
     ensures { λ t. ⌜ t ≡ ltb (freePlaces l) (count (isNew l p f r) n) ⌝ }
 {
     l.free_places() < l.count_new(p, f, r, n)
@@ -109,7 +109,7 @@ fn too_few_places(p: u8, l: LockList, f: File, r: u32, n: u32) -> bool
 
 // The code of the first refusal to take the run's records, or 0.
 pub fn not_to_take(p: u8, l: LockList, f: File, r: u32, n: u32) -> u32
-    requires { ⌜ (l .capacity ≤ 64) × (n ≤ 16) × (r + n < 4294967296) ⌝ }
+    requires { ⌜ (l .capacity ≤ 64) × (n ≤ 16) ⌝ }
     ensures { λ c. ⌜ c ≡ firstOf (rowsTake p l f r n) ⌝ }
 {
     if l.any_others(p, f, r, n) {

@@ -6,6 +6,7 @@ pub mod Look
 pub mod Ends
 pub mod Room
 pub mod Lists
+pub mod Runs
 pub mod Items
 pub mod SoundList
 pub mod Frames

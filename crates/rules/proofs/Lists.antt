@@ -15,13 +15,12 @@ use Rattle.words.specs.Lists.{turns}
 use Rattle.words.proofs.Tests.{either, all-at, any-none, any-found, and-fst, and-snd}
 use Rattle.words.proofs.Lists.{mapTo, mapTo-more, mapTo-all, length-mapped, turns-none, turns-more, turns-ends}
 use Rattle.words.proofs.Items.{total, total-ext, total-both, total-one, map-ext}
-use Rattle.words.proofs.Sets.{choices, anys, lowests, any-goes, is-no, not-of-true, not-of-false, lowest-stops, lowest-ends, count-none, count-more, count-ends}
+use Rattle.words.proofs.Sets.{choices, lowests, any-goes, is-no, lowest-stops, lowest-ends}
 use Rattle.rules.specs.declared.file.File.{File}
 use Rattle.rules.specs.declared.item.Item.{Item}
 use Rattle.rules.specs.declared.list.LockList.{LockList}
-use Rattle.rules.specs.Locks.{blank, emptyPlace, itemAt, withItems, freshLock, isOthersLock, lockedByOther, isOwnLock, held, isEmptyAt, isKindBy, isKindByAt, opensBy, locksBy, freePlace, goodItem, goodPlace, isLimit, soundLocks}
+use Rattle.rules.specs.Locks.{blank, emptyPlace, itemAt, withItems, freshLock, isOwnLock, held, isEmptyAt, isKindBy, isKindByAt, opensBy, locksBy, freePlace, goodItem, goodPlace, isLimit, soundLocks}
 use Rattle.rules.specs.Effects.{placed, isOfFile, unlessOfFile, closed, isInRun, unlessInRun, unlockedRun, unlessBy, terminated, lockedAt}
-use Rattle.rules.specs.Codes.{isOthers, isNew}
 
 -- ---- a number in a run of n from r on, told without adding
 
@@ -98,49 +97,21 @@ placed-none it l at h n k =
 
 pub ruleset placings = (needs, length-mapped, placed-at, placed-none)
 
--- ---- a run's records one after the other: number is that of record k, whose locks are looked for up to place i
+-- ---- a run's records one after the other: number is that of record k, whose lock is looked for up to place i
 
 module _ (l : LockList) (p : ℕ) (f : File) (r k i number : ℕ) (e : number ≡ r + k) where
-  pub others-none : any (isOthersLock l p f number) i ≡ false → 64 ≤ i → i ≤ 64 → isOthers l p f r k ≡ false
-  unfolding isOthers lockedByOther
-  others-none h g m = let q : i ≡ 64 = omega arith in rw (← e) (rw q at h)
+  pub run-held : (t : Bool) (l₀ : LockList) (j : ℕ) → i < 64 → t ≡ true → k ≡ j → l ≡ turns (lockedAt p f r) j l₀ → t ≡ isOwnLock l p f number i → l ≡ turns (lockedAt p f r) (k + 1) l₀
+  unfolding lockedAt held _if_else_
+  run-held t l₀ j m y q c h =
+      let w : held l p f (r + k) ≡ true = rw (← e) (any-found (isOwnLock l p f number) 64 i m (sym h ∙ y)) in
+      turns-more (lockedAt p f r) k l₀ l l (rw q c) (rw w)
 
-  module _ (t : Bool) (m : i < 64) (y : t ≡ true) where
-    pub others-some : t ≡ isOthersLock l p f number i → isOthers l p f r k ≡ true
-    unfolding isOthers lockedByOther
-    others-some h = rw (← e) (any-found (isOthersLock l p f number) 64 i m (sym h ∙ y))
-
-    held-some : t ≡ isOwnLock l p f number i → held l p f (r + k) ≡ true
-    unfolding held
-    held-some h = rw (← e) (any-found (isOwnLock l p f number) 64 i m (sym h ∙ y))
-
-    pub new-held : (found : ℕ) → found ≡ count (isNew l p f r) k → t ≡ isOwnLock l p f number i → found ≡ count (isNew l p f r) (k + 1)
-    unfolding isNew _if_else_
-    new-held found c h =
-        let z : found ≡ found + 0 = omega arith in
-        z ∙ count-more (isNew l p f r) k found 0 false c (sym (not-of-true _ (held-some h))) refl
-
-    pub run-held : (l₀ : LockList) (j : ℕ) → k ≡ j → l ≡ turns (lockedAt p f r) j l₀ → t ≡ isOwnLock l p f number i → l ≡ turns (lockedAt p f r) (k + 1) l₀
-    unfolding lockedAt _if_else_
-    run-held l₀ j q c h = turns-more (lockedAt p f r) k l₀ l l (rw q c) (rw (held-some h))
-
-  module _ (h : any (isOwnLock l p f number) i ≡ false) (g : 64 ≤ i) (m : i ≤ 64) where
-    held-none : held l p f (r + k) ≡ false
-    unfolding held
-    held-none = let q : i ≡ 64 = omega arith in rw (← e) (rw q at h)
-
-    pub new-more : (found : ℕ) → found ≡ count (isNew l p f r) k → found + 1 ≡ count (isNew l p f r) (k + 1)
-    unfolding isNew _if_else_
-    new-more found c = count-more (isNew l p f r) k found 1 true c (sym (not-of-false _ held-none)) refl
-
-    pub run-more : (l₀ now : LockList) (x : Item) (j : ℕ) → k ≡ j → l ≡ turns (lockedAt p f r) j l₀ → x ≡ freshLock p (f .name) number → now ≡ placed x l → now ≡ turns (lockedAt p f r) (k + 1) l₀
-    unfolding lockedAt _if_else_
-    run-more l₀ now x j q c y z =
-        turns-more (lockedAt p f r) k l₀ l now (rw q c) (z ∙ ap (λ (it : Item). placed it l) (y ∙ ap (freshLock p (f .name)) e) ∙ rw held-none)
-
-pub ruleset others = (anys, others-none, others-some)
-
-pub ruleset news = (needs, any-none, any-goes, is-no, count-none, count-ends, new-held, new-more)
+  pub run-more : (l₀ now : LockList) (x : Item) (j : ℕ) → any (isOwnLock l p f number) i ≡ false → 64 ≤ i → i ≤ 64 → k ≡ j → l ≡ turns (lockedAt p f r) j l₀ → x ≡ freshLock p (f .name) number → now ≡ placed x l → now ≡ turns (lockedAt p f r) (k + 1) l₀
+  unfolding lockedAt held _if_else_
+  run-more l₀ now x j h g m q c y z =
+      let v : i ≡ 64 = omega arith in
+      let w : held l p f (r + k) ≡ false = rw (← e) (rw v at h) in
+      turns-more (lockedAt p f r) k l₀ l now (rw q c) (z ∙ ap (λ (it : Item). placed it l) (y ∙ ap (freshLock p (f .name)) e) ∙ rw w)
 
 pub ruleset taking = (needs, any-none, any-goes, is-no, turns-none, turns-ends, run-held, run-more)
 

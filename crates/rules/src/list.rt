@@ -223,46 +223,53 @@ impl LockList {
 
     // Another process has locked one of the n records from r on.
     pub fn any_others(self, p: u8, f: File, r: u32, n: u32) -> bool
-        requires { ⌜ r + n < 4294967296 ⌝ }
         ensures { λ t. ⌜ t ≡ any (isOthers self p f r) n ⌝ }
     {
         let users = self.users;
-        let mut k = 0;
-        while k < n {
-            let number = r + k;
-            let mut i = 0;
-            while i < 64 {
-                let it = self.items[i];
-                if it.is_others_lock(p, f, number, users) {
-                    return true;
-                }
-                i += 1;
+        let mut i = 0;
+        while i < 64 {
+            let it = self.items[i];
+            let number = it.number;
+            i += 1;
+            if number < r {
+                continue;
             }
-            k += 1;
+            if n <= number - r {
+                continue;
+            }
+            if it.is_others_lock(p, f, number, users) {
+                return true;
+            }
         }
         false
     }
 
-    // How many of the n records from r on the process does not hold.
+    // How many of the n records from r on the process does not hold: those it holds are marked first.
     pub fn count_new(self, p: u8, f: File, r: u32, n: u32) -> usize
-        requires { ⌜ r + n < 4294967296 ⌝ }
+        requires { ⌜ n ≤ 16 ⌝ }
         ensures { λ t. ⌜ (t ≡ count (isNew self p f r) n) × (t ≤ n) ⌝ }
     {
         let users = self.users;
+        let mut mine = [false; 16];
+        let mut i = 0;
+        while i < 64 {
+            let it = self.items[i];
+            let number = it.number;
+            i += 1;
+            if number < r {
+                continue;
+            }
+            if n <= number - r {
+                continue;
+            }
+            if it.is_own_lock(p, f, number, users) {
+                mine[(number - r) as usize] = true;
+            }
+        }
         let mut found = 0;
         let mut k = 0;
-        'records: while k < n {
-            let number = r + k;
-            let mut i = 0;
-            while i < 64 {
-                let it = self.items[i];
-                if it.is_own_lock(p, f, number, users) {
-                    k += 1;
-                    continue 'records;
-                }
-                i += 1;
-            }
-            found += 1;
+        while k < n {
+            found += one_if(!mine[k as usize]);
             k += 1;
         }
         found
