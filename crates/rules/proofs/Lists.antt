@@ -106,14 +106,22 @@ module _ (l : LockList) (p : ℕ) (f : File) (r k i number : ℕ) (e : number �
       let w : held l p f (r + k) ≡ true = rw (← e) (any-found (isOwnLock l p f number) 64 i m (sym h ∙ y)) in
       turns-more (lockedAt p f r) k l₀ l l (rw q c) (rw w)
 
-  pub run-more : (l₀ now : LockList) (x : Item) (j : ℕ) → any (isOwnLock l p f number) i ≡ false → 64 ≤ i → i ≤ 64 → k ≡ j → l ≡ turns (lockedAt p f r) j l₀ → x ≡ freshLock p (f .name) number → now ≡ placed x l → now ≡ turns (lockedAt p f r) (k + 1) l₀
-  unfolding lockedAt held _if_else_
-  run-more l₀ now x j h g m q c y z =
-      let v : i ≡ 64 = omega arith in
-      let w : held l p f (r + k) ≡ false = rw (← e) (rw v at h) in
-      turns-more (lockedAt p f r) k l₀ l now (rw q c) (z ∙ ap (λ (it : Item). placed it l) (y ∙ ap (freshLock p (f .name)) e) ∙ rw w)
+  module _ (l₀ : LockList) (at j : ℕ) (h : any (isOwnLock l p f number) i ≡ false) (g : 64 ≤ i) (m : i ≤ 64) (q : k ≡ j) (c : l ≡ turns (lockedAt p f r) j l₀) (free : at ≡ freePlace l) where
+    placed-now : placed (freshLock p (f .name) number) l ≡ turns (lockedAt p f r) (k + 1) l₀
+    unfolding lockedAt held _if_else_
+    placed-now =
+        let v : i ≡ 64 = omega arith in
+        let w : held l p f (r + k) ≡ false = rw (← e) (rw v at h) in
+        turns-more (lockedAt p f r) k l₀ l _ (rw q c) (ap (λ (x : ℕ). placed (freshLock p (f .name) x) l) e ∙ rw w)
 
-pub ruleset taking = (needs, any-none, any-goes, is-no, turns-none, turns-ends, run-held, run-more)
+    pub run-more : (x : Item) → x ≡ freshLock p (f .name) number → withItems l (set (l .items) at x) ≡ turns (lockedAt p f r) (k + 1) l₀
+    run-more x y = ap (λ (it : Item). withItems l (set (l .items) at it)) y ∙ placed-at _ l at free ∙ placed-now
+
+    -- no place for it
+    pub run-full : length (l .items) ≡ 64 → 64 ≤ at → l ≡ turns (lockedAt p f r) (k + 1) l₀
+    run-full n z = placed-none (freshLock p (f .name) number) l at free n z ∙ placed-now
+
+pub ruleset taking = (needs, any-none, any-goes, is-no, turns-none, turns-ends, length-mapped, run-held, run-more, run-full)
 
 -- ---- items gone: two steps in either order, and one step twice
 

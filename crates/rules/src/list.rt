@@ -295,8 +295,12 @@ impl LockList {
                 }
                 i += 1;
             }
-            l = l.place(Item::lock(p, name, number));
+            let at = l.free_place();
             k += 1;
+            if 64 <= at {
+                continue;
+            }
+            l.items[at] = Item::lock(p, name, number);
         }
         l
     }

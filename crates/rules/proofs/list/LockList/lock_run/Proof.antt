@@ -1,6 +1,7 @@
 use Prim.Native.Nat.{_+_, _-_, _≤_, _<_}
 use mathlib.Core.Path.{_≡_}
 use mathlib.Core.Bool.{false}
+use lib.ListN.{length}
 use Rattle.words.specs.Tests.{any}
 use Rattle.words.specs.Lists.{turns}
 use Rattle.rules.specs.Locks.{locksRecordAt, isOwnLock}
@@ -17,7 +18,7 @@ abbrev μ-loop : tie.MeasureT-loop
 μ-loop p f r n name l k₀ users number i₀ k i = 64 - i
 
 abbrev Inv-records : tie.InvT-records
-Inv-records p f r n name l₀ k₀ l k = (k ≤ n) × (l ≡ turns (lockedAt p f r) k l₀)
+Inv-records p f r n name l₀ k₀ l k = (k ≤ n) × (length (l .items) ≡ 64) × (l ≡ turns (lockedAt p f r) k l₀)
 
 abbrev μ-records : tie.MeasureT-records
 μ-records p f r n name l₀ k₀ l k = n - k
@@ -27,39 +28,47 @@ unfolding lockedRun isOwnLock locksRecordAt
 lock-run-spec =
     tie.close
     (tie.spec Inv-loop μ-loop Inv-records μ-records
-    -- records-holds src/list.rt:279:9
+    -- records-holds src/list.rt:286:9
     (λ c. search taking)
-    -- add-number src/list.rt:281:26
+    -- add-number src/list.rt:288:26
     (λ c. search taking)
-    -- loop-holds src/list.rt:283:13
+    -- loop-holds src/list.rt:290:13
     (λ c. search taking)
-    -- mul-it src/list.rt:284:26
+    -- mul-it src/list.rt:291:26
     (λ c. search taking)
-    -- element-copy-out-it src/list.rt:284:26
+    -- element-copy-out-it src/list.rt:291:26
     (λ c. search taking)
-    -- is-own-lock-requires src/list.rt:285:20
+    -- is-own-lock-requires src/list.rt:292:20
     (λ c κs. search taking)
-    -- add-k src/list.rt:286:21
+    -- add-k src/list.rt:293:21
     (λ c. search taking)
-    -- records-less src/list.rt:279:9
+    -- records-less src/list.rt:286:9
     (λ c. search taking)
-    -- records-again src/list.rt:279:9
+    -- records-again src/list.rt:286:9
     (λ c. search taking)
-    -- add-i src/list.rt:289:17
+    -- add-i src/list.rt:296:17
     (λ c. search taking)
-    -- loop-less src/list.rt:283:13
+    -- loop-less src/list.rt:290:13
     (λ c. search taking)
-    -- loop-again src/list.rt:283:13
+    -- loop-again src/list.rt:290:13
     (λ c. search taking)
-    -- lock-requires src/list.rt:291:25
+    -- free-place-requires src/list.rt:298:17
     (λ c κs. search taking)
-    -- place-requires src/list.rt:291:17
+    -- add-k-2 src/list.rt:299:13
+    (λ c. search taking)
+    -- records-less-2 src/list.rt:286:9
+    (λ c. search taking)
+    -- records-again-2 src/list.rt:286:9
+    (λ c. search taking)
+    -- lock-requires src/list.rt:303:27
     (λ c κs. search taking)
-    -- add-k-2 src/list.rt:292:13
+    -- mul-t23 src/list.rt:303:13
     (λ c. search taking)
-    -- records-less-2 src/list.rt:279:9
+    -- element-set-from-l src/list.rt:303:13
     (λ c. search taking)
-    -- records-again-2 src/list.rt:279:9
+    -- records-less-3 src/list.rt:286:9
     (λ c. search taking)
-    -- returns src/list.rt:272:5
+    -- records-again-3 src/list.rt:286:9
+    (λ c. (search taking, search taking, search taking))
+    -- returns src/list.rt:279:5
     (λ c. search taking))
