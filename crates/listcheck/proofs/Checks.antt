@@ -5,13 +5,13 @@ use mathlib.Core.Bool.{Bool, true, false, not, true≢false}
 use mathlib.Core.List.{List}
 use mathlib.Core.Logic.{⊎-elim}
 use native.Mathlib.Omega.{arith}
-use lib.ListN.{length, getD, drop}
-use lib.Seq.{getD-take, getD-drop}
+use lib.ListN.{length, getD}
 use lib.Dec.{leb, eqb}
 use borrow.Author.Needs.{needs}
 use borrow.Author.Tests.{lt-ltb, le-ltb, lt-leb, eq-eqb, ne-eqb, eqb-true}
 use Rattle.words.specs.Tests.{_and_, _if_else_, all, any, lowest}
 use Rattle.words.specs.Bytes.{byte, part}
+use Rattle.words.proofs.Bytes.{part-byte}
 use Rattle.words.proofs.Tests.{either, all-none, all-more, any-none, any-found, any-never}
 use Rattle.words.proofs.Sets.{alls, answers, choices, and-first, and-then, and-left, or-none, not-of-false, not-of-true, not-yes, any-goes, all-stops, all-ends, lowest-stops, lowest-ends}
 use Rattle.rules.specs.declared.file.File.{File}
@@ -51,7 +51,7 @@ pub ruleset found = (choices, missing-as, block-as)
 -- ---- the zero in each place
 
 zero-byte : (s : List ℕ) (i : ℕ) → byte (part (placeAt i) 20 s) 15 ≡ getD s (19 + 20 * i + 15) 0
-zero-byte s i = getD-take 20 (drop (placeAt i) s) 15 0 (omega arith) ∙ getD-drop (placeAt i) s 15 0
+zero-byte s i = part-byte s (placeAt i) 20 15 (omega arith)
 
 pub zero-yes : (s : List ℕ) (i : ℕ) → getD s (19 + 20 * i + 15) 0 ≡ 0 → zeroAt s i ≡ true
 unfolding zeroAt

@@ -14,7 +14,7 @@ use borrow.Author.Tests.{lt-leb, le-leb, eq-eqb, ne-eqb, eqb-false}
 use Rattle.words.specs.Tests.{_and_, _if_else_, all, count}
 use Rattle.words.proofs.Tests.{equal?, all-ext}
 use Rattle.words.proofs.Counts.{count-within}
-use Rattle.words.proofs.Sets.{and-left, and-right, and-both, and-first, and-then, answers, alls}
+use Rattle.words.proofs.Sets.{and-left, and-last, and-right, and-both, and-first, and-then, answers, alls}
 use Rattle.rules.specs.declared.list.LockList.{LockList}
 use Rattle.rules.specs.Locks.{itemAt, isKindBy, isKindByAt, opensBy, locksBy, keepsLimits}
 use Rattle.listcheck.specs.Check.{Tally, atMost, keepsKind}
@@ -24,11 +24,6 @@ module _ (l : LockList) (kind : ℕ) where
   pub tally-none : Tally l kind (replicate 16 0) 0
   unfolding count
   tally-none = record { long = refl; each = λ p h. getD-replicate 16 p 0 0 h }
-
-  and-false : (b : Bool) → (b and false) ≡ false
-  unfolding _and_
-  and-false true = refl
-  and-false false = refl
 
   -- one place more, of which a process has an item or not
   skip : (p i : ℕ) → isKindByAt l kind p i ≡ false → count (isKindByAt l kind p) (i + 1) ≡ count (isKindByAt l kind p) i
@@ -58,7 +53,7 @@ module _ (l : LockList) (kind : ℕ) where
       long = t .long;
       each = λ p m.
           let y : eqb (itemAt l i .process) p ≡ false = ne-eqb (itemAt l i .process) p (λ q. absurd (omega arith)) in
-          t .each p m ∙ sym (skip p i (rw y (and-false _)));
+          t .each p m ∙ sym (skip p i (and-last _ _ y));
     }
 
     -- .. of that kind and of a process

@@ -7,23 +7,20 @@ use lib.ListN.{length, take, drop, set}
 use lib.Seq.{take-all}
 use borrow.Author.Needs.{needs}
 use Rattle.words.specs.Lists.{tab, flat}
-use Rattle.words.specs.Bytes.{byte, byteFrom, put, le}
+use Rattle.words.specs.Bytes.{byte, byteFrom, put}
 use Rattle.words.proofs.Lists.{length-mapped, filled, filled-turn, filled-all}
 use Rattle.words.proofs.Bytes.{length-put}
 use Rattle.words.proofs.Items.{take-put, flat-more}
 use Rattle.rules.specs.declared.item.Item.{Item}
 use Rattle.rules.specs.declared.list.LockList.{LockList}
 use Rattle.rules.specs.Locks.{blank, itemAt, withItems, itemFrom, placeOf, packItem, pack, unpack}
+use Rattle.rules.proofs.Packing.{packed-long}
 use Rattle.locklist.specs.Heads.{heads}
 
 -- the head and the first i places of s are those of the list
 pub record Packed (l : LockList) (s : List ℕ) (i : ℕ) : Type 0 where
   pub long : length s ≡ 1299
   pub so : take (19 + 20 * i) s ≡ heads l ++ flat packItem (take i (l .items))
-
-item-long : (it : Item) → length (packItem it) ≡ 20
-unfolding packItem tab le
-item-long it = refl
 
 heads-long : (l : LockList) → length (heads l) ≡ 19
 unfolding heads tab
@@ -43,7 +40,7 @@ packed-none l s t h n e p =
 
 pub packed-more : (l : LockList) (s t b : List ℕ) (i : ℕ) → length (l .items) ≡ 64 → i < 64 → Packed l s i → b ≡ packItem (itemAt l i) → t ≡ put (19 + 20 * i) b s → Packed l t (i + 1)
 packed-more l s t b i m h g e p =
-    let k : length b ≡ 20 = ap length e ∙ item-long (itemAt l i) in
+    let k : length b ≡ 20 = ap length e ∙ packed-long (itemAt l i) in
     let z : 19 + 20 * i + length b ≤ length s = omega (arith, g .long) in
     let y : 19 + 20 * (i + 1) ≡ 19 + 20 * i + length b = omega arith in
     record {

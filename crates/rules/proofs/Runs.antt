@@ -9,32 +9,43 @@ use lib.ListN.{length, getD, set, replicate, length-set, getD-replicate}
 use lib.Seq.{getD-set-same, getD-set-other}
 use borrow.Author.Needs.{needs}
 use borrow.Author.Tests.{ne-eqb}
-use Rattle.words.specs.Tests.{_and_, any, count}
+use Rattle.words.specs.Tests.{any, count}
 use Rattle.words.proofs.Tests.{equal?, any-none, any-skip, any-here, any-found, any-never}
 use Rattle.words.proofs.Counts.{count-ext}
-use Rattle.words.proofs.Sets.{and-left, any-goes, any-stops}
+use Rattle.words.proofs.Sets.{and-left, and-last, any-goes, any-stops}
 use Rattle.rules.specs.declared.file.File.{File}
 use Rattle.rules.specs.declared.list.LockList.{LockList}
 use Rattle.rules.specs.Locks.{itemAt, locksRecord, locksRecordAt, isOthersLock, lockedByOther, isOwnLock, held}
 use Rattle.rules.specs.Codes.{isOthers, isNew}
 
--- an item is a lock of its own record alone
-and-no : (x y : Bool) → y ≡ false → (x and y) ≡ false
-unfolding _and_
-and-no true y h = h
-and-no false y h = refl
+-- ---- an item is a lock of its own record alone
 
 record-not : (l : LockList) (f : File) (x i : ℕ) → (itemAt l i .number ≡ x → ⊥) → locksRecordAt l f x i ≡ false
 unfolding locksRecordAt locksRecord
-record-not l f x i h = and-no _ _ (and-left _ _ (ne-eqb _ _ h))
+record-not l f x i h = and-last _ _ (and-left _ _ (ne-eqb _ _ h))
 
 others-not : (l : LockList) (p : ℕ) (f : File) (x i : ℕ) → (itemAt l i .number ≡ x → ⊥) → isOthersLock l p f x i ≡ false
 unfolding isOthersLock
-others-not l p f x i h = and-no _ _ (record-not l f x i h)
+others-not l p f x i h = and-last _ _ (record-not l f x i h)
 
 own-not : (l : LockList) (p : ℕ) (f : File) (x i : ℕ) → (itemAt l i .number ≡ x → ⊥) → isOwnLock l p f x i ≡ false
 unfolding isOwnLock
-own-not l p f x i h = and-no _ _ (record-not l f x i h)
+own-not l p f x i h = and-last _ _ (record-not l f x i h)
+
+-- .. so of a place whose record is below the run, past it, or passes no test, no record of the run passes it
+module _ (l : LockList) (test : ℕ → ℕ → Bool) (only : (x i : ℕ) → (itemAt l i .number ≡ x → ⊥) → test x i ≡ false) (r n i : ℕ) where
+  below : itemAt l i .number < r → (k : ℕ) → k < n → test (r + k) i ≡ false
+  below h k m = only (r + k) i (λ q. absurd (omega arith))
+
+  past : r ≤ itemAt l i .number → n ≤ itemAt l i .number - r → (k : ℕ) → k < n → test (r + k) i ≡ false
+  past g h k m = only (r + k) i (λ q. absurd (omega arith))
+
+  fails : (t : Bool) → t ≡ test (itemAt l i .number) i → t ≡ false → (k : ℕ) → k < n → test (r + k) i ≡ false
+  fails t e y k m =
+      ⊎-elim
+      (λ (q : itemAt l i .number ≡ r + k). ap (λ (x : ℕ). test x i) (sym q) ∙ sym e ∙ y)
+      (λ (q : itemAt l i .number ≡ r + k → ⊥). only (r + k) i q)
+      (equal? (itemAt l i .number) (r + k))
 
 -- ---- others' locks
 
@@ -51,17 +62,13 @@ module _ (l : LockList) (p : ℕ) (f : File) (r n : ℕ) where
     next h = record { none = λ k m. any-goes (isOthersLock l p f (r + k)) i (c .none k m) (h k m) }
 
     pub clear-low : itemAt l i .number < r → Clear l p f r n (i + 1)
-    clear-low h = next (λ k m. others-not l p f (r + k) i (λ q. absurd (omega arith)))
+    clear-low h = next (below l (isOthersLock l p f) (others-not l p f) r n i h)
 
     pub clear-high : r ≤ itemAt l i .number → n ≤ itemAt l i .number - r → Clear l p f r n (i + 1)
-    clear-high g h = next (λ k m. others-not l p f (r + k) i (λ q. absurd (omega arith)))
+    clear-high g h = next (past l (isOthersLock l p f) (others-not l p f) r n i g h)
 
     pub clear-not : (t : Bool) → t ≡ isOthersLock l p f (itemAt l i .number) i → t ≡ false → Clear l p f r n (i + 1)
-    clear-not t e y =
-        next (λ k m. ⊎-elim
-        (λ (q : itemAt l i .number ≡ r + k). ap (λ (x : ℕ). isOthersLock l p f x i) (sym q) ∙ sym e ∙ y)
-        (λ (q : itemAt l i .number ≡ r + k → ⊥). others-not l p f (r + k) i q)
-        (equal? (itemAt l i .number) (r + k)))
+    clear-not t e y = next (fails l (isOthersLock l p f) (others-not l p f) r n i t e y)
 
     pub clear-ends : 64 ≤ i → i ≤ 64 → false ≡ any (isOthers l p f r) n
     unfolding isOthers lockedByOther
@@ -103,18 +110,14 @@ module _ (l : LockList) (p : ℕ) (f : File) (r n : ℕ) where
     }
 
     pub marked-low : itemAt l i .number < r → Marked l p f r n marks (i + 1)
-    marked-low h = same (λ k m. own-not l p f (r + k) i (λ q. absurd (omega arith)))
+    marked-low h = same (below l (isOwnLock l p f) (own-not l p f) r n i h)
 
     pub marked-high : r ≤ itemAt l i .number → n ≤ itemAt l i .number - r → Marked l p f r n marks (i + 1)
-    marked-high g h = same (λ k m. own-not l p f (r + k) i (λ q. absurd (omega arith)))
+    marked-high g h = same (past l (isOwnLock l p f) (own-not l p f) r n i g h)
 
     module _ (t : Bool) (e : t ≡ isOwnLock l p f (itemAt l i .number) i) where
       pub marked-not : t ≡ false → Marked l p f r n marks (i + 1)
-      marked-not y =
-          same (λ k m. ⊎-elim
-          (λ (q : itemAt l i .number ≡ r + k). ap (λ (x : ℕ). isOwnLock l p f x i) (sym q) ∙ sym e ∙ y)
-          (λ (q : itemAt l i .number ≡ r + k → ⊥). own-not l p f (r + k) i q)
-          (equal? (itemAt l i .number) (r + k)))
+      marked-not y = same (fails l (isOwnLock l p f) (own-not l p f) r n i t e y)
 
       pub marked-more : t ≡ true → n ≤ 16 → r ≤ itemAt l i .number → itemAt l i .number - r < n → Marked l p f r n (set marks (itemAt l i .number - r) true) (i + 1)
       marked-more y few g h =

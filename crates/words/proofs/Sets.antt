@@ -12,7 +12,7 @@ use lib.ListN.{length}
 use Rattle.words.specs.Tests.{_and_, _or_, _if_else_, all, any, lowest, count}
 use Rattle.words.specs.Lists.{tab}
 use Rattle.words.specs.Tables.{Row, _when_, firstOf, noneZero, onlyIf}
-use Rattle.words.proofs.Tests.{all-none, all-more, all-fails, any-none, any-skip, any-found, lowest-none, lowest-found}
+use Rattle.words.proofs.Tests.{and-false, all-none, all-more, all-fails, any-none, any-skip, any-found, lowest-none, lowest-found}
 use Rattle.words.proofs.Tables.{first-then, first-stays}
 use Rattle.words.proofs.Lists.{filled, filled-turn, filled-all, turns-none, turns-more, turns-ends}
 
@@ -140,6 +140,9 @@ and-left x y e = rw e
 pub and-right : (x y : Bool) → x ≡ true → y ≡ false → (x and y) ≡ false
 unfolding _and_
 and-right x y e h = rw e h
+
+pub and-last : (x y : Bool) → y ≡ false → (x and y) ≡ false
+and-last x y e = rw e (and-false x)
 
 pub and-both : (x y : Bool) → x ≡ true → y ≡ true → (x and y) ≡ true
 unfolding _and_

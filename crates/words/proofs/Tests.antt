@@ -62,7 +62,7 @@ unfolding _or_
 or-case true y h = refl
 or-case false y h = h refl
 
-and-false : (b : Bool) → (b and false) ≡ false
+pub and-false : (b : Bool) → (b and false) ≡ false
 unfolding _and_
 and-false true = refl
 and-false false = refl
