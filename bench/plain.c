@@ -1,5 +1,5 @@
 /* The thirteen calls in plain C: the checks and the work of the engine, step by step the same, as one would write them
-   by hand. Structs are passed by address. */
+   by hand. Structs are passed by address. A run of records has its checks made once and each extent found once. */
 #include "plain.h"
 
 #include <stdbool.h>
@@ -373,6 +373,18 @@ static bool locked_by_other(const struct job *j, uint32_t record) {
     return false;
 }
 
+/* The same of a run in one pass: a bit for each of its records, the lowest for the first. */
+static uint32_t locked_in_run(const struct job *j, uint32_t record) {
+    uint32_t locked = 0;
+    for (size_t i = 0; i < PLACES; i++) {
+        const struct item *it = &j->locks.items[i];
+        if (it->kind == LOCK && it->process != j->process && it->record >= record && it->record - record < j->count &&
+            is_on(&j->locks, it, &j->file))
+            locked |= 1u << (it->record - record);
+    }
+    return locked;
+}
+
 static bool held(const struct job *j, uint32_t record) {
     for (size_t i = 0; i < PLACES; i++) {
         const struct item *it = &j->locks.items[i];
@@ -507,25 +519,41 @@ static uint8_t *record_at(const struct job *j, size_t block, uint32_t record) {
     return j->drive.bytes + 1024 * block + 128 * (record % 8);
 }
 
-static uint32_t read_record(struct job *j) {
-    uint32_t record = record_of(j);
-    if (own_open(j) == PLACES) return MPM_NOT_OPEN;
+/* The answer where a record was refused after so many. */
+static uint32_t stopped(uint32_t refused, uint32_t done) { return refused + MPM_ANSWER(0u, 16u) * done; }
+
+/* The entry for record k of a run: that of the record before it, unless it is the first, or the first of its extent. */
+static size_t entry_in_run(const struct job *j, uint32_t record, uint32_t k, size_t before) {
+    if (k > 0 && (record + k) % 128 > 0) return before;
+    return entry_of(&j->drive, &j->file, (record + k) / 128);
+}
+
+static uint32_t read_at(const struct job *j, size_t e, uint32_t record, uint8_t *to) {
     if (record > LAST_RECORD) return MPM_PAST_END;
-    size_t e = entry_of(&j->drive, &j->file, record / 128);
     if (e == ENTRIES) return MPM_NO_EXTENT;
     size_t block = block_in(&j->drive, e, record);
     if (block == 0) return MPM_NO_BLOCK;
-    memcpy(j->dma, record_at(j, block, record), MPM_RECORD_LEN);
+    memcpy(to, record_at(j, block, record), MPM_RECORD_LEN);
     return MPM_OK;
 }
 
-/* The refusals that 34, 40 and 41 share. */
-static uint32_t may_write(const struct job *j, size_t first, uint32_t record) {
+static uint32_t read_records(struct job *j) {
+    uint32_t record = record_of(j);
+    if (own_open(j) == PLACES) return MPM_NOT_OPEN;
+    size_t e = ENTRIES;
+    for (uint32_t k = 0; k < j->count; k++) {
+        e = entry_in_run(j, record, k, e);
+        uint32_t refused = read_at(j, e, record + k, j->dma + MPM_DMA_AT(k));
+        if (refused != MPM_OK) return stopped(refused, k);
+    }
+    return MPM_OK;
+}
+
+/* The refusals that 34, 40 and 41 share and that do not depend on the record. */
+static uint32_t may_write(const struct job *j, size_t first) {
     size_t o = own_open(j);
     if (o == PLACES) return MPM_NOT_OPEN;
-    if (entry_at(&j->drive, first)[9] >= 128 || j->locks.items[o].mode == READ_ONLY) return MPM_READ_ONLY;
-    if (record > LAST_RECORD) return MPM_PAST_END;
-    return locked_by_other(j, record) ? MPM_LOCKED : MPM_OK;
+    return entry_at(&j->drive, first)[9] >= 128 || j->locks.items[o].mode == READ_ONLY ? MPM_READ_ONLY : MPM_OK;
 }
 
 static void raise_count(uint8_t *entry, uint32_t record) {
@@ -541,7 +569,7 @@ static struct spot spot_at(const struct drive *d, size_t e, uint32_t record) {
     return w;
 }
 
-static void write_at(const struct job *j, const struct spot *w, size_t first, uint32_t record, bool zeros) {
+static void fill_spot(const struct job *j, const struct spot *w, size_t first, uint32_t record, bool zeros) {
     uint8_t *entry = entry_at(&j->drive, w->entry);
     if (w->fresh) {
         memset(entry, 0, ENTRY);
@@ -553,32 +581,50 @@ static void write_at(const struct job *j, const struct spot *w, size_t first, ui
     if (w->taken) entry[16 + record % 128 / 8] = (uint8_t)w->block;
     raise_count(entry, record);
     if (zeros && w->taken) memset(j->drive.bytes + 1024 * w->block, 0, 1024);
-    memcpy(record_at(j, w->block, record), j->dma, MPM_RECORD_LEN);
 }
 
-static uint32_t write_record(struct job *j, bool zeros) {
-    uint32_t record = record_of(j);
-    size_t first = entry_of(&j->drive, &j->file, 0);
-    uint32_t refused = may_write(j, first, record);
-    if (refused != MPM_OK) return refused;
-    struct spot w = spot_at(&j->drive, entry_of(&j->drive, &j->file, record / 128), record);
+/* Writes a record that nobody else has locked. *e is its extent's entry, afterwards also where it took a new one. */
+static uint32_t write_at(const struct job *j, size_t first, size_t *e, uint32_t record, const uint8_t *from,
+                         bool zeros) {
+    struct spot w = spot_at(&j->drive, *e, record);
     if (w.entry == ENTRIES) return MPM_DIRECTORY_FULL;
     if (w.block == j->drive.blocks) return MPM_DISK_FULL;
-    write_at(j, &w, first, record, zeros);
+    fill_spot(j, &w, first, record, zeros);
+    memcpy(record_at(j, w.block, record), from, MPM_RECORD_LEN);
+    *e = w.entry;
+    return MPM_OK;
+}
+
+static uint32_t write_records(struct job *j, bool zeros) {
+    uint32_t record = record_of(j);
+    size_t first = entry_of(&j->drive, &j->file, 0);
+    uint32_t refused = may_write(j, first);
+    if (refused != MPM_OK) return refused;
+    uint32_t locked = locked_in_run(j, record);
+    size_t e = ENTRIES;
+    for (uint32_t k = 0; k < j->count; k++) {
+        if (record + k > LAST_RECORD) return stopped(MPM_PAST_END, k);
+        if (locked >> k & 1u) return stopped(MPM_LOCKED, k);
+        e = entry_in_run(j, record, k, e);
+        refused = write_at(j, first, &e, record + k, j->dma + MPM_DMA_AT(k), zeros);
+        if (refused != MPM_OK) return stopped(refused, k);
+    }
     return MPM_OK;
 }
 
 static uint32_t test_write(struct job *j) {
     uint32_t record = record_of(j);
-    uint32_t refused = may_write(j, entry_of(&j->drive, &j->file, 0), record);
+    uint32_t refused = may_write(j, entry_of(&j->drive, &j->file, 0));
     if (refused != MPM_OK) return refused;
+    if (record > LAST_RECORD) return MPM_PAST_END;
+    if (locked_by_other(j, record)) return MPM_LOCKED;
     size_t e = entry_of(&j->drive, &j->file, record / 128);
     if (e == ENTRIES) return MPM_NO_EXTENT;
     size_t block = block_in(&j->drive, e, record);
     if (block == 0) return MPM_NO_BLOCK;
     if (memcmp(j->dma, record_at(j, block, record), MPM_RECORD_LEN) != 0) return MPM_DIFFERS;
     raise_count(entry_at(&j->drive, e), record);
-    memcpy(record_at(j, block, record), j->dma + 128, MPM_RECORD_LEN);
+    memcpy(record_at(j, block, record), j->dma + MPM_DMA_NEW, MPM_RECORD_LEN);
     return MPM_OK;
 }
 
@@ -694,11 +740,11 @@ static uint32_t serve(uint32_t function, struct job *j) {
     case MPM_RENAME:
         return rename_file(j);
     case MPM_READ:
-        return read_record(j);
+        return read_records(j);
     case MPM_WRITE:
-        return write_record(j, false);
+        return write_records(j, false);
     case MPM_WRITE_ZEROS:
-        return write_record(j, true);
+        return write_records(j, true);
     case MPM_TEST_WRITE:
         return test_write(j);
     case MPM_LOCK:

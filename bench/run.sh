@@ -1,8 +1,9 @@
 #!/usr/bin/env bash
 # run.sh [--docs] [ROUNDS]: times the engine, its plain C version and the reference, all built for this machine's own
-# processor, on the same books in one run. Writes figures.md, rows.csv and plot.svg to target/bench and prints the summary.
-# --docs: puts the figures into docs/PERFORMANCE.md, the plot and all rows beside it.
-# run.sh --agree: times nothing, only compares what the three answer and leave.
+# processor, on the same books in one run; then calls for several records, beside the engine's single calls. Writes
+# figures.md, rows.csv, plot.svg, several.csv and several.svg to target/bench and prints the summary.
+# --docs: puts the figures into docs/PERFORMANCE.md, the plots and all rows beside it.
+# run.sh --agree: times nothing, only compares what the three and the engine's single calls answer and leave.
 set -euo pipefail
 here=$(cd "$(dirname "${BASH_SOURCE[0]}")" && pwd -P)
 # shellcheck source=../host/kit.sh
@@ -41,6 +42,7 @@ put_into_docs() {
     cp "$work/docs.md" "$docs"
     cp "$work/plot.svg" "$root/docs/performance.svg"
     cp "$work/rows.csv" "$root/docs/performance.csv"
+    cp "$work/several.svg" "$work/several.csv" "$root/docs"
 }
 
 into_docs=

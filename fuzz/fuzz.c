@@ -1,5 +1,6 @@
 /* The fuzz test of the engine, for libFuzzer: plays the steps of an input (steps.h) and holds every call against the
-   rules and against the plain C version. The first thing that is wrong ends it with a line that says what.
+   rules, against the plain C version and against single calls. The first thing that is wrong ends it with a line that
+   says what.
    At the end it prints which pairs of function and answer were met. With FUZZ_TELL set it prints every call. */
 #include <stdbool.h>
 #include <stdio.h>
@@ -29,11 +30,11 @@ struct call {
 
 /* ---- What the rules allow ---- */
 
-enum { ANSWERS = 14, CHANGES = 4 };
+enum { ANSWERS = 16, CHANGES = 4, AFTER_SOME = 1 << 16 };
 
 struct rule {
     uint32_t function;
-    uint32_t answers[ANSWERS]; /* 0, then the refusals; unused ones are 0 */
+    uint32_t answers[ANSWERS]; /* 0, then the refusals; unused ones are 0. AFTER: of a record with others done before */
     struct {
         int buffer;
         size_t from, to;
@@ -42,9 +43,13 @@ struct rule {
 
 #define NO_FCB MPM_OK, MPM_BAD_CALL, MPM_BAD_IMAGE, MPM_BAD_LIST
 #define ALL NO_FCB, MPM_BAD_DRIVE
+#define AFTER(answer) (AFTER_SOME + (answer))
 #define NO_RECORD MPM_NO_EXTENT, MPM_NO_BLOCK
+#define READ ALL, MPM_NOT_OPEN, MPM_PAST_END, NO_RECORD, AFTER(MPM_PAST_END), AFTER(MPM_NO_EXTENT), AFTER(MPM_NO_BLOCK)
 #define WRITE ALL, MPM_NOT_OPEN, MPM_READ_ONLY, MPM_PAST_END, MPM_LOCKED
-#define FILL WRITE, MPM_DIRECTORY_FULL, MPM_DISK_FULL
+#define FILL                                                                                                           \
+    WRITE, MPM_DIRECTORY_FULL, MPM_DISK_FULL, AFTER(MPM_PAST_END), AFTER(MPM_LOCKED), AFTER(MPM_DIRECTORY_FULL),       \
+        AFTER(MPM_DISK_FULL)
 #define PLACES {LIST, MPM_LIST_PLACES, MPM_LIST_LEN}
 #define OPENED {FCB, 12, 32}, {FCB, MPM_FCB_RECORD, MPM_FCB_LEN}, PLACES
 #define DIRECTORY {IMAGE, 0, MPM_DIRECTORY_BLOCKS * MPM_BLOCK_LEN}
@@ -56,7 +61,7 @@ static const struct rule rules[] = {
     {MPM_DELETE, {ALL, MPM_BAD_NAME, MPM_NOT_FOUND, MPM_IN_USE, MPM_READ_ONLY}, {DIRECTORY}},
     {MPM_MAKE, {ALL, MPM_BAD_NAME, MPM_EXISTS, MPM_OPEN_LIMIT, MPM_OPEN_LIST_FULL, MPM_NOT_FOUND}, {OPENED, DIRECTORY}},
     {MPM_RENAME, {ALL, MPM_BAD_NAME, MPM_NOT_FOUND, MPM_IN_USE, MPM_READ_ONLY, MPM_EXISTS}, {DIRECTORY}},
-    {MPM_READ, {ALL, MPM_NOT_OPEN, MPM_PAST_END, NO_RECORD}, {{DMA, 0, MPM_RECORD_LEN}}},
+    {MPM_READ, {READ}, {{DMA, 0, MPM_DMA_LEN}}},
     {MPM_WRITE, {FILL}, {DRIVE}},
     {MPM_WRITE_ZEROS, {FILL}, {DRIVE}},
     {MPM_TEST_WRITE, {WRITE, NO_RECORD, MPM_DIFFERS}, {DRIVE}},
@@ -76,7 +81,24 @@ static const struct rule *rule_of(uint32_t function) {
     return NULL;
 }
 
-static bool may_change(const struct rule *rule, int buffer, size_t i) {
+static bool goes_by_records(uint32_t function) {
+    return function == MPM_READ || function == MPM_WRITE || function == MPM_WRITE_ZEROS;
+}
+
+/* How many records were done; 1 for an accepted call of another function. */
+static uint32_t done_by(const struct call *c) {
+    return mpm_done(c->answer, goes_by_records(c->function) ? c->count : 1);
+}
+
+/* The answer as the rules have it. */
+static uint32_t ruled(const struct call *c) {
+    if (!goes_by_records(c->function) || c->answer == MPM_OK || done_by(c) == 0) return c->answer;
+    return AFTER(mpm_code(c->answer));
+}
+
+static bool may_change(const struct call *c, int buffer, size_t i) {
+    const struct rule *rule = rule_of(c->function);
+    if (c->function == MPM_READ && i >= MPM_DMA_AT(done_by(c))) return false;
     for (size_t k = 0; k < CHANGES; k++)
         if (rule->changes[k].buffer == buffer && i >= rule->changes[k].from && i < rule->changes[k].to) return true;
     return false;
@@ -84,7 +106,7 @@ static bool may_change(const struct rule *rule, int buffer, size_t i) {
 
 /* ---- What was met ---- */
 
-static unsigned long calls, accepted, met[RULES][ANSWERS];
+static unsigned long calls, accepted, in_part, met[RULES][ANSWERS];
 static bool telling;
 
 /* The pairs that this input met: libFuzzer keeps an input that meets a new one. */
@@ -98,9 +120,11 @@ static void print_met(void) {
             pairs++;
             seen += met[i][k] != 0;
             if (met[i][k] == 0)
-                printf("not met: %u with %u/%u\n", rules[i].function, mpm_a(answer), mpm_h(answer));
+                printf("not met: %u with %u/%u%s\n", rules[i].function, mpm_a(answer % AFTER_SOME),
+                       mpm_h(answer % AFTER_SOME), answer < AFTER_SOME ? "" : " after some records");
         }
-    printf("met: %lu calls, %lu accepted, %u of %u pairs of function and answer\n", calls, accepted, seen, pairs);
+    printf("met: %lu calls, %lu accepted, %lu done in part, %u of %u pairs of function and answer\n", calls, accepted,
+           in_part, seen, pairs);
 }
 
 static void want(bool good, const struct call *call, const char *what) {
@@ -177,8 +201,9 @@ static void check_answer(const struct call *c, const struct state *before) {
     want((c->answer == MPM_BAD_CALL) == bad, c, bad ? "255/13 is due" : "255/13 is not due");
     if (rule == NULL) return;
     size_t k = 0;
-    while (k < ANSWERS && rule->answers[k] != c->answer) k++;
+    while (k < ANSWERS && rule->answers[k] != ruled(c)) k++;
     want(k < ANSWERS, c, "the function does not have this answer");
+    want(c->answer == MPM_OK || done_by(c) < c->count || bad, c, "more records done than can be");
     met[rule - rules][k]++;
     pairs_met[rule - rules][k] = 1;
 }
@@ -194,13 +219,12 @@ static void check_image(const struct call *c, const struct state *before) {
 }
 
 static void check_changes(const struct call *c, const struct state *before, const struct state *after) {
-    const struct rule *rule = rule_of(c->function);
     for (int k = 0; k < BUFFERS; k++) {
         const struct buffer *old = &before->of[k], *new = &after->of[k];
         if (same_bytes(old, new)) continue;
-        want(c->answer == MPM_OK, c, "a refusal changed a buffer");
+        want(done_by(c) > 0, c, "a refusal changed a buffer");
         for (size_t i = 0; i < old->length; i++)
-            want(old->bytes[i] == new->bytes[i] || may_change(rule, k, i), c, "a byte changed that is not the call's");
+            want(old->bytes[i] == new->bytes[i] || may_change(c, k, i), c, "a byte changed that is not the call's");
     }
 }
 
@@ -213,22 +237,31 @@ static void check_sound(const struct call *c, const struct state *after) {
     release(&copy);
 }
 
-/* The record that the FCB names, as Look shows it: inside the image, and what an accepted call has read or written. */
-static void check_look(const struct call *c, const struct state *after) {
-    const struct buffer *image = &after->of[IMAGE];
-    struct buffer name = part(&after->of[FCB], MPM_FCB_NAME, MPM_NAME_LEN);
-    struct buffer number = part(&after->of[FCB], MPM_FCB_RECORD, 3);
-    struct buffer user = part(&after->of[LIST], MPM_LIST_USERS + c->process, 1);
+/* Where Look shows the record at distance i from the FCB's: nowhere, or as a record inside the image. */
+static uint32_t look(const struct call *c, const struct state *s, uint32_t i) {
+    const struct buffer *image = &s->of[IMAGE];
+    struct buffer name = part(&s->of[FCB], MPM_FCB_NAME, MPM_NAME_LEN);
+    struct buffer number = part(&s->of[FCB], MPM_FCB_RECORD, 3);
+    struct buffer user = part(&s->of[LIST], MPM_LIST_USERS + c->process, 1);
     uint32_t record = c->count;
     if (number.length == 3) record = number.bytes[0] + 256u * number.bytes[1] + 65536u * number.bytes[2];
-    uint32_t at = mpm_look(user.length == 1 ? user.bytes[0] : c->process, name.bytes, name.length, record,
+    uint32_t at = mpm_look(user.length == 1 ? user.bytes[0] : c->process, name.bytes, name.length, record + i,
                            image->bytes, image->length);
     bool inside = at >= MPM_DIRECTORY_BLOCKS * MPM_BLOCK_LEN && (size_t)at + MPM_RECORD_LEN <= image->length;
     want(at == 0 || (inside && at % MPM_RECORD_LEN == 0), c, "Look shows something that is no record");
-    if (c->answer != MPM_OK || c->function < MPM_READ || c->function > MPM_TEST_WRITE) return;
-    size_t from = c->function == MPM_TEST_WRITE ? MPM_DMA_NEW : MPM_DMA_RECORD;
-    want(at != 0 && memcmp(after->of[DMA].bytes + from, image->bytes + at, MPM_RECORD_LEN) == 0, c,
-         "Look shows another record");
+    return at;
+}
+
+/* Look has to show what the call has read or written. */
+static void check_look(const struct call *c, const struct state *after) {
+    look(c, after, 0);
+    if (!goes_by_records(c->function) && c->function != MPM_TEST_WRITE) return;
+    for (uint32_t i = 0; i < done_by(c); i++) {
+        uint32_t at = look(c, after, i);
+        size_t from = c->function == MPM_TEST_WRITE ? MPM_DMA_NEW : MPM_DMA_AT(i);
+        want(at != 0 && memcmp(after->of[DMA].bytes + from, after->of[IMAGE].bytes + at, MPM_RECORD_LEN) == 0, c,
+             "Look shows another record");
+    }
 }
 
 /* Start, with the call's numbers and the list's users, over a list of the same length. */
@@ -250,6 +283,14 @@ static void check_start(const struct call *c, const struct state *s) {
     free(due.memory);
 }
 
+static void check_singly(const struct call *c, const struct state *before, const struct state *after) {
+    struct state copy = copy_of(before);
+    uint32_t due = goes_by_records(c->function) ? mpm_code(c->answer) : c->answer;
+    want(run(mpm_singly, c, &copy) == due, c, "single calls answer otherwise");
+    want(same_state(&copy, after), c, "single calls leave other bytes");
+    release(&copy);
+}
+
 static void check_plain(const struct call *c, struct state *before, const struct state *after) {
     uint32_t answer = run(plain_call, c, before);
     want(answer == c->answer, c, "the plain version has another answer");
@@ -263,12 +304,14 @@ static void check_call(struct call *c, struct state *s) {
     if (telling) fprintf(stderr, " %u %u\n", mpm_a(c->answer), mpm_h(c->answer));
     calls++;
     accepted += c->answer == MPM_OK;
+    in_part += c->answer != MPM_OK && done_by(c) > 0;
     check_answer(c, &before);
     check_image(c, &before);
     check_changes(c, &before, s);
-    if (c->answer == MPM_OK) check_sound(c, s);
+    if (done_by(c) > 0) check_sound(c, s);
     check_look(c, s);
     check_start(c, s);
+    check_singly(c, &before, s);
     check_plain(c, &before, s);
     release(&before);
 }

@@ -149,16 +149,20 @@ finds() { # WHAT OBJECTS..
 
 selftest() {
     local stubs=("refuses all" "accepts all" "writes before the FCB" "writes after the image" crashes "spoils images")
-    local faults=("writes at a refusal" "leaves locks" "fills no zeros" "locks 15 of 16" "has 4/0 for 6/0" "overreads")
-    local n
+    local faults=("WRITES_AT_REFUSAL writes at a refusal" "LEAVES_LOCKS leaves locks" "NO_ZERO_FILL fills no zeros"
+        "SHORT_LOCK locks 15 of 16" "WRONG_CODE has 4/0 for 6/0" "SHORT_FCB overreads" "OTHER_SINGLY differs singly"
+        "FIRST_ALONE does one record of a run" "NO_NUMBER does not tell how many it did"
+        "GOES_ON goes on behind a refused record" "ALL_OR_NONE takes a run back"
+        "ONE_DMA_RECORD has one place in the DMA" "CLEARS_AGAIN clears what it wrote" "MOVES_FCB moves the FCB on")
+    local n fault
     for n in "${!stubs[@]}"; do
         compile bad.o -DSTUB=$((n + 1)) "$root/tests/pipe/stub.c"
         finds "${stubs[n]}" fuzz.o bad.o
     done
-    compile bad-fuzz.o -Dmpm_call=spoiled_call "$here/fuzz.c"
-    for n in "${!faults[@]}"; do
-        compile bad.o -DSPOILED=$((n + 1)) "$here/spoiled.c"
-        finds "${faults[n]}" bad-fuzz.o bad.o engine1.o
+    compile bad-fuzz.o -Dmpm_call=spoiled_call -Dmpm_singly=spoiled_singly "$here/fuzz.c"
+    for fault in "${faults[@]}"; do
+        compile bad.o -DSPOILED="${fault%% *}" "$here/spoiled.c"
+        finds "${fault#* }" bad-fuzz.o bad.o engine1.o
     done
 }
 

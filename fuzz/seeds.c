@@ -137,6 +137,7 @@ static void files_in_use(void) {
     call(3, MPM_RENAME, B, 0, 1, 0);
     call(3, MPM_OPEN, B, 0, 1, 0);
     call(3, MPM_WRITE, B, 0, 1, 0);
+    call(3, MPM_WRITE_ZEROS, B, 0, 2, 0);
     call(3, MPM_CLOSE, A, 0, 1, 0);
     call(4, MPM_TEST_WRITE, A, 0, 1, 6);
     save();
@@ -156,6 +157,59 @@ static void broken_bytes(void) {
             call(0, MPM_FREE_SPACE, A, 0, 1, 0);
             save();
         }
+}
+
+/* Other bytes for each record of the DMA. */
+static void fill_dma(void) { PUT(DMA, 0, MPM_DMA_LEN / 32, 32, 0, "0 crates of plums, salt and soap"); }
+
+static void run(uint32_t process, uint32_t function, uint32_t record, uint32_t count) {
+    call(process, function, A, record, count, 0)[1] = KEEP_DMA;
+}
+
+/* Into new blocks and a new extent, to another's lock, to a missing block and extent, and over the last record. */
+static void runs(void) {
+    set_length(IMAGE, 0, 16);
+    call(1, MPM_MAKE, A_UNLOCKED, 0, 1, 0);
+    call(2, MPM_OPEN, A_UNLOCKED, 0, 1, 0);
+    fill_dma();
+    run(1, MPM_WRITE_ZEROS, 122, 16);
+    run(1, MPM_WRITE, 0, 16);
+    run(2, MPM_READ, 0, 16);
+    run(2, MPM_READ, 8, 16);
+    run(1, MPM_READ, 124, 16);
+    call(1, MPM_LOCK, A, 4, 3, 0);
+    fill_dma();
+    run(2, MPM_WRITE, 1, 16);
+    run(2, MPM_WRITE_ZEROS, 2, 8);
+    run(2, MPM_WRITE_ZEROS, 4, 2);
+    run(2, MPM_TEST_WRITE, 5, 1);
+    run(1, MPM_WRITE, 1, 8);
+    run(1, MPM_WRITE_ZEROS, 248, 8);
+    run(2, MPM_READ, 250, 16);
+    run(1, MPM_WRITE, 262136, 16);
+    run(1, MPM_WRITE_ZEROS, 262140, 16);
+    run(2, MPM_READ, 262140, 16);
+    run(2, MPM_READ, 262144, 2);
+    save();
+}
+
+/* To the last free block and to the last empty entry. */
+static void full_runs(void) {
+    fill_dma();
+    call(0, MPM_MAKE, A, 0, 1, 0);
+    run(0, MPM_WRITE, 4, 16);
+    run(0, MPM_WRITE_ZEROS, 12, 16);
+    save();
+    set_length(IMAGE, 0, 16);
+    fill_dma();
+    ENTRY(0, 1, "\000" A "\000\000\000\200\000\000\000\000\000\000\000\000\000\000\000\000\000\000\000\002");
+    ENTRY(1, 30, "\000" A "\002");
+    ENTRY(31, 32, "\000" A "\000\000\001");
+    ENTRY(63, 1, "\000" B);
+    call(0, MPM_OPEN, A, 0, 1, 0);
+    run(0, MPM_WRITE, 124, 16);
+    run(0, MPM_WRITE_ZEROS, 125, 16);
+    save();
 }
 
 static void all_full(void) {
@@ -193,6 +247,8 @@ static void wrong_numbers(void) {
             call(1, MPM_MAKE, A, 0, 1, 0);
             set_length(buffer, 0, 4);
         }
+    set_length(DMA, RAW, 2 * MPM_RECORD_LEN);
+    call(1, MPM_MAKE, A, 0, 1, 0);
     save();
 }
 
@@ -203,6 +259,8 @@ int main(int argc, char **argv) {
     all_functions();
     files_in_use();
     broken_bytes();
+    runs();
+    full_runs();
     all_full();
     wrong_numbers();
     return 0;

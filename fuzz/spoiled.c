@@ -1,19 +1,74 @@
-/* The engine with one fault, chosen by SPOILED, for the fuzz test to find: mpm_call is another name of spoiled_call
-   where fuzz.c is compiled for it. */
-#include <stdlib.h>
+/* The engine with one fault, chosen by SPOILED, for the fuzz test and for the host's story to see: mpm_call is another
+   name of spoiled_call, and mpm_singly of spoiled_singly, where they are compiled for it. */
+#include <stdbool.h>
 #include <string.h>
 
 #include "mpm.h"
 
-/* SHORT_FCB lends the engine an FCB without its last byte: AddressSanitizer in the engine's own code has to see it. */
-enum { WRITES_AT_REFUSAL = 1, LEAVES_LOCKS, NO_ZERO_FILL, SHORT_RUN, WRONG_CODE, SHORT_FCB };
+/* SHORT_FCB lends the engine an FCB without its last byte: AddressSanitizer in the engine's own code has to see it.
+   Those from FIRST_ALONE on are faults of runs: 33, 34 and 40 of more than one record. */
+enum {
+    WRITES_AT_REFUSAL,
+    LEAVES_LOCKS,
+    NO_ZERO_FILL,
+    SHORT_LOCK,
+    WRONG_CODE,
+    SHORT_FCB,
+    OTHER_SINGLY,
+    FIRST_ALONE,    /* does the first record and answers for it alone */
+    NO_NUMBER,      /* does not tell how many were done */
+    GOES_ON,        /* leaves out a refused record and does those after it */
+    ALL_OR_NONE,    /* takes back what was done before a refused record */
+    ONE_DMA_RECORD, /* has every record in DMA bytes 0 to 127 */
+    CLEARS_AGAIN,   /* 40 clears a block at each record */
+    MOVES_FCB       /* leaves the FCB behind the last record done */
+};
 
-uint32_t spoiled_call(uint32_t function, uint32_t process, uint32_t count, uint8_t *fcb, size_t fcb_len, uint8_t *dma,
-                      size_t dma_len, uint8_t *list, size_t list_len, uint8_t *image, size_t image_len);
+/* The words of a call. */
+struct lent {
+    uint32_t function, process, count;
+    uint8_t *fcb;
+    size_t fcb_len;
+    uint8_t *dma;
+    size_t dma_len;
+    uint8_t *list;
+    size_t list_len;
+    uint8_t *image;
+    size_t image_len;
+};
+
+typedef uint32_t engine(uint32_t function, uint32_t process, uint32_t count, uint8_t *fcb, size_t fcb_len, uint8_t *dma,
+                        size_t dma_len, uint8_t *list, size_t list_len, uint8_t *image, size_t image_len);
+engine spoiled_call, spoiled_singly;
+
+static uint32_t call(const struct lent *c) {
+    return mpm_call(c->function, c->process, c->count, c->fcb, c->fcb_len, c->dma, c->dma_len, c->list, c->list_len,
+                    c->image, c->image_len);
+}
+
+static bool goes_by_records(uint32_t function) {
+    return function == MPM_READ || function == MPM_WRITE || function == MPM_WRITE_ZEROS;
+}
+
+static bool is_run(const struct lent *c) {
+    return goes_by_records(c->function) && c->count > 1 && c->count <= MPM_MAX_COUNT && c->fcb_len == MPM_FCB_LEN &&
+           c->dma_len == MPM_DMA_LEN && c->image_len <= MPM_MAX_BLOCKS * MPM_BLOCK_LEN;
+}
+
+static uint32_t record_of(const uint8_t *fcb) {
+    const uint8_t *at = fcb + MPM_FCB_RECORD;
+    return at[0] + 256u * at[1] + 65536u * at[2];
+}
+
+static void set_record(uint8_t *fcb, uint32_t record) {
+    for (size_t i = 0; i < 3; i++) fcb[MPM_FCB_RECORD + i] = (uint8_t)(record >> (8 * i));
+}
+
+/* ---- Faults of calls ---- */
 
 static uint8_t *short_copy(const uint8_t *fcb) {
-    uint8_t *copy = malloc(MPM_FCB_LEN - 1);
-    return copy == NULL ? NULL : memcpy(copy, fcb, MPM_FCB_LEN - 1);
+    static uint8_t copy[MPM_FCB_LEN - 1];
+    return memcpy(copy, fcb, sizeof copy);
 }
 
 static void put_locks_back(uint8_t *list, const uint8_t *old) {
@@ -21,16 +76,113 @@ static void put_locks_back(uint8_t *list, const uint8_t *old) {
         if (old[at] == MPM_MARK_LOCK % 256u) memcpy(list + at, old + at, MPM_PLACE_LEN);
 }
 
+static uint32_t bad_call(struct lent c) {
+    uint8_t old[MPM_LIST_LEN];
+    if (c.list_len == sizeof old) memcpy(old, c.list, sizeof old);
+    if (SPOILED == NO_ZERO_FILL && c.function == MPM_WRITE_ZEROS) c.function = MPM_WRITE;
+    if (SPOILED == SHORT_LOCK && c.function == MPM_LOCK && c.count == MPM_MAX_COUNT) c.count--;
+    if (SPOILED == SHORT_FCB && c.function == MPM_READ && c.fcb_len == MPM_FCB_LEN) c.fcb = short_copy(c.fcb);
+    uint32_t answer = call(&c);
+    if (SPOILED == WRITES_AT_REFUSAL && answer == MPM_LOCKED) c.dma[MPM_DMA_LEN - 1] ^= 1;
+    if (SPOILED == LEAVES_LOCKS && c.function == MPM_CLOSE && answer == MPM_OK) put_locks_back(c.list, old);
+    if (SPOILED == WRONG_CODE && c.function == MPM_READ && answer == MPM_PAST_END) answer = MPM_NO_EXTENT;
+    return answer;
+}
+
+/* ---- Faults of runs, each in place of a run's call ---- */
+
+static uint32_t first_alone(struct lent c) {
+    c.count = 1;
+    return call(&c);
+}
+
+/* The run's records from one of them on, by a call of their own. Gives how many were done. */
+static uint32_t do_from(struct lent c, uint32_t i) {
+    uint8_t fcb[MPM_FCB_LEN], dma[MPM_DMA_LEN] = {0}, *lent = c.dma;
+    memcpy(fcb, c.fcb, sizeof fcb);
+    set_record(fcb, record_of(fcb) + i);
+    memcpy(dma, lent + MPM_DMA_AT(i), sizeof dma - MPM_DMA_AT(i));
+    c.fcb = fcb;
+    c.dma = dma;
+    c.count -= i;
+    uint32_t done = mpm_done(call(&c), c.count);
+    memcpy(lent + MPM_DMA_AT(i), dma, sizeof dma - MPM_DMA_AT(i));
+    return done;
+}
+
+static uint32_t goes_on(struct lent c) {
+    uint32_t answer = call(&c), i = mpm_done(answer, c.count) + 1;
+    while (i < c.count) i += do_from(c, i) + 1;
+    return answer;
+}
+
+static uint32_t all_or_none(struct lent c) {
+    static uint8_t dma[MPM_DMA_LEN], image[MPM_MAX_BLOCKS * MPM_BLOCK_LEN];
+    memcpy(dma, c.dma, c.dma_len);
+    memcpy(image, c.image, c.image_len);
+    uint32_t answer = call(&c);
+    if (answer == MPM_OK) return answer;
+    memcpy(c.dma, dma, c.dma_len);
+    memcpy(c.image, image, c.image_len);
+    return answer;
+}
+
+static uint32_t one_dma_record(struct lent c) {
+    uint8_t dma[MPM_DMA_LEN], *lent = c.dma;
+    for (uint32_t i = 0; i < MPM_MAX_COUNT; i++) memcpy(dma + MPM_DMA_AT(i), lent, MPM_RECORD_LEN);
+    c.dma = dma;
+    uint32_t answer = call(&c), done = mpm_done(answer, c.count);
+    if (done > 0) memcpy(lent, dma + MPM_DMA_AT(done - 1), MPM_RECORD_LEN);
+    return answer;
+}
+
+/* Of the records done in a block the last one stays. */
+static uint32_t clears_again(struct lent c) {
+    uint8_t kept[MPM_RECORD_LEN];
+    uint32_t answer = call(&c), done = mpm_done(answer, c.count), first = record_of(c.fcb);
+    if (c.function != MPM_WRITE_ZEROS) return answer;
+    for (uint32_t i = 0; i < done; i++) {
+        if (i + 1 < done && (first + i + 1) % MPM_BLOCK_RECORDS != 0) continue;
+        uint32_t at = mpm_look(c.list[MPM_LIST_USERS + c.process], c.fcb + MPM_FCB_NAME, MPM_NAME_LEN, first + i,
+                               c.image, c.image_len);
+        memcpy(kept, c.image + at, sizeof kept);
+        memset(c.image + at - at % MPM_BLOCK_LEN, 0, MPM_BLOCK_LEN);
+        memcpy(c.image + at, kept, sizeof kept);
+    }
+    return answer;
+}
+
+static uint32_t moves_fcb(struct lent c) {
+    uint32_t answer = call(&c);
+    set_record(c.fcb, record_of(c.fcb) + mpm_done(answer, c.count));
+    return answer;
+}
+
+static uint32_t bad_run(const struct lent *c) {
+    switch (SPOILED) {
+    case FIRST_ALONE: return first_alone(*c);
+    case NO_NUMBER: return mpm_code(call(c));
+    case GOES_ON: return goes_on(*c);
+    case ALL_OR_NONE: return all_or_none(*c);
+    case ONE_DMA_RECORD: return one_dma_record(*c);
+    case CLEARS_AGAIN: return clears_again(*c);
+    case MOVES_FCB: return moves_fcb(*c);
+    default: return bad_call(*c);
+    }
+}
+
+/* ---- The two engines ---- */
+
 uint32_t spoiled_call(uint32_t function, uint32_t process, uint32_t count, uint8_t *fcb, size_t fcb_len, uint8_t *dma,
                       size_t dma_len, uint8_t *list, size_t list_len, uint8_t *image, size_t image_len) {
-    uint8_t old[MPM_LIST_LEN];
-    if (list_len == sizeof old) memcpy(old, list, sizeof old);
-    if (SPOILED == NO_ZERO_FILL && function == MPM_WRITE_ZEROS) function = MPM_WRITE;
-    if (SPOILED == SHORT_RUN && function == MPM_LOCK && count == MPM_MAX_COUNT) count--;
-    if (SPOILED == SHORT_FCB && function == MPM_READ && fcb_len == MPM_FCB_LEN) fcb = short_copy(fcb);
-    uint32_t answer = mpm_call(function, process, count, fcb, fcb_len, dma, dma_len, list, list_len, image, image_len);
-    if (SPOILED == WRITES_AT_REFUSAL && answer == MPM_LOCKED) dma[MPM_RECORD_LEN] ^= 1;
-    if (SPOILED == LEAVES_LOCKS && function == MPM_CLOSE && answer == MPM_OK) put_locks_back(list, old);
-    if (SPOILED == WRONG_CODE && function == MPM_READ && answer == MPM_PAST_END) answer = MPM_NO_EXTENT;
-    return answer;
+    struct lent c = {function, process, count, fcb, fcb_len, dma, dma_len, list, list_len, image, image_len};
+    return is_run(&c) ? bad_run(&c) : bad_call(c);
+}
+
+/* As bad as the other, so that nothing is seen by holding the two together; with OTHER_SINGLY it alone is bad. */
+uint32_t spoiled_singly(uint32_t function, uint32_t process, uint32_t count, uint8_t *fcb, size_t fcb_len, uint8_t *dma,
+                        size_t dma_len, uint8_t *list, size_t list_len, uint8_t *image, size_t image_len) {
+    uint32_t answer =
+        spoiled_call(function, process, count, fcb, fcb_len, dma, dma_len, list, list_len, image, image_len);
+    return goes_by_records(function) && SPOILED != OTHER_SINGLY ? mpm_code(answer) : answer;
 }

@@ -11,8 +11,4 @@ program=${2:-$out/story}
 make_archive
 mkdir -p "$out" "$(dirname "$program")"
 kit_clang -std=c99 -O2 -fPIC "${warnings[@]}" -c "$source" -o "$program.o"
-"$own/bin/rattle-link" --target x86_64-unknown-linux-gnu --toolchain "$own/toolchain" \
-    -o "$program" "$program.o" "$archive" 2>"$program.log" || {
-    cat "$program.log" >&2
-    exit 1
-}
+kit_link "$program" "$program.o" "$archive"

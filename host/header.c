@@ -1,8 +1,13 @@
 /* mpm.h by itself, as C and as C++: it can be included first and twice, its functions have the types that a host relies
-   on, its sizes fit together, and no two functions and no two answers have the same number. Compiled, never run. */
+   on, its sizes fit together, no two functions and no two answers have the same number, and the answers leave the high
+   four bits of H free. Compiled, never run. */
 
 #include "mpm.h"
 #include "mpm.h"
+
+#if MPM_VERSION != 2
+#error "the checks below are those of version 2"
+#endif
 
 typedef uint32_t call_type(uint32_t, uint32_t, uint32_t, uint8_t *, size_t, uint8_t *, size_t, uint8_t *, size_t,
                            uint8_t *, size_t);
@@ -11,10 +16,12 @@ typedef uint32_t check_type(const uint8_t *, size_t);
 typedef uint32_t look_type(uint32_t, const uint8_t *, size_t, uint32_t, const uint8_t *, size_t);
 
 extern call_type *const header_call;
+extern call_type *const header_singly;
 extern start_type *const header_start;
 extern check_type *const header_check;
 extern look_type *const header_look;
 call_type *const header_call = mpm_call;
+call_type *const header_singly = mpm_singly;
 start_type *const header_start = mpm_start;
 check_type *const header_check = mpm_check;
 look_type *const header_look = mpm_look;
@@ -29,11 +36,14 @@ HOLDS(place_is_whole, MPM_PLACE_NAME + MPM_NAME_LEN == MPM_PLACE_MODE && MPM_PLA
 HOLDS(directory_is_whole, MPM_ENTRIES * MPM_ENTRY_LEN == MPM_DIRECTORY_BLOCKS * MPM_BLOCK_LEN);
 HOLDS(block_is_whole, MPM_BLOCK_RECORDS * MPM_RECORD_LEN == MPM_BLOCK_LEN);
 HOLDS(fcb_is_whole, MPM_FCB_RECORD + 3u == MPM_FCB_LEN && MPM_FCB_NEW_NAME + MPM_NAME_LEN <= MPM_FCB_RECORD);
-HOLDS(dma_is_whole, MPM_DMA_NEW + MPM_RECORD_LEN == MPM_DMA_LEN);
+HOLDS(dma_is_whole, MPM_DMA_AT(0u) == MPM_DMA_RECORD && MPM_DMA_AT(MPM_MAX_COUNT) == MPM_DMA_LEN);
+HOLDS(new_record_fits, MPM_DMA_NEW == MPM_DMA_RECORD + MPM_RECORD_LEN && MPM_DMA_NEW + MPM_RECORD_LEN <= MPM_DMA_LEN);
 HOLDS(answer_is_a_and_256_h, MPM_BAD_CALL == 3583u && MPM_LOCK_LIST_FULL == 14u && MPM_OK == 0u);
+HOLDS(highest_answer_leaves_four_bits, MPM_BAD_CALL < MPM_ANSWER(0u, 16u) && MPM_MAX_COUNT - 1u <= 15u);
 
 uint32_t header_function(uint32_t number);
 uint32_t header_answer(uint32_t answer);
+uint32_t header_records(uint32_t answer);
 
 uint32_t header_function(uint32_t number) {
     switch (number) {
@@ -55,3 +65,5 @@ uint32_t header_answer(uint32_t answer) {
     default: return 0u;
     }
 }
+
+uint32_t header_records(uint32_t answer) { return mpm_done(answer, MPM_MAX_COUNT) + mpm_code(answer); }

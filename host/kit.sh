@@ -56,6 +56,17 @@ kit_clang() {
         -isystem "$root/host/libc" -I "$root/include" "$@"
 }
 
+# kit_link PROGRAM OBJECTS..: links for x86-64 with the kit's C library, quiet unless it fails.
+kit_link() {
+    local program=$1
+    shift
+    "$own/bin/rattle-link" --target x86_64-unknown-linux-gnu --toolchain "$own/toolchain" \
+        -o "$program" "$@" 2>"$program.log" || {
+        cat "$program.log" >&2
+        return 1
+    }
+}
+
 # shellcheck disable=SC2034 # the scripts that source this use it
 warnings=(-Wall -Wextra -Wpedantic -Wshadow -Wconversion -Werror)
 

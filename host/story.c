@@ -1,5 +1,6 @@
-/* The story of an order book. Two clerks share the file ORDERS.DAT on the drive image ORDERS.IMG. One of them locks a
-   long run of order lines and dies. The other is held up until the host takes back what the dead one held.
+/* The story of an order book. Clerks share the file ORDERS.DAT on the drive image ORDERS.IMG. One of them locks a long
+   run of order lines and dies. Another is held up until the host takes back what the dead one held. A third reads a
+   screen of sixteen lines in one call, and writes several in one call until it meets a line that is locked.
 
    story FOLDER: makes FOLDER/ORDERS.IMG, plays the story on it and prints every step with its answer.
    Exit status: 0 if all was as expected, 1 if something was not, 2 for wrong use or a file that cannot be used. */
@@ -11,10 +12,13 @@
 
 enum { BLOCKS = 16, CAPACITY = 12, OPEN_LIMIT = 2, LOCK_LIMIT = 10 };
 enum { OFFICE, CLERK_1, CLERK_2, CLERK_3 }; /* the processes */
-enum { LINES = 32 }; /* the order lines that have a block in the end: 0 to 24 written, 25 to 31 cleared */
+enum { LINES = 40 }; /* the order lines that have a block in the end: 0 to 24 and 30 to 33 written, the rest cleared */
 enum { USER = 0, WRONG_USE = 2, PATH_LEN = 4096 };
 
 #define COUNT(array) (sizeof(array) / sizeof(array)[0])
+
+/* The answer where a line was refused after so many of the same call. */
+#define AFTER(lines, answer) ((answer) + MPM_ANSWER(0u, 16u * (lines)))
 
 /* The four buffers that are lent, in one struct to keep and compare them together. */
 struct buffers {
@@ -33,8 +37,8 @@ struct step {
 };
 
 static const uint8_t file[] = "ORDERS  DAT";
-static struct buffers now, before;
-static uint8_t lines[LINES][MPM_RECORD_LEN]; /* what each order line must hold */
+static struct buffers now, before, singly;
+static uint8_t lines[LINES + MPM_MAX_COUNT][MPM_RECORD_LEN]; /* what each line must hold; a screen may pass the end */
 static uint32_t file_ids[MPM_PROCESSES];
 static uint32_t steps, faults;
 
@@ -136,12 +140,13 @@ static void print_row(const char *actor, uint32_t function, const char *words, c
 static void print_answer_row(const char *actor, uint32_t function, const char *words, uint32_t answer) {
     char text[32];
     snprintf(text, sizeof text, "%u/%u", (unsigned)mpm_a(answer), (unsigned)mpm_h(answer));
-    print_row(actor, function, words, text, name_of(answer));
+    print_row(actor, function, words, text, name_of(mpm_code(answer)));
 }
 
 static void expect_answer(uint32_t answer, uint32_t expected) {
     if (answer == expected) return;
-    printf("      EXPECTED: %u/%u %s\n", (unsigned)mpm_a(expected), (unsigned)mpm_h(expected), name_of(expected));
+    printf("      EXPECTED: %u/%u %s\n", (unsigned)mpm_a(expected), (unsigned)mpm_h(expected),
+           name_of(mpm_code(expected)));
     faults++;
 }
 
@@ -157,10 +162,25 @@ static void print_head(void) {
 
 /* ---- Calls ---- */
 
-static int is_run(uint32_t function) { return function == MPM_LOCK || function == MPM_UNLOCK; }
+typedef uint32_t engine(uint32_t, uint32_t, uint32_t, uint8_t *, size_t, uint8_t *, size_t, uint8_t *, size_t,
+                        uint8_t *, size_t);
+
+static int wants_file_id(uint32_t function) { return function == MPM_LOCK || function == MPM_UNLOCK; }
+
+/* One that does its lines in turn and may stop among them. */
+static int goes_by_lines(uint32_t function) {
+    return function == MPM_READ || function == MPM_WRITE || function == MPM_WRITE_ZEROS;
+}
 
 static int is_write(uint32_t function) {
     return function == MPM_WRITE || function == MPM_WRITE_ZEROS || function == MPM_TEST_WRITE;
+}
+
+static uint32_t count_of(const struct step *step) { return step->last - step->first + 1; }
+
+static uint32_t done_of(const struct step *step, uint32_t answer) {
+    uint32_t done = mpm_done(answer, count_of(step));
+    return done <= count_of(step) ? done : 0;
 }
 
 static void fill_fcb(uint32_t line) {
@@ -170,40 +190,63 @@ static void fill_fcb(uint32_t line) {
     put_number(now.fcb + MPM_FCB_RECORD, 3, line);
 }
 
-static void fill_dma(uint32_t function, uint32_t process, uint32_t line) {
+static void fill_dma(const struct step *step) {
     memset(now.dma, 0, sizeof now.dma);
-    if (is_run(function)) {
-        put_number(now.dma + MPM_DMA_FILE_ID, 2, file_ids[process]);
-    } else if (function == MPM_TEST_WRITE) {
-        memcpy(now.dma + MPM_DMA_RECORD, lines[line], MPM_RECORD_LEN);
-        compose(now.dma + MPM_DMA_NEW, line, process);
-    } else if (is_write(function)) {
-        compose(now.dma + MPM_DMA_RECORD, line, process);
+    if (wants_file_id(step->function)) {
+        put_number(now.dma + MPM_DMA_FILE_ID, 2, file_ids[step->process]);
+    } else if (step->function == MPM_TEST_WRITE) {
+        memcpy(now.dma + MPM_DMA_RECORD, lines[step->first], MPM_RECORD_LEN);
+        compose(now.dma + MPM_DMA_NEW, step->first, step->process);
+    } else if (is_write(step->function)) {
+        for (uint32_t i = 0; i < count_of(step); i++)
+            compose(now.dma + MPM_DMA_AT(i), step->first + i, step->process);
     }
 }
 
-/* One call of the engine. A refusal must leave all four buffers as they were. */
-static uint32_t call(uint32_t function, uint32_t process, uint32_t line, uint32_t count) {
-    fill_fcb(line);
-    fill_dma(function, process, line);
+static uint32_t lend(engine *to, const struct step *step, struct buffers *b) {
+    return to(step->function, step->process, count_of(step), b->fcb, sizeof b->fcb, b->dma, sizeof b->dma, b->list,
+              sizeof b->list, b->image, sizeof b->image);
+}
+
+/* Every line that has a block must be as it was last written. */
+static void check_lines(void) {
+    for (uint32_t line = 0; line < LINES; line++) {
+        uint32_t at = mpm_look(USER, file, MPM_NAME_LEN, line, now.image, sizeof now.image);
+        if (at == 0 || at > sizeof now.image - MPM_RECORD_LEN) continue;
+        if (memcmp(now.image + at, lines[line], MPM_RECORD_LEN) == 0) continue;
+        fault("a line is not as it was written");
+        return;
+    }
+}
+
+/* A refused line and those after it must leave no trace, lines done none but themselves. */
+static void check_trace(const struct step *step, uint32_t done) {
+    size_t read = step->function == MPM_READ ? MPM_DMA_AT(done) : 0;
+    int written = is_write(step->function) && done > 0;
+    if (memcmp(before.fcb, now.fcb, sizeof now.fcb) != 0) fault("the FCB has changed");
+    if (memcmp(before.dma + read, now.dma + read, sizeof now.dma - read) != 0) fault("the DMA has changed");
+    if (memcmp(before.list, now.list, sizeof now.list) != 0) fault("the list has changed");
+    if (!written && memcmp(before.image, now.image, sizeof now.image) != 0) fault("the image has changed");
+}
+
+/* One call of the engine for all lines of the step. The plain engine must do the same on buffers of its own. */
+static uint32_t call(const struct step *step) {
+    fill_fcb(step->first);
+    fill_dma(step);
     before = now;
-    uint32_t answer = mpm_call(function, process, count, now.fcb, sizeof now.fcb, now.dma, sizeof now.dma, now.list,
-                               sizeof now.list, now.image, sizeof now.image);
-    if (answer != MPM_OK && memcmp(&before, &now, sizeof now) != 0) fault("a refusal has changed a buffer");
-    if (answer == MPM_OK && is_write(function)) compose(lines[line], line, process);
+    singly = now;
+    uint32_t answer = lend(mpm_call, step, &now);
+    uint32_t done = done_of(step, answer);
+    if (lend(mpm_singly, step, &singly) != mpm_code(answer) || memcmp(&singly, &now, sizeof now) != 0)
+        fault("single calls do otherwise");
+    if (answer != MPM_OK || goes_by_lines(step->function)) check_trace(step, done);
+    for (uint32_t i = 0; i < done && is_write(step->function); i++)
+        compose(lines[step->first + i], step->first + i, step->process);
+    check_lines();
     return answer;
 }
 
-/* Locks and unlocks name their lines in one call; all else is a call for each line, up to the first refusal. */
-static uint32_t call_for_lines(const struct step *step) {
-    if (is_run(step->function)) return call(step->function, step->process, step->first, step->last - step->first + 1);
-    uint32_t answer = MPM_OK;
-    for (uint32_t line = step->first; line <= step->last && answer == MPM_OK; line++)
-        answer = call(step->function, step->process, line, 1);
-    return answer;
-}
-
-/* ---- What an accepted call has left ---- */
+/* ---- What a call has left ---- */
 
 static void show_file_id(const struct step *step) {
     uint32_t file_id = get_number(now.fcb + MPM_FCB_RECORD, 3);
@@ -218,23 +261,33 @@ static void show_free_records(const struct step *step) {
     expect_figure(records, step->figure);
 }
 
+/* How many lines a call of several has done. A line read must be the line written. */
+static void show_lines(const struct step *step, uint32_t answer) {
+    uint32_t done = done_of(step, answer);
+    if (count_of(step) > 1) printf(", %u lines done", (unsigned)done);
+    printf("\n");
+    for (uint32_t i = 0; i < done && step->function == MPM_READ; i++) {
+        if (memcmp(now.dma + MPM_DMA_AT(i), lines[step->first + i], MPM_RECORD_LEN) == 0) continue;
+        fault("the line read is not the line written");
+        return;
+    }
+}
+
 static void show_effect(const struct step *step) {
     switch (step->function) {
     case MPM_OPEN:
     case MPM_MAKE: show_file_id(step); break;
     case MPM_FREE_SPACE: show_free_records(step); break;
-    case MPM_READ:
-        printf("\n");
-        if (memcmp(now.dma, lines[step->last], MPM_RECORD_LEN) != 0) fault("the line read is not the line written");
-        break;
     default: printf("\n");
     }
 }
 
 static void play(const struct step *step) {
-    uint32_t answer = call_for_lines(step);
+    uint32_t answer = call(step);
     print_answer_row(who(step), step->function, step->words, answer);
-    if (answer == MPM_OK)
+    if (goes_by_lines(step->function))
+        show_lines(step, answer);
+    else if (answer == MPM_OK)
         show_effect(step);
     else
         printf("\n");
@@ -389,6 +442,13 @@ static void afternoon(void) {
         {CLERK_2, MPM_TEST_WRITE, "writes line 5 if it is still as it was", 5, 5, MPM_OK, 0},
         {CLERK_2, MPM_WRITE_ZEROS, "writes line 24, in a new block", 24, 24, MPM_OK, 0},
         {CLERK_2, MPM_FREE_SPACE, "asks for the free space", 0, 0, MPM_OK, 80},
+        {CLERK_3, MPM_OPEN, "opens it unlocked", 0, 0, MPM_OK, 4},
+        {CLERK_3, MPM_READ, "reads lines 0 to 15, a screen", 0, 15, MPM_OK, 0},
+        {CLERK_3, MPM_WRITE, "writes lines 1 to 8: clerk 2 holds 4", 1, 8, AFTER(3, MPM_LOCKED), 0},
+        {CLERK_3, MPM_READ, "reads lines 0 to 15 again", 0, 15, MPM_OK, 0},
+        {CLERK_3, MPM_WRITE_ZEROS, "writes lines 30 to 33, two in a new block", 30, 33, MPM_OK, 0},
+        {CLERK_3, MPM_READ, "reads lines 28 to 43: none are past 39", 28, 43, AFTER(12, MPM_NO_BLOCK), 0},
+        {CLERK_3, MPM_FREE_SPACE, "asks for the free space", 0, 0, MPM_OK, 72},
     };
     play_all(all, COUNT(all));
 }
@@ -397,18 +457,19 @@ static void evening(void) {
     static const struct step all[] = {
         {CLERK_2, MPM_UNLOCK, "unlocks lines 4 to 6", 4, 6, MPM_OK, 0},
         {CLERK_2, MPM_CLOSE, "closes it", 0, 0, MPM_OK, 0},
+        {CLERK_3, MPM_CLOSE, "closes it", 0, 0, MPM_OK, 0},
     };
     play_all(all, COUNT(all));
 }
 
 static void look_at_lines(void) {
-    static const uint32_t some[] = {0, 3, 4, 5, 6, 11, 12, 23, 24, 25, 31, 32};
+    static const uint32_t some[] = {0, 1, 3, 4, 5, 6, 7, 8, 11, 12, 23, 24, 25, 29, 30, 31, 32, 33, 34, 39, 40};
     printf("\nWhat Look shows of ORDERS.DAT\n  line  begins at  text\n");
     for (size_t i = 0; i < COUNT(some); i++) look(some[i]);
 }
 
 static int tell(const char *path) {
-    printf("An order book that two clerks share. A/H is the engine's answer.\n");
+    printf("An order book that clerks share. A/H is the engine's answer.\n");
     print_head();
     memset(now.image, MPM_EMPTY, sizeof now.image);
     if (!keep_image(path, "makes ORDERS.IMG, 16 empty blocks; checks it")) return 0;
@@ -422,7 +483,7 @@ static int tell(const char *path) {
     show_list("after 143", 1);
     print_head();
     afternoon();
-    show_list("while clerk 2 goes on", 4);
+    show_list("while clerks 2 and 3 go on", 5);
     print_head();
     evening();
     if (!keep_image(path, "writes ORDERS.IMG, reads it again; checks it")) return 0;

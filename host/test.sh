@@ -1,7 +1,7 @@
 #!/usr/bin/env bash
 # test.sh [ARCHIVE]: tests the C side; a line for each test, exit status 1 at the first that fails.
 # With the kit alone: mpm.h as C and as C++, the story against expected.txt, and the story over bad engines, which it
-# must not take for good ones.
+# must not take for good ones. The plain engine of a bad one is as bad, so that the two do not give each other away.
 # With ARCHIVE, an engine for this machine's own processor (of native.sh, or the reference of tests/pipe/exports): the
 # same with the system's compilers (CC, CXX), and the story under the sanitizers of addresses and undefined behaviour.
 set -euo pipefail
@@ -11,6 +11,7 @@ here=$(cd "$(dirname "${BASH_SOURCE[0]}")" && pwd -P)
 work=$out/test
 story=$work/story
 stub=$root/tests/pipe/stub.c
+spoiled=$root/fuzz/spoiled.c
 
 system_cc() { "${CC:-cc}" -I "$root/include" "$@"; }
 system_cxx() { "${CXX:-c++}" -I "$root/include" "$@"; }
@@ -56,6 +57,14 @@ sees_a_bad_engine() { # STUB
         fresh_book && ends_with 1 "$here/run.sh" "$work/bad" "$work/book"
 }
 
+sees_a_fault() { # SPOILED
+    kit_clang -std=c99 -O2 -fPIC -Dmpm_call=spoiled_call -Dmpm_singly=spoiled_singly -c "$here/story.c" \
+        -o "$work/bad.o" &&
+        kit_clang -std=c99 -O2 -fPIC "${warnings[@]}" -DSPOILED="$1" -c "$spoiled" -o "$work/spoiled.o" &&
+        kit_link "$work/bad" "$work/bad.o" "$work/spoiled.o" "$archive" &&
+        fresh_book && ends_with 1 "$here/run.sh" "$work/bad" "$work/book"
+}
+
 with_the_kit() {
     try "mpm.h as C99" kit_clang -std=c99 "${warnings[@]}" -c "$here/header.c" -o "$work/header.o"
     try "mpm.h as freestanding C99" kit_clang -std=c99 -ffreestanding "${warnings[@]}" -c "$here/header.c" -o "$work/header.o"
@@ -67,6 +76,14 @@ with_the_kit() {
     try "an engine that refuses all is seen" sees_a_bad_engine 1
     try "an engine that accepts all is seen" sees_a_bad_engine 2
     try "an engine that spoils the image is seen" sees_a_bad_engine 6
+    try "a run of which only the first is done is seen" sees_a_fault FIRST_ALONE
+    try "a run that does not tell how many were done is seen" sees_a_fault NO_NUMBER
+    try "a run that goes on behind a refused record is seen" sees_a_fault GOES_ON
+    try "a run that is taken back is seen" sees_a_fault ALL_OR_NONE
+    try "a run with one place in the DMA is seen" sees_a_fault ONE_DMA_RECORD
+    try "a run that clears what it wrote is seen" sees_a_fault CLEARS_AGAIN
+    try "a run that moves the FCB on is seen" sees_a_fault MOVES_FCB
+    try "a plain engine that answers otherwise is seen" sees_a_fault OTHER_SINGLY
 }
 
 with_the_system() { # ARCHIVE

@@ -1,13 +1,14 @@
 /* The engine's C interface: the files of MP/M II programs, on one drive that sixteen processes share.
 
-   The engine is four functions on numbers and lent bytes. It keeps nothing between two calls: the drive is the bytes of
+   The engine is five functions on numbers and lent bytes. It keeps nothing between two calls: the drive is the bytes of
    the image, who has opened and locked what is the bytes of the list, and both are the host's.
 
    What is promised, for all numbers and for buffers of every length and content:
    - Every call ends with a defined answer. The host need not test anything first.
    - A call is accepted exactly when no refusal applies, and then has exactly its effect; otherwise the answer is the
      first refusal that applies.
-   - A refusal leaves every buffer unchanged.
+   - A refusal leaves every buffer unchanged. Where a 33, 34 or 40 of several records stopped at a record, that one and
+     those after it leave no trace; those before it are done, and the answer tells how many.
 
    What the host owes, and nothing else:
    - Each pointer is valid for the length given with it. With a length of 0 it may be any pointer.
@@ -22,17 +23,21 @@
 extern "C" {
 #endif
 
+/* Raised with each change of a length or of a function's parameters. 1 was before this name was; since 2 the DMA has
+   2,048 bytes. */
+#define MPM_VERSION 2u
+
 /* ---- Sizes, in bytes where the name ends in LEN ---- */
 
 #define MPM_FCB_LEN 36u
-#define MPM_DMA_LEN 256u
+#define MPM_DMA_LEN 2048u /* for every function; 16 records */
 #define MPM_LIST_LEN 1299u
 #define MPM_USERS_LEN 16u /* a user for each process */
 #define MPM_NAME_LEN 11u  /* name 8, type 3, filled up with blanks */
 
 #define MPM_PROCESSES 16u /* numbers 0 to 15 */
 #define MPM_USERS 16u     /* numbers 0 to 15 */
-#define MPM_MAX_COUNT 16u /* records that one 42 or 43 can name */
+#define MPM_MAX_COUNT 16u /* records that one 33, 34, 40, 42 or 43 can name */
 
 #define MPM_RECORD_LEN 128u
 #define MPM_RECORDS 262144u /* a file has the records 0 to 262,143 */
@@ -64,9 +69,12 @@ extern "C" {
 #define MPM_FCB_RECORD 33u   /* 3 bytes: the record number; 15 and 22 leave the File ID here in unlocked mode */
 
 #define MPM_DMA_FILE_ID 0u /* 42, 43: 2 bytes, the caller's File ID of the file */
-#define MPM_DMA_RECORD 0u  /* 33 puts the record here; 34 and 40 take it; 41 compares it */
+#define MPM_DMA_RECORD 0u  /* 33 puts the first record here; 34 and 40 take it; 41 compares its record */
 #define MPM_DMA_NEW 128u   /* 41 takes the new record from here */
 #define MPM_DMA_FREE 0u    /* 46: 3 bytes, the number of free records */
+
+/* 33, 34, 40: where the record at distance i from the first has its 128 bytes. */
+#define MPM_DMA_AT(i) (MPM_DMA_RECORD + MPM_RECORD_LEN * (i))
 
 #define MPM_LIST_CAPACITY 0u   /* 1 to 64 */
 #define MPM_LIST_OPEN_LIMIT 1u /* 1 to 64 for each process */
@@ -87,17 +95,27 @@ extern "C" {
 #define MPM_MODE_UNLOCKED 1u
 #define MPM_MODE_READ_ONLY 2u
 
-/* ---- Answers of mpm_call and mpm_start: A + 256 H. After each A/H, which function gives it when ---- */
+/* ---- Answers of mpm_call, mpm_singly and mpm_start: A + 256 H. After each A/H, which function gives it when ---- */
 
 #define MPM_ANSWER(a, h) ((a) + 256u * (h))
 
 static inline uint32_t mpm_a(uint32_t answer) { return answer % 256u; }
 static inline uint32_t mpm_h(uint32_t answer) { return answer / 256u; }
 
-/* 0/0: accepted. All that is not 0/0 is a refusal. */
+/* 0/0: accepted, and all records done. All that is not 0/0 is a refusal: of the call, with nothing done, or of one
+   record of a 33, 34 or 40 of several, the first that was refused. Then the high four bits of H are the number of
+   records done before it: 8/48 is 8/0 after three. Nothing else sets these bits. */
 #define MPM_OK MPM_ANSWER(0u, 0u)
 
-/* Tested first, in this order.
+/* The answer without those four bits, to compare with the names below. */
+static inline uint32_t mpm_code(uint32_t answer) { return answer % MPM_ANSWER(0u, 16u); }
+
+/* How many records of a 33, 34 or 40 were done: all of its count, or the number in those four bits. */
+static inline uint32_t mpm_done(uint32_t answer, uint32_t count) {
+    return answer == MPM_OK ? count : mpm_h(answer) / 16u;
+}
+
+/* Tested first, in this order, before any record.
    255/13: unknown function, process over 15, count outside 1 to 16, FCB, DMA or list of wrong length;
            start: a number or a user out of range, users or list of wrong length */
 #define MPM_BAD_CALL MPM_ANSWER(255u, 13u)
@@ -127,7 +145,7 @@ static inline uint32_t mpm_h(uint32_t answer) { return answer / 256u; }
 /* 255/11: 15, 22: no empty place in the list */
 #define MPM_OPEN_LIST_FULL MPM_ANSWER(255u, 11u)
 
-/* Of records.
+/* Of records. Those of 33, 34 and 40 but for 255/3 and 10/0 are tested for each record in turn.
    1/0: 33, 41, 42: a record has no block */
 #define MPM_NO_BLOCK MPM_ANSWER(1u, 0u)
 /* 2/0: 34, 40: the block is missing and none is free */
@@ -136,7 +154,7 @@ static inline uint32_t mpm_h(uint32_t answer) { return answer / 256u; }
 #define MPM_NO_EXTENT MPM_ANSWER(4u, 0u)
 /* 5/0: 34, 40: the extent is missing and there is no empty entry */
 #define MPM_DIRECTORY_FULL MPM_ANSWER(5u, 0u)
-/* 6/0: 33, 34, 40, 41: FCB byte 35 above 3; 42, 43: a record of the run is 262,144 or more */
+/* 6/0: 33, 34, 40, 41: the record is 262,144 or more; 42, 43: one of the run is */
 #define MPM_PAST_END MPM_ANSWER(6u, 0u)
 /* 7/0: 41: the first 128 DMA bytes differ from the record */
 #define MPM_DIFFERS MPM_ANSWER(7u, 0u)
@@ -152,6 +170,8 @@ static inline uint32_t mpm_h(uint32_t answer) { return answer / 256u; }
 #define MPM_LOCK_LIST_FULL MPM_ANSWER(14u, 0u)
 
 /* ---- Functions of mpm_call. After each, its refusals in the order tested, behind the four that come first ---- */
+
+/* 33, 34 and 40 do count records from the FCB's on, in rising order, and stop at the first that is refused. */
 
 /* 15: opens a file. If the caller has it open in the same mode, accepted with no new item. Sets FCB bytes 12 to 31
    and, in unlocked mode, 33 to 35 to the File ID, which is the place of the open in the list.
@@ -169,14 +189,14 @@ static inline uint32_t mpm_h(uint32_t answer) { return answer / 256u; }
 /* 23: gives a file the name in FCB bytes 17 to 27; attributes stay.
    BAD_NAME, NOT_FOUND, IN_USE, READ_ONLY, EXISTS */
 #define MPM_RENAME 23u
-/* 33: copies a record to DMA bytes 0 to 127. A lock does not stop it.
+/* 33: copies each record to its 128 DMA bytes. A lock does not stop it.
    NOT_OPEN, PAST_END, NO_EXTENT, NO_BLOCK */
 #define MPM_READ 33u
-/* 34: stores DMA bytes 0 to 127 as a record, with the lowest empty entry and the lowest free block where its extent or
-   its block is missing.
+/* 34: stores the 128 DMA bytes of each record, with the lowest empty entry and the lowest free block where its extent
+   or its block is missing.
    NOT_OPEN, READ_ONLY, PAST_END, LOCKED, DIRECTORY_FULL, DISK_FULL */
 #define MPM_WRITE 34u
-/* 40: as 34, refusals too, and clears the other seven records of a block that it has just taken. */
+/* 40: as 34, refusals too; a record that takes a block has the block's other seven records cleared. */
 #define MPM_WRITE_ZEROS 40u
 /* 41: stores DMA bytes 128 to 255 as a record that was equal to bytes 0 to 127.
    NOT_OPEN, READ_ONLY, PAST_END, LOCKED, NO_EXTENT, NO_BLOCK, DIFFERS */
@@ -204,11 +224,20 @@ static inline uint32_t mpm_h(uint32_t answer) { return answer / 256u; }
 
 /* One call of an MP/M II program. Gives A + 256 H.
    Numbers are taken as they come, never cut to a byte: function 271 is unknown. Count must be 1 to 16 for all
-   functions; only 42 and 43 use it. The lengths must be 36, 256, 1,299 and a whole number of blocks. An answer other
-   than MPM_OK leaves all four buffers as they were. A file is a name and the user that the list gives the process. */
+   functions; 33, 34, 40, 42 and 43 use it, the others do their work once. The lengths must be 36, 2,048, 1,299 and a
+   whole number of blocks. An answer other than MPM_OK leaves all four buffers as they were, but for the records that a
+   33, 34 or 40 has done (mpm_done). The FCB's record number is not moved on, and DMA bytes past the records done stay.
+   A file is a name and the user that the list gives the process. */
 uint32_t mpm_call(uint32_t function, uint32_t process, uint32_t count,
                   uint8_t *fcb, size_t fcb_len, uint8_t *dma, size_t dma_len,
                   uint8_t *list, size_t list_len, uint8_t *image, size_t image_len);
+
+/* The plain engine, slower and kept to compare with: a 33, 34 or 40 is made as single calls one after another, up to
+   the first that is refused. Its answer is that of the last single call, so it tells no number of records done:
+   mpm_code of mpm_call's answer, with the same bytes in all four buffers. Every other function as mpm_call does it. */
+uint32_t mpm_singly(uint32_t function, uint32_t process, uint32_t count,
+                    uint8_t *fcb, size_t fcb_len, uint8_t *dma, size_t dma_len,
+                    uint8_t *list, size_t list_len, uint8_t *image, size_t image_len);
 
 /* Writes a fresh list: MPM_OK, whatever the list held before. Or MPM_BAD_CALL and the list as it was, where one of the
    three numbers is not 1 to 64, a user is not 0 to 15, users_len is not 16 or list_len is not 1,299. */

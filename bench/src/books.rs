@@ -1,6 +1,7 @@
 //! The books that calls are timed on, and the call of each function on them.
 
 use reference::build::{lock_item, open_item, put_entry, put_item, Entry, Fcb};
+use reference::calls::DMA_LENGTH;
 use reference::random::Random;
 
 const LOCKED_FILE: usize = 0;
@@ -43,6 +44,15 @@ pub const FUNCTIONS: [(u32, &str); 13] = [
     (143, "Terminate"),
 ];
 
+/// The functions that take several records, and the counts that they are timed with.
+pub const BY_RECORDS: [u32; 3] = [33, 34, 40];
+pub const COUNTS: [u32; 5] = [1, 2, 4, 8, 16];
+pub const MOST: u32 = 16;
+
+/// Where the runs begin that are compared and not timed: at records that are there, before a lock of another process in
+/// a full list, before a missing block, before a missing extent, before the last record and behind it.
+const FIRSTS: [u32; 6] = [0, 7, 30, 120, 262_136, 262_144];
+
 impl Kind {
     pub fn title(self) -> &'static str {
         match self {
@@ -75,6 +85,12 @@ impl Kind {
     fn is_list_full(self) -> bool {
         matches!(self, Kind::FullList | Kind::BothFull)
     }
+
+    /// The sizes of drive on which the file with the locks has sixteen records.
+    pub fn sizes_with_sixteen(self) -> Vec<usize> {
+        let has_sixteen = |blocks: &usize| records(&owners(self, *blocks)) >= MOST;
+        SIZES.into_iter().filter(has_sixteen).collect()
+    }
 }
 
 #[derive(Clone)]
@@ -100,7 +116,7 @@ pub fn book(kind: Kind, blocks: usize, random: &mut Random) -> Book {
     let owners = owners(kind, blocks);
     let mut order: Vec<u8> = (2..blocks).map(|block| block as u8).collect();
     random.shuffle(&mut order);
-    let records = 8 * owners.iter().filter(|&&owner| owner == LOCKED_FILE).count() as u32;
+    let records = records(&owners);
     Book {
         list: list(kind, &names, records),
         image: image(blocks, &names, &owners, &order, random),
@@ -130,6 +146,11 @@ fn owners(kind: Kind, blocks: usize) -> Vec<usize> {
             owners
         }
     }
+}
+
+/// How many records the file with the locks has.
+fn records(owners: &[usize]) -> u32 {
+    8 * owners.iter().filter(|&&owner| owner == LOCKED_FILE).count() as u32
 }
 
 fn image(blocks: usize, names: &[[u8; 11]], owners: &[usize], order: &[u8], random: &mut Random) -> Vec<u8> {
@@ -185,10 +206,8 @@ fn full_items(names: &[[u8; 11]], records: u32) -> Vec<[u8; 20]> {
 
 /// The call of that function on the book: one that is accepted wherever the book lets it be.
 pub fn call(function: u32, kind: Kind, book: &Book) -> Call {
-    let nobody = reference::build::name("NOBODY.DAT");
-    let name = |file: usize| book.names.get(file).copied().unwrap_or(nobody);
     let unheld = if kind.is_list_full() { 0 } else { 10 };
-    let of = |file: usize| Fcb::of(name(file));
+    let of = |file: usize| Fcb::of(name(book, file));
     let fresh = reference::build::name("NEWFILE.DAT");
     let (process, fcb) = match function {
         15 => (STRANGER, of(SECOND_FILE).unlocked()),
@@ -205,8 +224,32 @@ pub fn call(function: u32, kind: Kind, book: &Book) -> Call {
         process: u32::from(process),
         count: count(function, kind, book),
         fcb: fcb.0.to_vec(),
-        dma: dma(function, kind, book, &name(LOCKED_FILE)),
+        dma: dma(function, kind, book),
     }
+}
+
+/// So many records of the file with the locks, from the first on.
+pub fn run(function: u32, first: u32, count: u32, kind: Kind, book: &Book) -> Call {
+    Call {
+        function,
+        process: u32::from(CALLER),
+        count,
+        fcb: Fcb::of(name(book, LOCKED_FILE)).record(first).0.to_vec(),
+        dma: dma(function, kind, book),
+    }
+}
+
+/// Function, first record and count of each run that is compared.
+pub fn runs() -> Vec<(u32, u32, u32)> {
+    let counted = |function, first| COUNTS.map(|count| (function, first, count));
+    let begun = |function| FIRSTS.into_iter().flat_map(move |first| counted(function, first));
+    BY_RECORDS.into_iter().flat_map(begun).collect()
+}
+
+/// The name of a file, or one that no file has.
+fn name(book: &Book, file: usize) -> [u8; 11] {
+    let nobody = reference::build::name("NOBODY.DAT");
+    book.names.get(file).copied().unwrap_or(nobody)
 }
 
 /// 42 and 43 take the longest run that has blocks.
@@ -217,16 +260,17 @@ fn count(function: u32, kind: Kind, book: &Book) -> u32 {
     }
 }
 
-fn dma(function: u32, kind: Kind, book: &Book, name: &[u8; 11]) -> Vec<u8> {
-    let mut dma = vec![0; 256];
+/// Other bytes for each record, and over them what 41, 42 and 43 ask for.
+fn dma(function: u32, kind: Kind, book: &Book) -> Vec<u8> {
+    let mut dma: Vec<u8> = (0..DMA_LENGTH).map(|at| (at % 251) as u8).collect();
     if function == 41 && kind != Kind::Empty {
-        let at = reference::look(0, name, 3, &book.image).expect("record 3 has a block");
-        let record = book.image[at..at + 128].to_vec();
-        dma[..128].copy_from_slice(&record);
-        dma[128..].copy_from_slice(&record);
+        let at = reference::look(0, &name(book, LOCKED_FILE), 3, &book.image).expect("record 3 has a block");
+        let record = &book.image[at..at + 128];
+        dma[..128].copy_from_slice(record);
+        dma[128..256].copy_from_slice(record);
     }
     if function == 42 || function == 43 {
-        dma[0] = file_id(kind);
+        dma[..2].copy_from_slice(&[file_id(kind), 0]);
     }
     dma
 }

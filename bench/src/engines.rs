@@ -1,4 +1,4 @@
-//! The three that are timed, called in one way.
+//! The three that are timed and the engine's plain side, called in one way.
 
 use crate::books::Call;
 use reference::calls::{Buffers, Numbers};
@@ -26,9 +26,11 @@ pub enum Who {
     Engine,
     Plain,
     Reference,
+    /// The engine's plain side: a call for several records as single calls.
+    Singly,
 }
 
-pub const ALL: [Who; 3] = [Who::Engine, Who::Plain, Who::Reference];
+pub const THREE: [Who; 3] = [Who::Engine, Who::Plain, Who::Reference];
 
 impl Who {
     pub fn answer(self, call: &mut Call, list: &mut [u8], image: &mut [u8]) -> u32 {
@@ -36,6 +38,9 @@ impl Who {
             Who::Engine => Linked.call(numbers(call), buffers(call, list, image)),
             Who::Plain => plain(call, list, image),
             Who::Reference => Reference::default().call(numbers(call), buffers(call, list, image)),
+            Who::Singly => Linked
+                .singly(numbers(call), buffers(call, list, image))
+                .expect("the engine has a plain side"),
         }
     }
 }

@@ -1,15 +1,16 @@
 //! Times the engine, its plain C version and the reference on the same books in one run.
-//! bench FOLDER [ROUNDS]: writes table.md, rows.csv and plot.svg to the folder.
-//! bench --agree: times nothing, only compares what the three answer and leave.
+//! bench FOLDER [ROUNDS]: writes table.md, rows.csv, plot.svg, several.csv and several.svg to the folder.
+//! bench --agree: times nothing, only compares what the three and the engine's single calls answer and leave.
 
 mod books;
+mod curves;
 mod engines;
 mod measure;
 mod plot;
 mod report;
 
 use books::Kind;
-use measure::{Row, BOOKS};
+use measure::{Row, Several, BOOKS};
 use std::path::Path;
 use std::process::ExitCode;
 
@@ -51,30 +52,53 @@ fn cases() -> Vec<(Kind, usize, u32)> {
     cases
 }
 
+/// Each function that takes several records, on each book that has sixteen.
+fn several_cases() -> Vec<(Kind, usize, u32)> {
+    let mut cases = Vec::new();
+    for kind in books::KINDS {
+        for blocks in kind.sizes_with_sixteen() {
+            for function in books::BY_RECORDS {
+                cases.push((kind, blocks, function));
+            }
+        }
+    }
+    cases
+}
+
 fn agree() -> Result<String, String> {
     let cases = cases();
     for &(kind, blocks, function) in &cases {
         measure::agree(kind, blocks, function);
     }
-    let count = cases.len();
-    Ok(format!("{count} calls, each on {BOOKS} books: all three agree\n"))
+    for kind in books::KINDS {
+        for blocks in books::SIZES {
+            measure::agree_on_runs(kind, blocks);
+        }
+    }
+    let calls = cases.len();
+    let runs = books::KINDS.len() * books::SIZES.len() * books::runs().len();
+    Ok(format!(
+        "{calls} calls and {runs} runs of records, each on {BOOKS} books: all three agree, and so do single calls\n"
+    ))
 }
 
 fn measure_into(folder: &str, rounds: usize) -> Result<String, String> {
     let row = |(kind, blocks, function)| measure::row(kind, blocks, function, rounds);
+    let several = |(kind, blocks, function)| measure::several(kind, blocks, function, rounds);
     let rows: Vec<Row> = cases().into_iter().map(row).collect();
+    let several: Vec<Several> = several_cases().into_iter().map(several).collect();
     let checks = books::KINDS.map(|kind| measure::image_check(kind, report::SHOWN, rounds));
-    let summary = report::summary(&rows, &checks) + &report::goals(&rows);
-    write(Path::new(folder), &rows, &summary).map_err(|error| format!("{folder}: {error}"))?;
+    let summary = report::summary(&rows, &several, &checks) + &report::goals(&rows, &several);
+    write(Path::new(folder), &rows, &several, &summary).map_err(|error| format!("{folder}: {error}"))?;
     Ok(summary)
 }
 
-fn write(folder: &Path, rows: &[Row], summary: &str) -> std::io::Result<()> {
+fn write(folder: &Path, rows: &[Row], several: &[Several], summary: &str) -> std::io::Result<()> {
+    let table = [summary, &report::several(several), &report::details(rows)].concat();
     std::fs::create_dir_all(folder)?;
-    std::fs::write(
-        folder.join("table.md"),
-        summary.to_string() + &report::details(rows),
-    )?;
+    std::fs::write(folder.join("table.md"), table)?;
     std::fs::write(folder.join("rows.csv"), report::csv(rows))?;
-    std::fs::write(folder.join("plot.svg"), plot::svg(rows))
+    std::fs::write(folder.join("plot.svg"), plot::svg(rows))?;
+    std::fs::write(folder.join("several.csv"), report::several_csv(several))?;
+    std::fs::write(folder.join("several.svg"), curves::svg(several))
 }

@@ -1,10 +1,11 @@
-//! Times a call of each function, on many books of a kind, by each of the three.
+//! Times a call of each function, on many books of a kind, by each of the three; then calls for several records.
 
-use crate::books::{self, Book, Call, Kind};
-use crate::engines::{Who, ALL};
+use crate::books::{self, Book, Call, Kind, COUNTS};
+use crate::engines::{Who, THREE};
 use reference::engine::Engine;
 use reference::linked::Linked;
 use reference::random::Random;
+use reference::singly::plain_answer;
 use std::time::Instant;
 
 /// So many books are called in turn, each once, so that no engine profits from having just seen one.
@@ -22,26 +23,49 @@ pub struct Row {
     pub stack: usize,
 }
 
-struct Case {
-    book: Book,
-    call: Call,
+/// Calls for records that are all there, from record 0 on.
+pub struct Several {
+    pub kind: Kind,
+    pub blocks: usize,
+    pub function: u32,
+    /// For each of the counts, nanoseconds a call: engine, plain, the engine's single calls.
+    pub ns: [[f64; 3]; COUNTS.len()],
+    pub stack: usize,
 }
 
+pub const BESIDE_SINGLY: [Who; 3] = [Who::Engine, Who::Plain, Who::Singly];
+
 pub fn row(kind: Kind, blocks: usize, function: u32, rounds: usize) -> Row {
-    let cases = cases(kind, blocks, function);
+    let (books, calls) = cases(kind, blocks, function);
     Row {
         kind,
         blocks,
         function,
-        answer: agreed_answer(&cases),
-        ns: times(&cases, rounds),
-        stack: stack(&cases[0]),
+        answer: agreed_answer(&books, &calls),
+        ns: times(&books, std::slice::from_ref(&calls), THREE, rounds)[0],
+        stack: stack(&books[0], &calls[0]),
+    }
+}
+
+pub fn several(kind: Kind, blocks: usize, function: u32, rounds: usize) -> Several {
+    let books = all_books(kind, blocks);
+    let calls = COUNTS.map(|count| runs(&books, kind, (function, 0, count)));
+    for calls in &calls {
+        assert_eq!(agreed_answer(&books, calls), 0, "the records are there");
+    }
+    let ns = times(&books, &calls, BESIDE_SINGLY, rounds);
+    Several {
+        kind,
+        blocks,
+        function,
+        ns: ns.try_into().expect("a time for each count"),
+        stack: stack(&books[0], &calls[COUNTS.len() - 1][0]),
     }
 }
 
 /// Nanoseconds for the image check alone, as each call makes it.
 pub fn image_check(kind: Kind, blocks: usize, rounds: usize) -> f64 {
-    let mut books: Vec<Book> = (0..BOOKS as u64).map(|seed| book(kind, blocks, seed)).collect();
+    let mut books = all_books(kind, blocks);
     let mut least = f64::INFINITY;
     for _ in 0..rounds {
         let began = Instant::now();
@@ -53,15 +77,34 @@ pub fn image_check(kind: Kind, blocks: usize, rounds: usize) -> f64 {
     least
 }
 
-/// A panic where one of the three does otherwise than the others.
+/// A panic where one of the three, or the engine's single calls, do otherwise than the others.
 pub fn agree(kind: Kind, blocks: usize, function: u32) {
-    agreed_answer(&cases(kind, blocks, function));
+    let (books, calls) = cases(kind, blocks, function);
+    agreed_answer(&books, &calls);
 }
 
-fn cases(kind: Kind, blocks: usize, function: u32) -> Vec<Case> {
-    (0..BOOKS as u64)
-        .map(|seed| case(kind, blocks, function, seed))
-        .collect()
+/// The same of runs of records.
+pub fn agree_on_runs(kind: Kind, blocks: usize) {
+    let books = all_books(kind, blocks);
+    for run in books::runs() {
+        agreed_answer(&books, &runs(&books, kind, run));
+    }
+}
+
+fn cases(kind: Kind, blocks: usize, function: u32) -> (Vec<Book>, Vec<Call>) {
+    let books = all_books(kind, blocks);
+    let call = |book| books::call(function, kind, book);
+    let calls = books.iter().map(call).collect();
+    (books, calls)
+}
+
+fn runs(books: &[Book], kind: Kind, (function, first, count): (u32, u32, u32)) -> Vec<Call> {
+    let run = |book| books::run(function, first, count, kind, book);
+    books.iter().map(run).collect()
+}
+
+fn all_books(kind: Kind, blocks: usize) -> Vec<Book> {
+    (0..BOOKS as u64).map(|seed| book(kind, blocks, seed)).collect()
 }
 
 fn book(kind: Kind, blocks: usize, seed: u64) -> Book {
@@ -70,53 +113,53 @@ fn book(kind: Kind, blocks: usize, seed: u64) -> Book {
     book
 }
 
-fn case(kind: Kind, blocks: usize, function: u32, seed: u64) -> Case {
-    let book = book(kind, blocks, seed);
-    let call = books::call(function, kind, &book);
-    Case { book, call }
-}
-
 /// The answer that all three give on all books, with the same bytes after it.
-fn agreed_answer(cases: &[Case]) -> u32 {
-    let mut answers: Vec<u32> = cases.iter().map(same_outcome).collect();
+fn agreed_answer(books: &[Book], calls: &[Call]) -> u32 {
+    let same = |(book, call)| same_outcome(book, call);
+    let mut answers: Vec<u32> = books.iter().zip(calls).map(same).collect();
     answers.dedup();
     assert_eq!(answers.len(), 1, "the books of a kind are alike");
     answers[0]
 }
 
-fn same_outcome(case: &Case) -> u32 {
-    let outcomes = ALL.map(|who| {
-        let (mut book, mut call) = (case.book.clone(), case.call.clone());
+fn same_outcome(book: &Book, call: &Call) -> u32 {
+    let outcome = |who: Who| {
+        let (mut book, mut call) = (book.clone(), call.clone());
         let answer = who.answer(&mut call, &mut book.list, &mut book.image);
-        (answer, call.fcb, call.dma, book.list, book.image)
-    });
-    assert!(
-        outcomes.iter().all(|outcome| *outcome == outcomes[0]),
-        "the three agree"
-    );
-    outcomes[0].0
+        (answer, (call.fcb, call.dma, book.list, book.image))
+    };
+    let engine = outcome(Who::Engine);
+    for who in [Who::Plain, Who::Reference] {
+        assert!(outcome(who) == engine, "the three agree");
+    }
+    let (answer, left) = engine;
+    let due = plain_answer(call.function, answer);
+    assert!(outcome(Who::Singly) == (due, left), "single calls agree");
+    answer
 }
 
-/// The quickest of the rounds, each over all books, the three taking turns: on a shared machine the slower ones measure its
-/// neighbours.
-fn times(cases: &[Case], rounds: usize) -> [f64; 3] {
-    let mut books: Vec<Book> = cases.iter().map(|case| case.book.clone()).collect();
-    let mut quickest = [f64::INFINITY; 3];
+/// For each set of calls, by each of those who are timed, the quickest of the rounds, each over all books, all taking
+/// turns: on a shared machine the slower ones measure its neighbours.
+fn times(books: &[Book], sets: &[Vec<Call>], timed: [Who; 3], rounds: usize) -> Vec<[f64; 3]> {
+    let mut used = books.to_vec();
+    let mut quickest = vec![[f64::INFINITY; 3]; sets.len()];
     for _ in 0..rounds {
-        for (who, least) in ALL.iter().zip(&mut quickest) {
-            *least = least.min(round(*who, cases, &mut books));
+        for (calls, quickest) in sets.iter().zip(&mut quickest) {
+            for (who, least) in timed.iter().zip(quickest) {
+                *least = least.min(round(*who, calls, books, &mut used));
+            }
         }
     }
     quickest
 }
 
-fn round(who: Who, cases: &[Case], books: &mut [Book]) -> f64 {
-    let mut calls: Vec<Call> = cases.iter().map(|case| case.call.clone()).collect();
-    for (book, case) in books.iter_mut().zip(cases) {
-        restore(book, &case.book);
+fn round(who: Who, calls: &[Call], books: &[Book], used: &mut [Book]) -> f64 {
+    let mut calls = calls.to_vec();
+    for (used, book) in used.iter_mut().zip(books) {
+        restore(used, book);
     }
     let began = Instant::now();
-    for (call, book) in calls.iter_mut().zip(books) {
+    for (call, book) in calls.iter_mut().zip(used) {
         std::hint::black_box(who.answer(call, &mut book.list, &mut book.image));
     }
     began.elapsed().as_nanos() as f64 / BOOKS as f64
@@ -145,8 +188,8 @@ extern "C" fn call_once() {
 }
 
 /// The stack that the engine takes for the call, with that of the few lines that make it.
-fn stack(case: &Case) -> usize {
-    ON_STACK.with_borrow_mut(|held| *held = Some((case.call.clone(), case.book.clone())));
+fn stack(book: &Book, call: &Call) -> usize {
+    ON_STACK.with_borrow_mut(|held| *held = Some((call.clone(), book.clone())));
     // SAFETY: the function is run once, on this thread, before stack_of returns.
     unsafe { stack_of(call_once) }
 }

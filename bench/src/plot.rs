@@ -5,9 +5,9 @@ use crate::measure::Row;
 use crate::report::{of, SHOWN};
 use std::fmt::Write;
 
-const LEFT: f64 = 70.0;
+pub const LEFT: f64 = 70.0;
 const COLUMN: f64 = 62.0;
-const TOP: f64 = 70.0;
+pub const TOP: f64 = 70.0;
 const PANEL: f64 = 190.0;
 const INNER: f64 = 150.0;
 const WIDTH: f64 = LEFT + COLUMN * 13.0 + 20.0;
@@ -16,27 +16,28 @@ const WIDTH: f64 = LEFT + COLUMN * 13.0 + 20.0;
 const LOWEST: f64 = -2.0;
 const HIGHEST: f64 = 7.0;
 
-const MARKS: [(&str, &str); 3] = [
-    ("engine", "#14599d"),
-    ("the same in plain C", "#8a8a8a"),
-    ("Rust reference", "#d0812a"),
-];
+/// A name and a colour.
+pub type Mark = (&'static str, &'static str);
+
+pub const ENGINE: Mark = ("engine", "#14599d");
+pub const PLAIN: Mark = ("the same in plain C", "#8a8a8a");
+const MARKS: [Mark; 3] = [ENGINE, PLAIN, ("Rust reference", "#d0812a")];
 
 pub fn svg(rows: &[Row]) -> String {
     let height = TOP + PANEL * KINDS.len() as f64 + 30.0;
-    let mut text = format!(
-        "<svg xmlns=\"http://www.w3.org/2000/svg\" width=\"{WIDTH}\" height=\"{height}\" font-family=\"sans-serif\" font-size=\"12\">\n\
-         <rect width=\"100%\" height=\"100%\" fill=\"white\"/>\n",
+    let mut text = head(WIDTH, height);
+    legend(
+        &mut text,
+        "Microseconds a call, drive of 256 blocks (logarithmic)",
+        &MARKS,
     );
-    legend(&mut text);
     for (at, kind) in KINDS.iter().enumerate() {
         let top = TOP + PANEL * at as f64;
-        let _ = writeln!(
-            text,
-            "<text x=\"{LEFT}\" y=\"{}\" font-weight=\"bold\">{}: {}</text>",
-            top - 6.0,
-            kind.title(),
-            kind.describe()
+        title(
+            &mut text,
+            LEFT,
+            top,
+            &format!("{}: {}", kind.title(), kind.describe()),
         );
         grid(&mut text, top);
         for (column, row) in of(rows, *kind, SHOWN).iter().enumerate() {
@@ -48,9 +49,27 @@ pub fn svg(rows: &[Row]) -> String {
     text
 }
 
-fn legend(text: &mut String) {
-    let _ = writeln!(text, "<text x=\"{LEFT}\" y=\"20\" font-size=\"14\">Microseconds a call, drive of 256 blocks (logarithmic)</text>");
-    for (at, (name, colour)) in MARKS.iter().enumerate() {
+pub fn head(width: f64, height: f64) -> String {
+    format!(
+        "<svg xmlns=\"http://www.w3.org/2000/svg\" width=\"{width}\" height=\"{height}\" font-family=\"sans-serif\" font-size=\"12\">\n\
+         <rect width=\"100%\" height=\"100%\" fill=\"white\"/>\n",
+    )
+}
+
+pub fn title(text: &mut String, x: f64, top: f64, words: &str) {
+    let _ = writeln!(
+        text,
+        "<text x=\"{x}\" y=\"{}\" font-weight=\"bold\">{words}</text>",
+        top - 6.0
+    );
+}
+
+pub fn legend(text: &mut String, words: &str, marks: &[Mark]) {
+    let _ = writeln!(
+        text,
+        "<text x=\"{LEFT}\" y=\"20\" font-size=\"14\">{words}</text>"
+    );
+    for (at, (name, colour)) in marks.iter().enumerate() {
         let x = LEFT + 6.0 + 180.0 * at as f64;
         let _ = writeln!(
             text,

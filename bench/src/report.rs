@@ -1,14 +1,14 @@
 //! The figures as text.
 
-use crate::books::{Kind, FUNCTIONS, KINDS, SIZES};
-use crate::measure::Row;
+use crate::books::{Kind, COUNTS, FUNCTIONS, KINDS, MOST, SIZES};
+use crate::measure::{Row, Several};
 use std::fmt::Write;
 
 /// The size of drive that the summary and the plot show.
 pub const SHOWN: usize = 256;
 
 /// A line for each kind of book, with the time of the image check alone; then the stack.
-pub fn summary(rows: &[Row], checks: &[f64]) -> String {
+pub fn summary(rows: &[Row], several: &[Several], checks: &[f64]) -> String {
     let mut text = String::from(
         "| book | engine, median | engine, slowest | image check alone | plain C, median | engine / C, highest | reference / engine, median | n = 256 / n = 64, median |\n|---|---|---|---|---|---|---|---|\n",
     );
@@ -32,18 +32,29 @@ pub fn summary(rows: &[Row], checks: &[f64]) -> String {
             median(&of, |row| row.ns[0] / same_call(rows, row, 64).ns[0]),
         );
     }
-    let stack = rows.iter().map(|row| row.stack).max().unwrap_or(0);
-    let _ = writeln!(text, "\nStack of one call, highest: {stack} bytes.");
+    let stacks = rows.iter().map(|row| row.stack);
+    let stack = stacks.chain(several.iter().map(|row| row.stack)).max();
+    let _ = writeln!(
+        text,
+        "\nStack of one call, highest: {} bytes.",
+        stack.unwrap_or(0)
+    );
     text
 }
 
 /// The goals, what was measured of each, and what misses it.
-pub fn goals(rows: &[Row]) -> String {
+pub fn goals(rows: &[Row], several: &[Several]) -> String {
     let time = |row: &&Row| (label(row), row.ns[0] / 1000.0);
     let typical: Vec<_> = of(rows, Kind::Typical, SHOWN).iter().map(time).collect();
     let full: Vec<_> = of(rows, Kind::BothFull, SHOWN).iter().map(time).collect();
     let shown = rows.iter().filter(|row| row.blocks == SHOWN);
-    let beside: Vec<_> = shown.map(|row| (label(row), ratio(row))).collect();
+    let many = several.iter().filter(|row| row.blocks == SHOWN);
+    let many = many.map(|row| (several_label(row), row.most()[0] / row.most()[1]));
+    let beside: Vec<_> = shown.map(|row| (label(row), ratio(row))).chain(many).collect();
+    let sixteen: Vec<_> = several
+        .iter()
+        .map(|row| (several_label(row), row.growth()))
+        .collect();
     let growth = KINDS.map(|kind| {
         (
             kind.title().to_string(),
@@ -59,6 +70,11 @@ pub fn goals(rows: &[Row]) -> String {
             25.0,
         ),
         goal("at most 1.5 times plain C", &beside, 1.5),
+        goal(
+            "sixteen records that are there, read or written in one call, at most 2 times one record's call",
+            &sixteen,
+            2.0,
+        ),
         goal(
             "no growth with n: the thirteen calls of a book at n = 256 under 1.1 times those at n = 64",
             &growth,
@@ -84,6 +100,30 @@ fn goal(name: &str, measured: &[(String, f64)], limit: f64) -> String {
 
 fn label(row: &Row) -> String {
     format!("{} {}", row.kind.title(), row.function)
+}
+
+fn several_label(row: &Several) -> String {
+    format!(
+        "{} {} of {MOST}, n = {}",
+        row.kind.title(),
+        row.function,
+        row.blocks
+    )
+}
+
+impl Several {
+    fn one(&self) -> [f64; 3] {
+        self.ns[0]
+    }
+
+    fn most(&self) -> [f64; 3] {
+        self.ns[COUNTS.len() - 1]
+    }
+
+    /// The engine's time for the most records beside that for one.
+    fn growth(&self) -> f64 {
+        self.most()[0] / self.one()[0]
+    }
 }
 
 fn total(rows: &[Row], kind: Kind, blocks: usize) -> f64 {
@@ -116,6 +156,56 @@ fn table(rows: &[Row], kind: Kind) -> String {
             micro(row.ns[2]),
             row.stack,
         );
+    }
+    text
+}
+
+/// A line for each call that takes several records and each book that has sixteen.
+pub fn several(rows: &[Several]) -> String {
+    let mut text = format!(
+        "\n**{MOST} records in one call**: from record 0 on, all there\n\n\
+         | call | book | n | 1 record | {MOST} records | {MOST} / 1 | plain C | engine / C | {MOST} single calls | single / one call | stack |\n\
+         |---|---|---|---|---|---|---|---|---|---|---|\n"
+    );
+    for row in rows {
+        let [engine, plain, singly] = row.most();
+        let _ = writeln!(
+            text,
+            "| {} {} | {} | {} | {} | {} | {:.2} | {} | {:.2} | {} | {:.1} | {} |",
+            row.function,
+            name(row.function),
+            row.kind.title(),
+            row.blocks,
+            micro(row.one()[0]),
+            micro(engine),
+            row.growth(),
+            micro(plain),
+            engine / plain,
+            micro(singly),
+            singly / engine,
+            row.stack,
+        );
+    }
+    text
+}
+
+/// Every book, size, call and count, with the engine's time beside plain C's and its single calls' beside its own.
+pub fn several_csv(rows: &[Several]) -> String {
+    let mut text = String::from(
+        "book,n,function,count,engine ns,plain C ns,single calls ns,engine / C,single / one call\n",
+    );
+    for row in rows {
+        for (count, [engine, plain, singly]) in COUNTS.iter().zip(row.ns) {
+            let _ = writeln!(
+                text,
+                "{},{},{},{count},{engine:.0},{plain:.0},{singly:.0},{:.2},{:.2}",
+                row.kind.title(),
+                row.blocks,
+                row.function,
+                engine / plain,
+                singly / engine,
+            );
+        }
     }
     text
 }

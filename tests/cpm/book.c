@@ -15,6 +15,7 @@
      get USER NAME FILE                15, 33, 16: copies the records from 0 to the first refusal to FILE; prints how
                                        many, the record count that 15 gave and the refusal. Look must show the same.
 
+   Records go sixteen to a call, the last ones as many as are left; get asks for sixteen each time.
    A refusal ends the run: its line says which command got which A/H, and the image file stays as it was.
    Exit status: 0 if all was done, 1 at a refusal or where Look differs, 2 for wrong use or an unusable file. */
 
@@ -106,9 +107,11 @@ static void fill_fcb(const uint8_t *name, uint32_t record) {
     }
 }
 
-static uint32_t call(uint32_t function, uint32_t user) {
-    return mpm_call(function, user, 1, fcb, sizeof fcb, dma, sizeof dma, list, sizeof list, image, image_len);
+static uint32_t call_for(uint32_t function, uint32_t user, uint32_t count) {
+    return mpm_call(function, user, count, fcb, sizeof fcb, dma, sizeof dma, list, sizeof list, image, image_len);
 }
+
+static uint32_t call(uint32_t function, uint32_t user) { return call_for(function, user, 1); }
 
 static int report(const struct command *command, char **operands, uint32_t answer) {
     if (answer == MPM_OK) return DONE;
@@ -158,20 +161,29 @@ static int write_records(const struct command *command, char **operands) {
     if (!read_number(operands[0], &user) || !read_name(operands[1], name)) return wrong(operands[1]);
     if (!read_number(operands[2], &first) || !read_number(operands[3], &count)) return wrong(operands[3]);
     if (!load(operands[4], bytes, &length) || first + count > length / MPM_RECORD_LEN) return wrong(operands[4]);
-    for (uint32_t record = first; record < first + count && answer == MPM_OK; record++) {
-        fill_fcb(name, record);
-        memcpy(dma + MPM_DMA_RECORD, bytes + record * MPM_RECORD_LEN, MPM_RECORD_LEN);
-        answer = call(command->function, user);
+    while (count > 0 && answer == MPM_OK) {
+        uint32_t run = count < MPM_MAX_COUNT ? count : MPM_MAX_COUNT;
+        fill_fcb(name, first);
+        memcpy(dma + MPM_DMA_RECORD, bytes + first * MPM_RECORD_LEN, run * MPM_RECORD_LEN);
+        answer = call_for(command->function, user, run);
+        first += run;
+        count -= run;
     }
     return report(command, operands, answer);
 }
 
-/* Look shows what 33 has just read, or nothing where 33 has refused. */
-static int look_agrees(uint32_t user, const uint8_t *name, uint32_t record, uint32_t answer) {
+/* Look shows these bytes of the record; with none, it shows nothing. */
+static int look_agrees(uint32_t user, const uint8_t *name, uint32_t record, const uint8_t *shown) {
     uint32_t at = mpm_look(user, name, MPM_NAME_LEN, record, image, image_len);
-    if (answer != MPM_OK) return at == 0;
-    return at != 0 && at <= image_len - MPM_RECORD_LEN &&
-           memcmp(image + at, dma + MPM_DMA_RECORD, MPM_RECORD_LEN) == 0;
+    if (!shown) return at == 0;
+    return at != 0 && at <= image_len - MPM_RECORD_LEN && memcmp(image + at, shown, MPM_RECORD_LEN) == 0;
+}
+
+/* Look shows what 33 has just read, and nothing of the record that it has refused, if it has. */
+static int look_agrees_with_run(uint32_t user, const uint8_t *name, uint32_t first, uint32_t done) {
+    for (uint32_t i = 0; i < done; i++)
+        if (!look_agrees(user, name, first + i, dma + MPM_DMA_AT(i))) return 0;
+    return done == MPM_MAX_COUNT || look_agrees(user, name, first + done, 0);
 }
 
 static int get(const struct command *command, char **operands) {
@@ -186,16 +198,18 @@ static int get(const struct command *command, char **operands) {
     for (;;) {
         fill_fcb(name, record);
         memset(dma, 0, sizeof dma);
-        answer = call(command->function, user);
-        if (!look_agrees(user, name, record, answer)) {
-            printf("get %s %s: Look differs from 33 at record %u\n", operands[0], operands[1], (unsigned)record);
+        answer = call_for(command->function, user, MPM_MAX_COUNT);
+        uint32_t done = mpm_done(answer, MPM_MAX_COUNT);
+        if (!look_agrees_with_run(user, name, record, done)) {
+            printf("get %s %s: Look differs from 33 from record %u on\n", operands[0], operands[1], (unsigned)record);
             return REFUSED;
         }
+        if ((record + done) * MPM_RECORD_LEN > sizeof bytes) return wrong("more records than blocks");
+        memcpy(bytes + record * MPM_RECORD_LEN, dma + MPM_DMA_RECORD, done * MPM_RECORD_LEN);
+        record += done;
         if (answer != MPM_OK) break;
-        if ((record + 1) * MPM_RECORD_LEN > sizeof bytes) return wrong("more records than blocks");
-        memcpy(bytes + record * MPM_RECORD_LEN, dma + MPM_DMA_RECORD, MPM_RECORD_LEN);
-        record++;
     }
+    answer = mpm_code(answer);
     printf("%s %s: %u records, count %u, then %u/%u\n", operands[0], operands[1], (unsigned)record, count,
            (unsigned)mpm_a(answer), (unsigned)mpm_h(answer));
     fill_fcb(name, 0);

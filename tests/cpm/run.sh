@@ -488,7 +488,7 @@ for n in 64 256; do
     "tools_fill_$n"
     agree "mpm$n" "made$n"
     zeros_follow "made$n"
-    ok "$n blocks, made by mkfs.cpm and cpmcp: sound, and $(find "made$n.in" -type f | wc -l) files read by 33 and Look have their bytes; zeros fill up the last record"
+    ok "$n blocks, made by mkfs.cpm and cpmcp: sound, and $(find "made$n.in" -type f | wc -l) files read by 33, sixteen records to a call, and by Look have their bytes; zeros fill up the last record"
 done
 
 engine_fills mpm64 ours64 140 130 60 16 150

@@ -34,9 +34,11 @@ def start(capacity=3, opens=2, locks=2, users=bytes(16)):
     return bytes([0x4D, 0x53, capacity, opens, locks]) + users
 
 
-def call(function, process, fcb, dma=bytes(256), count=1):
-    """4D 43, function, process, count (a byte each), FCB, DMA."""
-    return bytes([0x4D, 0x43, function, process, count]) + fcb + dma
+def call(function, process, fcb, dma=bytes(2048), count=1):
+    """4D 43, function, process, count (a byte each), FCB (36 bytes), DMA (2,048): 2,089 bytes."""
+    record = bytes([0x4D, 0x43, function, process, count]) + fcb + dma
+    assert len(record) == 2089
+    return record
 
 
 def fcb(record=0, unlocked=True):
@@ -49,9 +51,24 @@ def fcb(record=0, unlocked=True):
     return bytes(f)
 
 
+def read_only(f):
+    """This FCB with the high bit of byte 6 set: 15 opens in read-only mode."""
+    return f[:6] + bytes([f[6] | 0x80]) + f[7:]
+
+
 def dma(file_id=0):
     """A DMA whose bytes 0 and 1 are the File ID, the rest zeros."""
-    return bytes([file_id, 0]) + bytes(254)
+    return bytes([file_id, 0]) + bytes(2046)
+
+
+def record(byte):
+    """The 128 bytes of a record, all the same."""
+    return bytes([byte]) * 128
+
+
+def records(first):
+    """A DMA of sixteen records: the first is all `first`, each next one a byte higher."""
+    return b"".join(record(first + i) for i in range(16))
 
 
 # ---- the image
@@ -146,7 +163,7 @@ SESSION_OUT = written(
 # Record 262,143: extent 2,047, so ex 31 and module 63; place 127, so the last map byte and count 128. The extent is missing
 # and takes the lowest empty entry, 1; the block the lowest free one, 2; the record is the last of its eight.
 LAST = 262143
-LAST_DMA = bytes(range(128)) + bytes(128)
+LAST_DMA = bytes(range(128)) + bytes(1920)
 LAST_OUT = written(
     blank(3),
     (0, entry()),
@@ -184,14 +201,15 @@ def lines(*answers):
 Case("S0 to S6", blank(4), [start(), *SESSION[:7]], SESSION_6, SESSION_OUT)
 Case("S0 to S13", blank(4), [start(), *SESSION], SESSION_13, SESSION_OUT)
 Case("S0 to S13 over a longer DISK.OUT", blank(4), [start(), *SESSION], SESSION_13, SESSION_OUT, old=bytes(10000))
-Case("S0 to S6, seven bytes at a time", blank(4), [start(), *SESSION[:7]], SESSION_6, SESSION_OUT, chunk=7)
-Case("S0 to S6, 298 bytes at a time", blank(4), [start(), *SESSION[:7]], SESSION_6, SESSION_OUT, chunk=298)
+Case("S0, seven bytes at a time", blank(4), [start(), SESSION[0]], lines("0 1 22 0 0", "end 1"), MADE_4, chunk=7)
+Case("S0 to S6, 61 bytes at a time", blank(4), [start(), *SESSION[:7]], SESSION_6, SESSION_OUT, chunk=61)
+Case("S0 to S6, 2,090 bytes at a time", blank(4), [start(), *SESSION[:7]], SESSION_6, SESSION_OUT, chunk=2090)
 
 # DISK.OUT of the session as DISK.IMG: it comes out again, and record 8 is there to be read and rewritten, not record 16
 Case("DISK.OUT read back", SESSION_OUT, [start()], lines("end 0"), SESSION_OUT)
 Case("DISK.OUT read back and used", SESSION_OUT,
      [start(), call(MAKE, 1, fcb()), call(OPEN, 1, fcb()), call(READ, 1, fcb(8)), call(READ, 1, fcb(16)),
-      call(WRITE, 1, fcb(8), bytes([7]) * 256)],
+      call(WRITE, 1, fcb(8), bytes([7]) * 2048)],
      lines("0 1 22 255 8", "1 1 15 0 0", "2 1 33 0 0", "3 1 33 1 0", "4 1 34 0 0", "end 5"),
      written(SESSION_OUT, (3 * 1024, bytes([7]) * 128)))
 
@@ -220,6 +238,64 @@ Case("n of 3", blank(3), [start(), call(MAKE, 1, fcb())], lines("0 1 22 0 0", "e
 Case("n of 2", blank(2), [start(), call(MAKE, 1, fcb())], lines("0 1 22 255 1", "end 1"), blank(2))
 Case("a byte too many", blank(4) + b"\0", [start(), call(MAKE, 1, fcb())], lines("0 1 22 255 1", "end 1"), blank(4) + b"\0")
 
+# several records in one call: H tells sixteen times the records done where another was refused behind them, else nothing.
+# On n of 4 the blocks 2 and 3 are free: 2 goes to the records 0 to 7, 3 to 8 to 15, and the count of the extent is 16.
+SIXTEEN_OUT = written(blank(4), (0, entry(count=16, blocks=[(0, 2), (1, 3)])), (2 * 1024, records(0x10)))
+Case("sixteen records written and read", blank(4),
+     [start(), call(MAKE, 1, fcb()), call(WRITE, 1, fcb(), records(0x10), count=16), call(READ, 1, fcb(), count=16)],
+     lines("0 1 22 0 0", "1 1 34 0 0", "2 1 33 0 0", "end 3"), SIXTEEN_OUT)
+# On n of 3 only block 2 is free. Records 5, 6 and 7 take it and are stored; record 8 finds none, 2/0 after three: H is 48.
+# The count is 8, by record 7. Function 34 leaves the five records before them as they were, 40 clears them: record 5 took
+# the block; 6 and 7 found it there and cleared nothing.
+THREE = b"".join(record(0x20 + i) for i in range(3))
+THREE_OUT = written(blank(3), (0, entry(count=8, blocks=[(0, 2)])), (2 * 1024 + 5 * 128, THREE))
+Case("a write that stops after three records", blank(3),
+     [start(), call(MAKE, 1, fcb()), call(WRITE, 1, fcb(5), records(0x20), count=16)],
+     lines("0 1 22 0 0", "1 1 34 2 48", "end 2"), THREE_OUT)
+Case("a write with zeros that stops after three records", blank(3),
+     [start(), call(MAKE, 1, fcb()), call(WRITE_ZEROS, 1, fcb(5), records(0x20), count=16)],
+     lines("0 1 22 0 0", "1 1 40 2 48", "end 2"), written(THREE_OUT, (2 * 1024, bytes(5 * 128))))
+# Record 8 has no block there: 1/0 after three records, seven, one and none.
+Case("reads that stop after some records", THREE_OUT,
+     [start(), call(OPEN, 1, fcb()), call(READ, 1, fcb(5), count=16), call(READ, 1, fcb(1), count=8), call(READ, 1, fcb(7), count=2),
+      call(READ, 1, fcb(8), count=16), call(READ, 1, fcb(5), count=3)],
+     lines("0 1 15 0 0", "1 1 33 1 48", "2 1 33 1 112", "3 1 33 1 16", "4 1 33 1 0", "5 1 33 0 0", "end 6"), THREE_OUT)
+# Process 1 holds record 0 (S3): its own run goes on, that of process 2 is refused at once, and one behind the lock is not.
+Case("runs beside a lock", blank(4),
+     [start(), *SESSION[:4], call(WRITE, 1, fcb(0), records(0x30), count=4), call(WRITE, 2, fcb(0), records(0x40), count=4),
+      call(WRITE, 2, fcb(1), records(0x50), count=2)],
+     lines("0 1 22 0 0", "1 2 15 0 0", "2 1 34 0 0", "3 1 42 0 0", "4 1 34 0 0", "5 2 34 8 0", "6 2 34 0 0", "end 7"),
+     written(blank(4), (0, entry(count=4, blocks=[(0, 2)])), (2 * 1024, record(0x30) + record(0x50) + record(0x51) + record(0x33))))
+# The lock is on record 3: three records before it are stored, and none behind it.
+Case("a write that stops at a lock after three records", blank(4),
+     [start(), *SESSION[:2], call(WRITE, 1, fcb(0), records(0x30), count=8), call(LOCK, 1, fcb(3), dma(0)),
+      call(WRITE, 2, fcb(0), records(0x40), count=8)],
+     lines("0 1 22 0 0", "1 2 15 0 0", "2 1 34 0 0", "3 1 42 0 0", "4 2 34 8 48", "end 5"),
+     written(blank(4), (0, entry(count=8, blocks=[(0, 2)])),
+             (2 * 1024, b"".join(record(b) for b in (0x40, 0x41, 0x42, 0x33, 0x34, 0x35, 0x36, 0x37)))))
+# The last two records there can be, and then byte 35 of 4: 6/0 after two. 42 refuses such a run whole.
+Case("runs over record 262,143", blank(3),
+     [start(), call(MAKE, 1, fcb()), call(WRITE, 1, fcb(LAST - 1), records(0x60), count=16), call(READ, 1, fcb(LAST - 1), count=16),
+      call(READ, 1, fcb(LAST - 1), count=2), call(LOCK, 1, fcb(LAST - 1), count=3)],
+     lines("0 1 22 0 0", "1 1 34 6 32", "2 1 33 6 32", "3 1 33 0 0", "4 1 42 6 0", "end 5"),
+     written(blank(3), (0, entry()), (32, entry(ex=31, module=63, count=128, blocks=[(15, 2)])),
+             (2 * 1024 + 6 * 128, record(0x60) + record(0x61))))
+# Records 126 and 127 are of extent 0 and take block 2, 128 and 129 of extent 1, which takes entry 1 and block 3. Of sixteen from
+# 126 on ten can be read, to the end of block 3. Record 4,094 would need extent 31, for which there is an entry but no block.
+Case("a run over the end of an extent", blank(4),
+     [start(), call(MAKE, 1, fcb()), call(WRITE, 1, fcb(126), records(0x70), count=4), call(READ, 1, fcb(126), count=16),
+      call(WRITE, 1, fcb(4094), records(0x70), count=4)],
+     lines("0 1 22 0 0", "1 1 34 0 0", "2 1 33 1 160", "3 1 34 2 0", "end 4"),
+     written(blank(4), (0, entry(count=128, blocks=[(15, 2)])), (32, entry(ex=1, count=2, blocks=[(0, 3)])),
+             (2 * 1024 + 6 * 128, record(0x70) + record(0x71) + record(0x72) + record(0x73))))
+# Not open, and a file that 15 opened read-only: refused before any record.
+Case("runs refused before any record", SIXTEEN_OUT,
+     [start(), call(READ, 1, fcb(), count=16), call(WRITE, 1, fcb(), count=16), call(OPEN, 1, read_only(fcb())),
+      call(WRITE, 1, fcb(), count=16), call(WRITE_ZEROS, 1, fcb(), count=16), call(READ, 1, fcb(), count=16),
+      call(READ, 1, fcb(), count=17)],
+     lines("0 1 33 10 0", "1 1 34 10 0", "2 1 15 0 0", "3 1 34 255 3", "4 1 40 255 3", "5 1 33 0 0", "6 1 33 255 13", "end 7"),
+     SIXTEEN_OUT)
+
 # refused calls are calls
 Case("unknown function, process 200", blank(4),
      [start(), call(99, 1, fcb()), call(MAKE, 200, fcb()), call(0, 0, fcb()), call(255, 255, fcb(), count=255)],
@@ -232,7 +308,15 @@ Case("start record cut by a byte", blank(4), [start()[:-1]], lines("bad record 0
 Case("one byte of a start record", blank(4), [start()[:1]], lines("bad record 0"), None)
 Case("first mark of the start wrong", blank(4), [b"\x4E" + start()[1:], call(MAKE, 1, fcb())], lines("bad record 0"), None)
 Case("second mark of the start wrong", blank(4), [b"\x4D\x43" + start()[2:], call(MAKE, 1, fcb())], lines("bad record 0"), None)
-Case("call record cut by a byte", blank(4), [start(), call(MAKE, 1, fcb())[:-1]], lines("bad record 1"), None)
+Case("call record cut to 2,088 bytes", blank(4), [start(), call(MAKE, 1, fcb())[:2088]], lines("bad record 1"), None)
+# A DMA of 256 bytes, as it was when a call was for one record: seven such records are one that is cut, eight are a whole
+# one, an accepted 46 with the others in its DMA, and one that is cut.
+OLD_46 = call(FREE_SPACE, 1, fcb())[:5 + 36 + 256]
+Case("a call record of the old length", blank(4), [start(), OLD_46], lines("bad record 1"), None, old=b"older")
+Case("seven call records of the old length", blank(4), [start(), OLD_46 * 7], lines("bad record 1"), None)
+Case("eight call records of the old length", blank(4), [start(), OLD_46 * 8], lines("0 1 46 0 0", "bad record 2"), None)
+Case("a call record of the old length after a whole one", blank(4), [start(), SESSION[0], OLD_46],
+     lines("0 1 22 0 0", "bad record 2"), None)
 Case("one byte left over", blank(4), [start(), call(MAKE, 1, fcb()), b"\x4D"], lines("0 1 22 0 0", "bad record 2"), None)
 Case("first mark wrong after two calls", blank(4),
      [start(), *SESSION[:2], b"\x00" + SESSION[2][1:], SESSION[3]],
@@ -242,7 +326,7 @@ Case("second mark wrong after two calls", blank(4),
      lines("0 1 22 0 0", "1 2 15 0 0", "bad record 3"), None, old=b"older")
 Case("a second start record", blank(4), [start(), SESSION[0], start(), *SESSION[1:3]], lines("0 1 22 0 0", "bad record 2"), None,
      old=b"older")
-Case("ten calls and a bad mark", blank(4), [start(), *[call(FREE_SPACE, 1, fcb())] * 10, bytes(297)],
+Case("ten calls and a bad mark", blank(4), [start(), *[call(FREE_SPACE, 1, fcb())] * 10, bytes(2089)],
      lines(*["%d 1 46 0 0" % k for k in range(10)], "bad record 11"), None)
 Case("bad start over an older DISK.OUT", blank(4), [start(0)], lines("bad record 0"), None, old=b"older")
 

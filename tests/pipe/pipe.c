@@ -1,8 +1,10 @@
-/* Serves the engine's four functions over a pipe: steps come in batches on descriptor 0, replies
-   go out on descriptor 1. reference/src/wire.rs has the bytes of steps and replies; a batch is
-   its length (4 bytes, low byte first) and then so many bytes of whole steps.
+/* Serves the engine's functions over a pipe: steps come in batches on descriptor 0, replies go
+   out on descriptor 1. reference/src/wire.rs has the bytes of steps and replies; a batch is its
+   length (4 bytes, low byte first) and then so many bytes of whole steps.
 
-   Every buffer lent to the engine lies in an area of its own between guard bytes.
+   Every buffer lent to the engine lies in an area of its own between guard bytes. Each call is
+   made a second time by mpm_singly, on buffers that the plain side has for itself and that are
+   kept as the first ones are; the reply tells where the two have done otherwise.
 
    Exit status: 0 at the end of input, 3 for a batch that makes no sense, 4 if writing fails. */
 
@@ -20,6 +22,8 @@ void *memset(void *, int, size);
 
 u32 mpm_call(u32 function, u32 process, u32 count, u8 *fcb, size fcb_len, u8 *dma, size dma_len,
              u8 *list, size list_len, u8 *image, size image_len);
+u32 mpm_singly(u32 function, u32 process, u32 count, u8 *fcb, size fcb_len, u8 *dma, size dma_len,
+               u8 *list, size list_len, u8 *image, size image_len);
 u32 mpm_start(u32 capacity, u32 open_limit, u32 lock_limit, const u8 *users, size users_len,
               u8 *list, size list_len);
 u32 mpm_check(const u8 *image, size image_len);
@@ -30,34 +34,44 @@ enum {
     GUARD = 64,
     MAX_IMAGE = 258 * 1024,
     MAX_LIST = 4096,
+    MAX_DMA = 4096,
     MAX_SMALL = 1024,
     BATCH = 65536,
-    MAX_CHANGES = 1024,
+    MAX_CHANGES = 2048,
     MAX_CHANGED_BYTES = 4096,
     STRIDE = 256,
     TOO_MANY = 65535,
+    AREAS = 4,
+    ANSWER_APART = 1 << AREAS,
+    WITHOUT_DONE = 0x0FFF,
     MALFORMED = 3,
     CANNOT_WRITE = 4
 };
 
-/* A buffer with room for guard bytes on both sides, and what it was before the step. */
+/* A buffer with room for guard bytes on both sides, what it was before the step, and a second
+   such room for the plain side. */
 struct area {
     u8 *room;
     u8 *before;
+    u8 *plain;
     size limit;
     size length;
 };
 
 static u8 small_room[GUARD + MAX_SMALL + GUARD], small_before[MAX_SMALL];
-static u8 dma_room[GUARD + MAX_SMALL + GUARD], dma_before[MAX_SMALL];
+static u8 dma_room[GUARD + MAX_DMA + GUARD], dma_before[MAX_DMA];
 static u8 list_room[GUARD + MAX_LIST + GUARD], list_before[MAX_LIST];
 static u8 image_room[GUARD + MAX_IMAGE + GUARD], image_before[MAX_IMAGE];
 
+static u8 small_plain[sizeof small_room], dma_plain[sizeof dma_room];
+static u8 list_plain[sizeof list_room], image_plain[sizeof image_room];
+
 /* The users, the FCB or the name; the DMA; the list; the image: in the order of a reply. */
-static struct area small = {small_room, small_before, MAX_SMALL, 0};
-static struct area dma = {dma_room, dma_before, MAX_SMALL, 0};
-static struct area list = {list_room, list_before, MAX_LIST, 0};
-static struct area image = {image_room, image_before, MAX_IMAGE, 0};
+static struct area small = {small_room, small_before, small_plain, MAX_SMALL, 0};
+static struct area dma = {dma_room, dma_before, dma_plain, MAX_DMA, 0};
+static struct area list = {list_room, list_before, list_plain, MAX_LIST, 0};
+static struct area image = {image_room, image_before, image_plain, MAX_IMAGE, 0};
+static struct area *const areas[AREAS] = {&small, &dma, &list, &image};
 
 static u8 batch[BATCH];
 static size batch_length, batch_at;
@@ -68,18 +82,25 @@ static u8 guard_byte(size position) { return (u8)(0x5A ^ (position * 37)); }
 
 static u8 *data(struct area *area) { return area->room + GUARD; }
 
-static void set_guards(struct area *area) {
-    u8 *after = data(area) + area->length;
+static u8 *plain(struct area *area) { return area->plain + GUARD; }
+
+static void set_guards_of(u8 *room, size length) {
+    u8 *after = room + GUARD + length;
     for (size i = 0; i < GUARD; i++) {
-        area->room[i] = guard_byte(i);
+        room[i] = guard_byte(i);
         after[i] = guard_byte(i);
     }
 }
 
-static int guards_hold(struct area *area) {
-    const u8 *after = data(area) + area->length;
+static void set_guards(struct area *area) {
+    set_guards_of(area->room, area->length);
+    set_guards_of(area->plain, area->length);
+}
+
+static int guards_hold(const u8 *room, size length) {
+    const u8 *after = room + GUARD + length;
     for (size i = 0; i < GUARD; i++)
-        if (area->room[i] != guard_byte(i) || after[i] != guard_byte(i)) return 0;
+        if (room[i] != guard_byte(i) || after[i] != guard_byte(i)) return 0;
     return 1;
 }
 
@@ -88,6 +109,7 @@ static void resize(struct area *area, size length, u8 fill) {
     if (length > area->length) {
         size more = length - area->length;
         memset(data(area) + area->length, fill, more);
+        memset(plain(area) + area->length, fill, more);
         memset(area->before + area->length, fill, more);
     }
     area->length = length;
@@ -97,6 +119,7 @@ static void resize(struct area *area, size length, u8 fill) {
 static void patch(struct area *area, size at, const u8 *bytes, size length) {
     if (at > area->length || length > area->length - at) exit(MALFORMED);
     memcpy(data(area) + at, bytes, length);
+    memcpy(plain(area) + at, bytes, length);
     memcpy(area->before + at, bytes, length);
 }
 
@@ -164,6 +187,7 @@ static void put_changes(struct area *area) {
     if (change_count > MAX_CHANGES || changed_bytes > MAX_CHANGED_BYTES) {
         put_number(TOO_MANY, 2);
         memcpy(area->before, data(area), area->length);
+        memcpy(plain(area), data(area), area->length);
         return;
     }
     put_number((u32)change_count, 2);
@@ -173,22 +197,44 @@ static void put_changes(struct area *area) {
         put_number((u32)changes[i].length, 2);
         put(bytes, changes[i].length);
         memcpy(area->before + changes[i].at, bytes, changes[i].length);
+        memcpy(plain(area) + changes[i].at, bytes, changes[i].length);
     }
 }
 
-static void reply(u32 answer) {
-    struct area *areas[4] = {&small, &dma, &list, &image};
+/* A bit for each area whose guards were overwritten, and four more for the plain side's. */
+static u32 broken_guards(void) {
     u32 broken = 0;
-    for (u32 i = 0; i < 4; i++)
-        if (!guards_hold(areas[i])) {
-            broken |= 1u << i;
-            set_guards(areas[i]);
-        }
-    put_number('A', 1);
-    put_number(broken, 1);
-    put_number(answer, 4);
-    for (u32 i = 0; i < 4; i++) put_changes(areas[i]);
+    for (u32 i = 0; i < AREAS; i++) {
+        struct area *area = areas[i];
+        if (!guards_hold(area->room, area->length)) broken |= 1u << i;
+        if (!guards_hold(area->plain, area->length)) broken |= 1u << (AREAS + i);
+        set_guards(area);
+    }
+    return broken;
 }
+
+/* A bit for each area in which the plain side has left other bytes; it goes on from the engine's. */
+static u32 areas_apart(void) {
+    u32 apart = 0;
+    for (u32 i = 0; i < AREAS; i++) {
+        struct area *area = areas[i];
+        if (memcmp(plain(area), data(area), area->length) == 0) continue;
+        memcpy(plain(area), data(area), area->length);
+        apart |= 1u << i;
+    }
+    return apart;
+}
+
+static void reply_apart(u32 answer, u32 apart, u32 plain_answer) {
+    put_number('A', 1);
+    put_number(broken_guards(), 1);
+    put_number(answer, 4);
+    put_number(apart, 1);
+    if (apart != 0) put_number(plain_answer, 4);
+    for (u32 i = 0; i < AREAS; i++) put_changes(areas[i]);
+}
+
+static void reply(u32 answer) { reply_apart(answer, 0, 0); }
 
 static const u8 *take(size length) {
     const u8 *bytes = batch + batch_at;
@@ -207,6 +253,16 @@ static u32 take_number(size width) {
 static void take_into(struct area *area) {
     size length = take_number(2);
     hold(area, take(length), length);
+}
+
+/* A length, a fill byte and the bytes that stand before those that are all the fill byte. */
+static void take_dma(void) {
+    size length = take_number(2);
+    u8 fill = (u8)take_number(1);
+    size told = take_number(2);
+    resize(&dma, 0, 0);
+    resize(&dma, length, fill);
+    patch(&dma, 0, take(told), told);
 }
 
 static void serve_resize(struct area *area) {
@@ -228,12 +284,23 @@ static void serve_start(void) {
                     list.length));
 }
 
+/* What the plain side must answer: for a run the same but for the records done. */
+static u32 wanted_of_plain(u32 function, u32 answer) {
+    int is_run = function == 33 || function == 34 || function == 40;
+    return is_run ? answer & WITHOUT_DONE : answer;
+}
+
 static void serve_call(void) {
     u32 function = take_number(4), process = take_number(4), count = take_number(4);
     take_into(&small);
-    take_into(&dma);
-    reply(mpm_call(function, process, count, data(&small), small.length, data(&dma), dma.length,
-                   data(&list), list.length, data(&image), image.length));
+    take_dma();
+    u32 answer = mpm_call(function, process, count, data(&small), small.length, data(&dma),
+                          dma.length, data(&list), list.length, data(&image), image.length);
+    u32 singly = mpm_singly(function, process, count, plain(&small), small.length, plain(&dma),
+                            dma.length, plain(&list), list.length, plain(&image), image.length);
+    u32 apart = areas_apart();
+    if (singly != wanted_of_plain(function, answer)) apart |= ANSWER_APART;
+    reply_apart(answer, apart, singly);
 }
 
 static void serve_check(void) {

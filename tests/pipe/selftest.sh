@@ -1,17 +1,31 @@
 #!/usr/bin/env bash
-# Tries pipe.c: over the reference it must compare the same, over each bad stub different.
+# Tries pipe.c: over the reference it must compare the same, over each bad stub and each wrong plain side different.
 # Needs a C compiler (CC, else cc) and the built `compare`.
 set -euo pipefail
 here=$(cd "$(dirname "${BASH_SOURCE[0]}")" && pwd -P)
 compare=$here/../reference/target/release/compare
 seconds=${1:-5}
 flags=(-std=c99 -O2 -Wall -Wextra -Wpedantic -Wshadow -Wconversion -Werror)
+archive=$here/exports/target/release/libexports.a
+libraries=(-lpthread -ldl -lm)
 work=$(mktemp -d)
 trap 'rm -rf "$work"' EXIT
 
+# The comparison must fail, and say so in these words.
+must_differ() { # NAME WORDS
+    if "$compare" --seconds 1 --failures "$work/failures" -- "$work/engine" >"$work/out" 2>/dev/null; then
+        echo "$1: taken for the same"
+        exit 1
+    fi
+    grep -q "$2" "$work/out" || {
+        cat "$work/out"
+        echo "$1: no '$2' reported"
+        exit 1
+    }
+}
+
 cargo build --quiet --release --offline -j1 --manifest-path "$here/exports/Cargo.toml"
-"${CC:-cc}" "${flags[@]}" "$here/pipe.c" "$here/exports/target/release/libexports.a" \
-    -lpthread -ldl -lm -o "$work/pipe"
+"${CC:-cc}" "${flags[@]}" "$here/pipe.c" "$archive" "${libraries[@]}" -o "$work/pipe"
 "$compare" --seconds "$seconds" --failures "$work/failures" -- "$work/pipe" >"$work/out" 2>/dev/null || {
     cat "$work/out"
     echo "pipe over the reference: different"
@@ -20,15 +34,18 @@ cargo build --quiet --release --offline -j1 --manifest-path "$here/exports/Cargo
 echo "pipe over the reference: $(head -n 1 "$work/out")"
 
 for stub in 1 2 3 4 5 6; do
-    "${CC:-cc}" "${flags[@]}" -DSTUB="$stub" "$here/pipe.c" "$here/stub.c" -o "$work/stub"
-    if "$compare" --seconds 1 --failures "$work/failures" -- "$work/stub" >"$work/out" 2>/dev/null; then
-        echo "stub $stub: taken for the same"
-        exit 1
-    fi
-    grep -q '^different' "$work/out" || {
-        cat "$work/out"
-        echo "stub $stub: no difference reported"
-        exit 1
-    }
+    "${CC:-cc}" "${flags[@]}" -DSTUB="$stub" "$here/pipe.c" "$here/stub.c" -o "$work/engine"
+    must_differ "stub $stub" '^different'
 done
 echo "pipe over six bad stubs: all seen"
+
+for wrong in 1 2 3 4 5 6 7 8; do
+    case $wrong in
+        7) words='guards broken: 00100000' ;;
+        *) words='mpm_singly has done otherwise' ;;
+    esac
+    "${CC:-cc}" "${flags[@]}" -DWRONG="$wrong" -Dmpm_singly=wrong_singly -c "$here/pipe.c" -o "$work/pipe.o"
+    "${CC:-cc}" "${flags[@]}" -DWRONG="$wrong" "$work/pipe.o" "$here/wrong.c" "$archive" "${libraries[@]}" -o "$work/engine"
+    must_differ "wrong plain side $wrong" "$words"
+done
+echo "pipe over eight wrong plain sides: all seen"

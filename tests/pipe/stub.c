@@ -1,4 +1,5 @@
-/* Four bad functions, to see that the comparison sees through them. STUB chooses the fault. */
+/* Bad functions, to see that the comparison sees through them. STUB chooses the fault; mpm_singly
+   has the same one, so that only the reference can tell. */
 
 typedef unsigned char u8;
 typedef unsigned int u32;
@@ -19,6 +20,8 @@ typedef __SIZE_TYPE__ size;
 
 u32 mpm_call(u32 function, u32 process, u32 count, u8 *fcb, size fcb_len, u8 *dma, size dma_len,
              u8 *list, size list_len, u8 *image, size image_len);
+u32 mpm_singly(u32 function, u32 process, u32 count, u8 *fcb, size fcb_len, u8 *dma, size dma_len,
+               u8 *list, size list_len, u8 *image, size image_len);
 u32 mpm_start(u32 capacity, u32 open_limit, u32 lock_limit, const u8 *users, size users_len,
               u8 *list, size list_len);
 u32 mpm_check(const u8 *image, size image_len);
@@ -70,4 +73,10 @@ u32 mpm_call(u32 function, u32 process, u32 count, u8 *fcb, size fcb_len, u8 *dm
 #else
     return REFUSED;
 #endif
+}
+
+u32 mpm_singly(u32 function, u32 process, u32 count, u8 *fcb, size fcb_len, u8 *dma, size dma_len,
+               u8 *list, size list_len, u8 *image, size image_len) {
+    return mpm_call(function, process, count, fcb, fcb_len, dma, dma_len, list, list_len, image,
+                    image_len);
 }

@@ -56,12 +56,11 @@ pub fn is_missing(x: Found) -> bool
     64 <= x.entry
 }
 
-// The file has the read-only attribute.
-pub fn read_only(image: &[u8], x: Found) -> bool
-    requires { ⌜ (x .entry ≤ 64) × (3072 ≤ length (now image)) ⌝ }
-    ensures { λ r. ⌜ r ≡ readOnly (now (image .entry)) x ⌝ }
+// The file whose extent 0 is at entry `e` has the read-only attribute.
+pub fn read_only(image: &[u8], e: usize) -> bool
+    requires { ⌜ (e ≤ 64) × (3072 ≤ length (now image)) ⌝ }
+    ensures { λ r. ⌜ r ≡ readOnly (now (image .entry)) e ⌝ }
 {
-    let e = x.entry;
     128 <= image[32 * e + 9]
 }
 

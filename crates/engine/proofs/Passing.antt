@@ -7,25 +7,29 @@ use mathlib.Core.Logic.{⊎-elim}
 use native.Mathlib.Omega.{arith}
 use lib.ListN.{length}
 use lib.Dec.{eqb}
-use borrow.Author.Tests.{leb-false, ltb-false, eqb-true, not-false}
+use borrow.Author.Tests.{eqb-true, not-false}
 use Rattle.words.specs.Tests.{_and_, _or_, _if_else_}
 use Rattle.words.specs.Tables.{firstOf}
-use Rattle.words.proofs.Tests.{either, equal?, or-fst, or-snd}
-use Rattle.words.proofs.Tables.{row-off, row-rest}
+use Rattle.words.proofs.Tests.{either, equal?}
+use Rattle.words.proofs.Tables.{zero-none}
 use Rattle.words.proofs.Sets.{row-yes, row-no}
 use Rattle.rules.specs.declared.routine.Routine.{Routine}
 use Rattle.rules.specs.declared.routine.Routine.the-variants.{Open, Close, Delete, Make, Rename, Read, Write, WriteZeros, TestWrite, Lock, Unlock, FreeSpace, Terminate}
 use Rattle.rules.specs.declared.routine.Chosen.{Chosen}
 use Rattle.rules.specs.declared.routine.Chosen.the-variants.{Call, Unknown}
-use Rattle.rules.specs.Serves.{Buffers, Did, buffers, functionOf, chosen, isUnknown}
+use Rattle.rules.specs.Serves.{Buffers, Did, buffers, outcome, functionOf, chosen, isUnknown}
 use Rattle.rules.specs.Drive.{highest, soundImage}
 use Rattle.rules.specs.Look.{lookAt}
-use Rattle.rules.specs.Codes.{badNumbers, rowsInside, rowsAll}
-use Rattle.rules.specs.Call.{Ready, served, call}
-use Rattle.rules.proofs.Tables.{call-refused, call-served}
+use Rattle.rules.specs.Codes.{badNumbers, badDrive, rowsInside, rowsAll}
+use Rattle.rules.specs.Call.{served, call}
+use Rattle.rules.specs.Several.{servesRun}
+use Rattle.rules.proofs.Tables.{nonzero-all, call-refused, call-served}
+use Rattle.rules.proofs.Passed.{GoodNumbers, Passed, good-numbers, passed, drive-good}
+use Rattle.rules.proofs.Several.{run-plain, run-refused, run-told}
 use Rattle.rules.proofs.Sound.{sound-length, length-whole, length-long, length-few}
 use Rattle.rules.proofs.Look.{look-inside, look-sound}
 use Rattle.rules.proofs.Ends.{did-as, did-none}
+use Rattle.engine.specs.Calls.{callBy, servedBy}
 use Rattle.engine.specs.Drives.{readsDrive}
 
 -- ---- the chosen routine
@@ -79,55 +83,25 @@ drive-told n k t h e = e ∙ drive-by k ∙ ap (λ (m : ℕ). not (eqb m 46) and
 -- ---- good numbers
 
 module _ (n p c : ℕ) (fcb dma list : List ℕ) (r : Bool) (e : r ≡ badNumbers n p c fcb dma list) (t : r ≡ false) where
-  good : badNumbers n p c fcb dma list ≡ false
-  good = sym e ∙ t
-
-  pub process-few : p < 16
-  unfolding badNumbers
-  process-few = leb-false 16 p (or-fst _ _ (or-snd _ _ good))
-
-  pub count-some : 1 ≤ c
-  unfolding badNumbers
-  count-some = ltb-false c 1 (or-fst _ _ (or-snd _ _ (or-snd _ _ good)))
-
-  pub count-few : c ≤ 16
-  unfolding badNumbers
-  count-few = ltb-false 16 c (or-fst _ _ (or-snd _ _ (or-snd _ _ (or-snd _ _ good))))
+  pub numbers : GoodNumbers n p c fcb dma list
+  numbers = good-numbers n p c fcb dma list (sym e ∙ t)
 
   pub fcb-there : length fcb ≡ 36
-  unfolding badNumbers
-  fcb-there = eqb-true _ _ (not-false _ (or-fst _ _ (or-snd _ _ (or-snd _ _ (or-snd _ _ (or-snd _ _ good))))))
-
-  dma-there : length dma ≡ 256
-  unfolding badNumbers
-  dma-there = eqb-true _ _ (not-false _ (or-fst _ _ (or-snd _ _ (or-snd _ _ (or-snd _ _ (or-snd _ _ (or-snd _ _ good)))))))
+  fcb-there = numbers .fcb-long
 
   pub list-there : length list ≡ 1299
-  unfolding badNumbers
-  list-there = eqb-true _ _ (not-false _ (or-snd _ _ (or-snd _ _ (or-snd _ _ (or-snd _ _ (or-snd _ _ (or-snd _ _ good)))))))
+  list-there = numbers .list-long
 
   module _ (image : List ℕ) (code : ℕ) (h : code ≡ firstOf (rowsInside n fcb list image)) where
     pub all-rows : code ≡ firstOf (rowsAll n p c (buffers fcb dma list image))
     unfolding rowsAll rowsInside
-    all-rows = row-no code 3583 _ _ good h
+    all-rows = row-no code 3583 _ _ (sym e ∙ t) h
 
     -- no row applies
-    module _ (z : code ≡ 0) where
-      image-good : soundImage highest image ≡ true
-      unfolding rowsInside
-      image-good = not-false _ (row-off 511 _ _ (λ q. omega arith) (sym h ∙ z))
-
-      pub ready : Ready (buffers fcb dma list image)
-      unfolding rowsInside
-      ready = record {
-        fcb-long = fcb-there;
-        dma-long = dma-there;
-        list-long = list-there;
-        image-long = length-long image (sound-length highest image image-good);
-        image-short = let w = length-whole image (sound-length highest image image-good) in let f = length-few image (sound-length highest image image-good) in omega arith;
-        image-sound = image-good;
-        list-sound = not-false _ (row-off 3327 _ _ (λ q. omega arith) (row-rest 511 _ _ (λ q. omega arith) (sym h ∙ z)));
-      }
+    pub all-passed : code ≡ 0 → (Passed p c (buffers fcb dma list image)) × (badDrive n fcb ≡ false)
+    all-passed z =
+        let q = zero-none (rowsAll n p c (buffers fcb dma list image)) (nonzero-all n p c (buffers fcb dma list image)) (sym all-rows ∙ z) in
+        (passed n p c (buffers fcb dma list image) q, drive-good n p c (buffers fcb dma list image) q)
 
 -- after `if !sound_image(..) { return .. }`
 module _ (r : Bool) (s : List ℕ) (e : r ≡ soundImage highest s) (t : not r ≡ false) where
@@ -137,39 +111,66 @@ module _ (r : Bool) (s : List ℕ) (e : r ≡ soundImage highest s) (t : not r �
   pub image-enough : 2048 ≤ length s
   image-enough = let k = length-long s (sound-length highest s image-there) in omega arith
 
--- ---- the ends of a call
+-- ---- the ends of the general table, and of a call by the fast path and by the plain engine
 
 module _ (n p c : ℕ) (b : Buffers) where
-  -- a row of the general table applies
-  refused : (code : ℕ) → code ≡ firstOf (rowsAll n p c b) → (code ≡ 0 → ⊥) → Did (call n p c b) code (b .fcb) (b .dma) (b .list) (b .image)
-  refused code e t =
-      did-as _ _ _ _ _ _ _
-      (ap (λ (a : ℕ). record { answer = a; left = b }) e ∙ sym (call-refused n p c b (λ z. t (e ∙ z)))) (did-none code b)
-
   -- an unknown function
-  pub ends-unknown : (r : Chosen) → r ≡ chosen n → r ≡ Unknown → Did (call n p c b) 3583 (b .fcb) (b .dma) (b .list) (b .image)
+  pub code-unknown : (r : Chosen) → r ≡ chosen n → r ≡ Unknown → 3583 ≡ firstOf (rowsAll n p c b)
   unfolding rowsAll badNumbers isUnknown firstOf _or_ _if_else_
-  ends-unknown r g u = let h : chosen n ≡ Unknown = sym g ∙ u in refused 3583 (rw h) (λ z. omega arith)
+  code-unknown r g u = let h : chosen n ≡ Unknown = sym g ∙ u in rw h
+
+  -- bad numbers
+  pub code-bad : (r : Bool) → r ≡ badNumbers n p c (b .fcb) (b .dma) (b .list) → r ≡ true → 3583 ≡ firstOf (rowsAll n p c b)
+  unfolding rowsAll
+  code-bad r e t = row-yes 3583 3583 _ _ (sym e ∙ t) refl
+
+module _ (z : Bool) (n p c : ℕ) (b : Buffers) where
+  by-refused : (firstOf (rowsAll n p c b) ≡ 0 → ⊥) → callBy z n p c b ≡ outcome (firstOf (rowsAll n p c b)) b
+  unfolding callBy
+  by-refused h = each z
+    where
+      each : (y : Bool) → callBy y n p c b ≡ outcome (firstOf (rowsAll n p c b)) b
+      each false = call-refused n p c b h
+      each true =
+          ⊎-elim (λ (q : servesRun n ≡ true). run-refused n p c b q h)
+          (λ (q : servesRun n ≡ false). run-plain n p c b q ∙ call-refused n p c b h) (either (servesRun n))
+
+  by-served : (k : Routine) → chosen n ≡ Call k → firstOf (rowsAll n p c b) ≡ 0 → callBy z n p c b ≡ servedBy z n k p c b
+  unfolding callBy servedBy _if_else_
+  by-served k g h = each z
+    where
+      plain : call n p c b ≡ served (Call k) p c b
+      plain = call-served n p c b h ∙ ap (λ (m : Chosen). served m p c b) g
+
+      each : (y : Bool) → callBy y n p c b ≡ servedBy y n k p c b
+      each false = plain
+      each true =
+          ⊎-elim (λ (q : servesRun n ≡ true). rw q (run-told n p c b q h))
+          (λ (q : servesRun n ≡ false). rw q (run-plain n p c b q ∙ plain)) (either (servesRun n))
+
+  refused : (code : ℕ) → code ≡ firstOf (rowsAll n p c b) → (code ≡ 0 → ⊥) → Did (callBy z n p c b) code (b .fcb) (b .dma) (b .list) (b .image)
+  refused code e t =
+      did-as _ _ _ _ _ _ _ (ap (λ (a : ℕ). outcome a b) e ∙ sym (by-refused (λ q. t (e ∙ q)))) (did-none code b)
+
+  pub ends-unknown : (r : Chosen) → r ≡ chosen n → r ≡ Unknown → Did (callBy z n p c b) 3583 (b .fcb) (b .dma) (b .list) (b .image)
+  ends-unknown r g u = refused 3583 (code-unknown n p c b r g u) (λ q. omega arith)
 
   module _ (r : Bool) (e : r ≡ badNumbers n p c (b .fcb) (b .dma) (b .list)) where
-    -- bad numbers
-    pub ends-bad : r ≡ true → Did (call n p c b) 3583 (b .fcb) (b .dma) (b .list) (b .image)
-    unfolding rowsAll
-    ends-bad t = refused 3583 (row-yes 3583 3583 _ _ (sym e ∙ t) refl) (λ z. omega arith)
+    pub ends-bad : r ≡ true → Did (callBy z n p c b) 3583 (b .fcb) (b .dma) (b .list) (b .image)
+    ends-bad t = refused 3583 (code-bad n p c b r e t) (λ q. omega arith)
 
     module _ (t : r ≡ false) (code : ℕ) (h : code ≡ firstOf (rowsInside n (b .fcb) (b .list) (b .image))) where
       table : code ≡ firstOf (rowsAll n p c b)
       table = all-rows n p c (b .fcb) (b .dma) (b .list) r e t (b .image) code h
 
       -- another general refusal
-      pub ends-refused : (code ≡ 0 → ⊥) → Did (call n p c b) code (b .fcb) (b .dma) (b .list) (b .image)
+      pub ends-refused : (code ≡ 0 → ⊥) → Did (callBy z n p c b) code (b .fcb) (b .dma) (b .list) (b .image)
       ends-refused = refused code table
 
       -- the call is served
-      pub ends-served : (q : Chosen) (k : Routine) (a : ℕ) (fcb dma list image : List ℕ) → code ≡ 0 → q ≡ chosen n → Did (served (Call k) p c b) a fcb dma list image → q ≡ Call k → Did (call n p c b) a fcb dma list image
-      ends-served q k a fcb dma list image z g d y =
-          did-as _ _ a fcb dma list image
-          (ap (λ (m : Chosen). served m p c b) (sym y ∙ g) ∙ sym (call-served n p c b (sym table ∙ z))) d
+      pub ends-served : (q : Chosen) (k : Routine) (a : ℕ) (fcb dma list image : List ℕ) → code ≡ 0 → q ≡ chosen n → Did (servedBy z n k p c b) a fcb dma list image → q ≡ Call k → Did (callBy z n p c b) a fcb dma list image
+      ends-served q k a fcb dma list image y g d m =
+          did-as _ _ a fcb dma list image (sym (by-served k (sym g ∙ m) (sym table ∙ y))) d
 
 -- ---- Look's number
 

@@ -1,14 +1,19 @@
 -- From a routine's outcome to the call's. Assumes nothing.
 use Prim.Native.Nat.{ℕ}
 use mathlib.Core.Path.{_≡_, refl, sym, ap, _∙_}
-use mathlib.Core.Bool.{false, true≢false}
+use mathlib.Core.Bool.{Bool, true, false, not, true≢false}
 use mathlib.Core.List.{List}
+use borrow.Author.Tests.{ne-eqb, not-true, not-false}
+use Rattle.words.specs.Tests.{_or_, _if_else_}
 use Rattle.rules.specs.declared.routine.Routine.{Routine}
 use Rattle.rules.specs.declared.routine.Routine.the-variants.{Open, Close, Delete, Make, Rename, Read, Write, WriteZeros, TestWrite, Lock, Unlock, FreeSpace, Terminate}
 use Rattle.rules.specs.declared.routine.Chosen.the-variants.{Call}
 use Rattle.rules.specs.Serves.{Buffers, Did}
+use Rattle.rules.specs.Codes.{badDrive}
 use Rattle.rules.specs.Call.{askedBy, asked, rowsOf, effectOf, served}
+use Rattle.rules.specs.Several.{servesRun, several, told}
 use Rattle.rules.proofs.Ends.{did-as}
+use Rattle.engine.specs.Calls.{servedBy}
 use Rattle.engine.specs.Drives.{usesCount}
 
 -- a call that does not use count is the same for every count
@@ -37,3 +42,37 @@ module _ (j k : Routine) (p c : ℕ) (b : Buffers) (a : ℕ) (fcb dma list image
 
   pub serve-run : Did (served (Call j) p c b) a fcb dma list image → Did (served (Call k) p c b) a fcb dma list image
   serve-run d = did-as _ _ a fcb dma list image (ap (λ (r : Routine). served (Call r) p c b) (sym e)) d
+
+-- ---- with several records to a call, or with one
+
+module _ (z : Bool) (n p c : ℕ) (k : Routine) (b : Buffers) (a : ℕ) (fcb dma list image : List ℕ) where
+  -- one record
+  pub by-one : not z ≡ true → Did (served (Call k) p c b) a fcb dma list image → Did (servedBy z n k p c b) a fcb dma list image
+  unfolding servedBy
+  by-one h d = let q : z ≡ false = not-true z h in rw q d
+
+  -- a call that takes no run of records
+  pub by-none : not z ≡ false → (n ≡ 33 → ⊥) → (n ≡ 34 → ⊥) → (n ≡ 40 → ⊥) → Did (served (Call k) p c b) a fcb dma list image → Did (servedBy z n k p c b) a fcb dma list image
+  unfolding servedBy servesRun _or_ _if_else_
+  by-none h x y w d = let q : z ≡ true = not-false z h in rw (q, ne-eqb n 33 x, ne-eqb n 34 y, ne-eqb n 40 w) d
+
+  -- one that does, of that number
+  pub by-run : (m : ℕ) → not z ≡ false → n ≡ m → servesRun m ≡ true → Did (told (several m p c b)) a fcb dma list image → Did (servedBy z n k p c b) a fcb dma list image
+  unfolding servedBy _if_else_
+  by-run m h e s d = let q : z ≡ true = not-false z h in rw (q, e, s) d
+
+pub serves-33 : servesRun 33 ≡ true
+unfolding servesRun _or_
+serves-33 = refl
+
+pub serves-34 : servesRun 34 ≡ true
+unfolding servesRun _or_
+serves-34 = refl
+
+pub serves-40 : servesRun 40 ≡ true
+unfolding servesRun _or_
+serves-40 = refl
+
+-- the drive byte, for a function of that number
+pub drive-at : (n m : ℕ) (fcb : List ℕ) → n ≡ m → badDrive n fcb ≡ false → badDrive m fcb ≡ false
+drive-at n m fcb e h = rw e at h

@@ -1,24 +1,22 @@
 // The general refusals, the choice of a call's routine, and the functions that a C host calls.
+mod answer;
 mod choose;
 mod refuse;
 mod serve;
+mod singly;
 
-use choose::routine_of;
+use answer::answer;
 use drive::check::image_check;
 use drive::look::look_at;
 use locklist::start::start;
-use locklist::unpack::unpack;
-use refuse::bad_numbers;
-use refuse::refusal;
 use rules::answer::image_number;
-use rules::routine::Chosen;
-use serve::serve;
+use singly::answer_singly;
 ghost use mathlib.Core.Path.{_≡_};
 ghost use Rattle.rules.specs.Serves.{Did, buffers};
 ghost use Rattle.rules.specs.Drive.{highest, imageCheck, imageNumber};
 ghost use Rattle.rules.specs.Locks.{start};
 ghost use Rattle.rules.specs.Look.{lookAt};
-ghost use Rattle.rules.specs.Call.{call};
+ghost use Rattle.rules.specs.Several.{callRun, callSingly};
 ghost use Rattle.locklist.specs.Start.{DidStart};
 
 // A call: three numbers and four separate buffers in, A + 256 H out.
@@ -32,21 +30,25 @@ pub extern "C" fn mpm_call(
     list: &mut [u8],
     image: &mut [u8],
 ) -> u32
-    ensures { λ r. ⌜ Did (call function process count (buffers (now (fcb .entry)) (now (dma .entry)) (now (list .entry)) (now (image .entry)))) r (now (fcb .exit)) (now (dma .exit)) (now (list .exit)) (now (image .exit)) ⌝ }
+    ensures { λ r. ⌜ Did (callRun function process count (buffers (now (fcb .entry)) (now (dma .entry)) (now (list .entry)) (now (image .entry)))) r (now (fcb .exit)) (now (dma .exit)) (now (list .exit)) (now (image .exit)) ⌝ }
 {
-    let chosen = routine_of(function);
-    let Chosen::Call(routine) = chosen else {
-        return 3583;
-    };
-    if bad_numbers(function, routine, process, count, &*fcb, &*dma, &*list) {
-        return 3583;
-    }
-    let l = unpack(&*list);
-    let code = refusal(function, routine, l, &*fcb, &*list, &*image);
-    if code != 0 {
-        return code;
-    }
-    serve(routine, process as u8, count, l, fcb, dma, list, image)
+    answer(true, function, process, count, fcb, dma, list, image)
+}
+
+// The same call by the plain engine: 33, 34 and 40 as single calls one after another, the answer that of the last.
+#[no_mangle]
+pub extern "C" fn mpm_singly(
+    function: u32,
+    process: u32,
+    count: u32,
+    fcb: &mut [u8],
+    dma: &mut [u8],
+    list: &mut [u8],
+    image: &mut [u8],
+) -> u32
+    ensures { λ r. ⌜ Did (callSingly function process count (buffers (now (fcb .entry)) (now (dma .entry)) (now (list .entry)) (now (image .entry)))) r (now (fcb .exit)) (now (dma .exit)) (now (list .exit)) (now (image .exit)) ⌝ }
+{
+    answer_singly(function, process, count, fcb, dma, list, image)
 }
 
 // Start: a fresh list from three numbers and sixteen users, or 255/13 and the list unchanged.

@@ -3,11 +3,10 @@ use listcheck::check::sound_list;
 use rules::list::LockList;
 use rules::routine::Routine;
 ghost use mathlib.Core.Path.{_≡_};
-ghost use mathlib.Core.Bool.{Bool, true, false, not};
+ghost use mathlib.Core.Bool.{true, false};
 ghost use lib.ListN.{length};
-ghost use lib.Dec.{eqb};
 ghost use Rattle.words.specs.Tables.{firstOf};
-ghost use Rattle.rules.specs.Serves.{chosen, functionOf};
+ghost use Rattle.rules.specs.Serves.{chosen};
 ghost use Rattle.rules.specs.declared.routine.Chosen.the-variants.{Call};
 ghost use Rattle.rules.specs.Locks.{unpack};
 ghost use Rattle.rules.specs.Codes.{badNumbers, badDrive, rowsInside};
@@ -38,7 +37,7 @@ pub fn bad_numbers(
     if fcb.len() != 36 {
         return true;
     }
-    if dma.len() != 256 {
+    if dma.len() != 2048 {
         return true;
     }
     list.len() != 1299

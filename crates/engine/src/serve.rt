@@ -1,11 +1,14 @@
 use rules::list::LockList;
 use rules::routine::Routine;
 ghost use mathlib.Core.Path.{_≡_};
-ghost use Prim.Native.Nat.{_≤_};
-ghost use Rattle.rules.specs.Serves.{Did, buffers};
+ghost use mathlib.Core.Bool.{false};
+ghost use Prim.Native.Nat.{_<_, _≤_};
+ghost use Rattle.rules.specs.Serves.{Did, buffers, chosen};
+ghost use Rattle.rules.specs.Codes.{badDrive};
 ghost use Rattle.rules.specs.Locks.{unpack};
 ghost use Rattle.rules.specs.declared.routine.Chosen.the-variants.{Call};
 ghost use Rattle.rules.specs.Call.{Ready, served};
+ghost use Rattle.engine.specs.Calls.{servedBy};
 
 // The call's routine; the list comes unpacked too.
 pub fn serve(
@@ -44,4 +47,35 @@ pub fn serve(
         Routine::FreeSpace => records::space::free_space(p, &*fcb, dma, &*list, &*image),
         Routine::Terminate => locking::terminate::terminate(p, l, &*fcb, &*dma, list, &*image),
     }
+}
+
+// The call's routine, where `several` over a run of records for 33, 34 and 40.
+pub fn serve_by(
+    several: bool,
+    function: u32,
+    routine: Routine,
+    p: u8,
+    count: u32,
+    l: LockList,
+    fcb: &mut [u8],
+    dma: &mut [u8],
+    list: &mut [u8],
+    image: &mut [u8],
+) -> u32
+    requires { ⌜ (chosen function ≡ Call routine) × (p < 16) × (l ≡ unpack (now list)) × (1 ≤ count) × (count ≤ 16) × (badDrive function (now fcb) ≡ false) × Ready (buffers (now fcb) (now dma) (now list) (now image)) ⌝ }
+    ensures { λ c. ⌜ Did (servedBy several function routine p count (buffers (now (fcb .entry)) (now (dma .entry)) (now (list .entry)) (now (image .entry)))) c (now (fcb .exit)) (now (dma .exit)) (now (list .exit)) (now (image .exit)) ⌝ }
+{
+    if !several {
+        return serve(routine, p, count, l, fcb, dma, list, image);
+    }
+    if function == 33 {
+        return several::read::read_several(p, l, count, &*fcb, dma, &*list, &*image);
+    }
+    if function == 34 {
+        return several::write::write_several(false, p, l, count, &*fcb, &*dma, &*list, image);
+    }
+    if function == 40 {
+        return several::write::write_several(true, p, l, count, &*fcb, &*dma, &*list, image);
+    }
+    serve(routine, p, count, l, fcb, dma, list, image)
 }

@@ -33,7 +33,7 @@ fn delete_refusal(l: LockList, f: File, x: Found, fcb: &[u8], image: &[u8]) -> u
     if l.any_open(f) {
         return 1535;
     }
-    if read_only(image, x) {
+    if read_only(image, x.entry) {
         return 1023;
     }
     0

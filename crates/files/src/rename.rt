@@ -55,7 +55,7 @@ fn rename_refusal(l: LockList, f: File, x: Found, y: Found, fcb: &[u8], image: &
     if l.any_open(f) {
         return 1535;
     }
-    if read_only(image, x) {
+    if read_only(image, x.entry) {
         return 1023;
     }
     if is_there(y) {

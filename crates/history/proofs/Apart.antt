@@ -30,7 +30,8 @@ use Rattle.soundness.proofs.Run.{Filled, running}
 use Rattle.soundness.proofs.Kept.{SoundShape, opened-shape, made-shape, closed-shape, unlocked-shape, ended-shape, locked-shape}
 use Rattle.soundness.proofs.Taken.{caller-long, caller-user}
 use Rattle.soundness.proofs.Ends.{shape-of, list-of, made-of, renamed-touch, written-of, takes-of}
-use Rattle.soundness.proofs.Leaves.{Passed, Leaf, listOf, fileBy, newBy, MayWrite, imageWritten, refused, reopened, newlyOpened, newlyMade, nowClosed, nowErased, nowRenamed, nowRead, nowWritten, nowRewritten, nowLocked, lockIdle, nowUnlocked, unlockIdle, nowTold, nowEnded, MayLock}
+use Rattle.rules.proofs.Passed.{Passed}
+use Rattle.soundness.proofs.Leaves.{Leaf, listOf, fileBy, newBy, MayWrite, imageWritten, refused, reopened, newlyOpened, newlyMade, nowClosed, nowErased, nowRenamed, nowRead, nowWritten, nowRewritten, nowLocked, lockIdle, nowUnlocked, unlockIdle, nowTold, nowEnded, MayLock}
 use Rattle.history.specs.Demands.{isAnothers, ItemsApart}
 use Rattle.history.proofs.Seen.{Seen, seen-all, seen-written}
 

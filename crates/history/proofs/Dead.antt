@@ -12,9 +12,10 @@ use Rattle.words.specs.Lists.{turns}
 use Rattle.words.proofs.Tests.{either, and-fst, and-snd, or-fst, or-snd}
 use Rattle.rules.specs.declared.item.Item.{Item}
 use Rattle.rules.specs.Locks.{freshOpen, isKindBy}
-use Rattle.history.specs.History.{Engine, Ask, State, Event, outcomeOf, kept, stateAfter, eventsOf}
+use Rattle.history.specs.History.{Engine, Ask, State, Begun, Event, outcomeOf, kept, stateAfter, eventsOf, firstState, after, historyOf}
 use Rattle.history.specs.Deeds.{Deed, nothing, opens, closes, locks, unlocks, ends, touches, drops, carries, tells, deed}
 use Rattle.history.specs.Held.{sameItem, tally, isAmong, granting, grantingAt, grantingRun, without, isBy, holding, heldAfter, isGrant, anyOpenBy}
+use Rattle.history.specs.Demands.{itemsOf, outcomeAfter, deedAfter}
 use Rattle.history.proofs.Tallies.{tally-less, tally-without, tally-none}
 use Rattle.history.proofs.Items.{alike-of, among-tally, granting-held, granting-new}
 
@@ -64,13 +65,13 @@ none-holding p (locks q f r m) g n w =
     (λ (e : isAmong (freshOpen q (f .name) 1) g ≡ false). rw e w) (either (isAmong (freshOpen q (f .name) 1) g))
 none-holding p (unlocks q f r m) g n w = none-without p _ g w
 none-holding p (ends q) g n w = none-without p _ g w
-none-holding p (touches f r) g n w = w
+none-holding p (touches f r m) g n w = w
 none-holding p (drops f) g n w = w
 none-holding p (carries f h) g n w = w
 none-holding p tells g n w = w
 
 -- an accepted 143 takes all
-pub none-ended : (p : ℕ) (g : List Item) → NoneBy p (holding (ends p) g)
+none-ended : (p : ℕ) (g : List Item) → NoneBy p (holding (ends p) g)
 unfolding holding
 none-ended p g = record { none = tally-without (isBy p) (isBy p) g ∙ tally-none _ g (λ x. off (isBy p x)) }
   where
@@ -78,7 +79,7 @@ none-ended p g = record { none = tally-without (isBy p) (isBy p) g ∙ tally-non
     off true = unfold _and_ in refl
     off false = unfold _and_ in refl
 
-pub none-after : (users : List ℕ) (p : ℕ) (es : List Event) (g : List Item) → anyOpenBy users p es ≡ false → NoneBy p g → NoneBy p (heldAfter users es g)
+none-after : (users : List ℕ) (p : ℕ) (es : List Event) (g : List Item) → anyOpenBy users p es ≡ false → NoneBy p g → NoneBy p (heldAfter users es g)
 unfolding anyOpenBy heldAfter
 none-after users p [] g n w = w
 none-after users p (e ∷ es) g n w = none-after users p es _ (or-snd _ _ n) (none-holding p (deed users e) g (or-fst _ _ n) w)
@@ -86,11 +87,23 @@ none-after users p (e ∷ es) g n w = none-after users p es _ (or-snd _ _ n) (no
 -- ---- calls one after the other
 
 module _ (e : Engine) where
-  pub held-append : (users : List ℕ) (qs rs : List Ask) (s : State) (g : List Item)
+  held-append : (users : List ℕ) (qs rs : List Ask) (s : State) (g : List Item)
       → heldAfter users (eventsOf e (qs ++ rs) s) g ≡ heldAfter users (eventsOf e rs (stateAfter e qs s)) (heldAfter users (eventsOf e qs s) g)
   unfolding stateAfter eventsOf heldAfter
   held-append users [] rs s g = refl
   held-append users (q ∷ qs) rs s g = held-append users qs rs (kept (outcomeOf e q s)) _
+
+  module _ (g : Begun) (qs later : List Ask) (q : Ask) where
+    items-then : itemsOf e g (qs ++ (q ∷ later))
+        ≡ heldAfter (g .users) (eventsOf e later (kept (outcomeAfter e g qs q))) (holding (deedAfter e g qs q) (itemsOf e g qs))
+    unfolding itemsOf historyOf after eventsOf heldAfter outcomeAfter deedAfter
+    items-then = held-append (g .users) qs (q ∷ later) (firstState g) []
+
+    -- an accepted 143 of process p, and no open granted to it later
+    pub none-then : (p : ℕ) → deedAfter e g qs q ≡ ends p → anyOpenBy (g .users) p (eventsOf e later (kept (outcomeAfter e g qs q))) ≡ false
+        → NoneBy p (itemsOf e g (qs ++ (q ∷ later)))
+    none-then p d none =
+        rw (items-then, d) (none-after (g .users) p (eventsOf e later (kept (outcomeAfter e g qs q))) _ none (none-ended p (itemsOf e g qs)))
 
 -- an item of a kind is an item of its process
 pub kind-by : (k p : ℕ) (g : List Item) → NoneBy p g → tally (isKindBy k p) g ≡ 0

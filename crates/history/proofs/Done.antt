@@ -1,24 +1,28 @@
 -- What a leaf of the walk did, as the history tells it. Assumes nothing.
-use Prim.Native.Nat.{ℕ}
-use mathlib.Core.Path.{_≡_, refl, ap}
-use mathlib.Core.Bool.{true, false}
+use Prim.Native.Nat.{ℕ, _<_}
+use mathlib.Core.Path.{_≡_, refl, sym, ap, _∙_}
+use mathlib.Core.Bool.{Bool, true, false}
 use mathlib.Core.List.{List}
-use lib.Dec.{eqb}
 use mathlib.Core.Logic.{⊎-elim}
 use native.Mathlib.Omega.{arith}
-use borrow.Author.Tests.{ne-eqb, eqb-true}
-use Rattle.words.proofs.Tests.{either}
+use borrow.Author.Tests.{ne-eqb}
+use Rattle.words.proofs.Tests.{equal?}
 use Rattle.rules.specs.declared.routine.Routine.the-variants.{Open, Close, Delete, Make, Rename, Read, Write, WriteZeros, TestWrite, Lock, Unlock, FreeSpace, Terminate}
 use Rattle.rules.specs.declared.routine.Chosen.the-variants.{Call, Unknown}
 use Rattle.words.specs.Tests.{_if_else_}
+use Rattle.words.specs.Lists.{turns}
 use Rattle.words.specs.Tables.{_∕_}
+use Rattle.rules.specs.declared.file.File.{File}
+use Rattle.rules.specs.declared.item.Item.{Item}
 use Rattle.rules.specs.declared.list.LockList.{LockList}
 use Rattle.rules.specs.declared.routine.Chosen.{Chosen}
 use Rattle.rules.specs.Serves.{Buffers, buffers, chosen}
-use Rattle.rules.specs.Asks.{callerFile, newFile}
+use Rattle.rules.specs.Asks.{callerFile, newFile, recordOf}
 use Rattle.rules.specs.Locks.{unpack}
 use Rattle.history.specs.History.{Ask, State, event}
-use Rattle.history.specs.Deeds.{nothing, tells, deedBy, deed, fileBy, newBy}
+use Rattle.history.specs.Deeds.{Deed, nothing, touches, tells, deedBy, doneIn, writesRun, deed, fileBy, newBy}
+use Rattle.history.specs.Held.{holding}
+use Rattle.history.specs.Groups.{Group, touchingRun, counting}
 
 -- the buffers that a call is lent
 abbrev pub lent : Ask → State → Buffers
@@ -31,9 +35,30 @@ pub deed-done : (users : List ℕ) (q : Ask) (k : Chosen) → chosen (q .functio
 unfolding deed _if_else_
 deed-done users q k e = ap (λ (x : Chosen). deedBy x users q) e
 
-pub deed-none : (users : List ℕ) (q : Ask) (code : ℕ) → (code ≡ 0 → ⊥) → deed users (event q code) ≡ nothing
+-- a refused call touched the records done if it writes, and else did nothing: ..
+pub deed-refused : (users : List ℕ) (q : Ask) (code : ℕ) → (code ≡ 0 → ⊥)
+    → deed users (event q code) ≡ (touches (fileBy users q) (recordOf (q .fcb)) (doneIn code) if writesRun (q .function) else nothing)
 unfolding deed _if_else_
-deed-none users q code z = rw (ne-eqb code 0 z) refl
+deed-refused users q code z = rw (ne-eqb code 0 z) refl
+
+-- .. what is held stays, ..
+pub held-refused : (users : List ℕ) (q : Ask) (code : ℕ) (g : List Item) → (code ≡ 0 → ⊥) → holding (deed users (event q code)) g ≡ g
+held-refused users q code g z =
+    ap (λ (d : Deed). holding d g) (deed-refused users q code z) ∙ same (writesRun (q .function)) (fileBy users q) (recordOf (q .fcb)) (doneIn code)
+  where
+    same : (t : Bool) (f : File) (r n : ℕ) → holding (touches f r n if t else nothing) g ≡ g
+    same true f r n = unfold holding _if_else_ in refl
+    same false f r n = unfold holding _if_else_ in refl
+
+-- .. and what is counted too, where the code tells of no record done
+pub count-refused : (users : List ℕ) (q : Ask) (code : ℕ) (g : List Group) → (code ≡ 0 → ⊥) → code < 4096 → counting (deed users (event q code)) g ≡ g
+count-refused users q code g z low =
+    ap (λ (d : Deed). counting d g) (deed-refused users q code z)
+    ∙ same (writesRun (q .function)) (fileBy users q) (recordOf (q .fcb)) (doneIn code) (omega arith)
+  where
+    same : (t : Bool) (f : File) (r n : ℕ) → n ≡ 0 → counting (touches f r n if t else nothing) g ≡ g
+    same true f r n e = unfold counting touchingRun turns _if_else_ in rw e refl
+    same false f r n e = unfold counting _if_else_ in refl
 
 -- the files that the history names are those that the call meant
 pub file-meant : (q : Ask) (l : LockList) → fileBy (l .users) q ≡ callerFile (q .process) l (q .fcb)
@@ -62,10 +87,16 @@ tells-is (Call FreeSpace) users q h = refl
 tells-is (Call Terminate) users q h = let z : _≡_ {A = ℕ} 0 1 = cc in absurd (omega arith)
 tells-is Unknown users q h = let z : _≡_ {A = ℕ} 0 1 = cc in absurd (omega arith)
 
+refused-tells : (t : Bool) (f : File) (r n : ℕ) → (touches f r n if t else nothing) ≡ tells → ⊥
+unfolding _if_else_
+refused-tells true f r n h = let y : touches f r n ≡ tells = h in let z : _≡_ {A = ℕ} 0 1 = cc in omega arith
+refused-tells false f r n h = let y : nothing ≡ tells = h in let z : _≡_ {A = ℕ} 0 1 = cc in omega arith
+
 pub told : (users : List ℕ) (q : Ask) (answer : ℕ) → deed users (event q answer) ≡ tells → (answer ≡ 0 ∕ 0) × (chosen (q .function) ≡ Call FreeSpace)
-unfolding deed _if_else_
 told users q answer h =
     ⊎-elim
-    (λ (z : eqb answer 0 ≡ true). (eqb-true _ _ z, tells-is (chosen (q .function)) users q (rw z at h)))
-    (λ (z : eqb answer 0 ≡ false). let y : nothing ≡ tells = rw z at h in let x : _≡_ {A = ℕ} 0 1 = cc in absurd (omega arith))
-    (either (eqb answer 0))
+    (λ (z : answer ≡ 0).
+    let e : deed users (event q 0) ≡ tells = ap (λ (a : ℕ). deed users (event q a)) (sym z) ∙ h in
+    (z, tells-is (chosen (q .function)) users q (sym (deed-done users q _ refl) ∙ e)))
+    (λ (z : answer ≡ 0 → ⊥). absurd (refused-tells (writesRun (q .function)) _ _ _ (sym (deed-refused users q answer z) ∙ h)))
+    (equal? answer 0)

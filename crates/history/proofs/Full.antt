@@ -1,5 +1,5 @@
 -- 255/11 and 14/0 are given only where the places do not suffice. Assumes nothing.
-use Prim.Native.Nat.{ℕ}
+use Prim.Native.Nat.{ℕ, _<_}
 use mathlib.Core.Path.{_≡_, refl, sym, ap, _∙_}
 use mathlib.Core.Bool.{Bool, true, false}
 use mathlib.Core.List.{List, [], _∷_, _++_}
@@ -18,7 +18,11 @@ use Rattle.rules.specs.Locks.{unpack, freePlace, freePlaces}
 use Rattle.rules.specs.Asks.{callerFile, recordOf}
 use Rattle.rules.specs.Codes.{rowsInside, rowsAll, rowsNew, rows15, rows16, rows19, rows22, rows23, rows33, rows34, rows41, rows42, rows43, rowsThere, rowsMay, rowsRoom, rowsDiffer, rowsRun, rowsLacking, rowsTake, isNew}
 use Rattle.rules.specs.Call.{asked, askedBy, rowsOf, rowsCall, call}
+use Rattle.rules.specs.Several.{servesRun, callRun}
 use Rattle.rules.proofs.Tables.{accepted-zero, refused}
+use Rattle.rules.proofs.Singles.{Runs, isRead, isWrite, isZeros, run-chosen}
+use Rattle.rules.proofs.Several.{run-plain}
+use Rattle.history.proofs.Ways.{answer-plain}
 
 -- a row with that code applies
 anyCode : ℕ → List Row → Bool
@@ -45,7 +49,8 @@ code-only c false rows h = absurd (never h refl)
 
 module _ (n p c : ℕ) (b : Buffers) where
   -- the code that a call answers is that of a row of its own table
-  own-code : (code : ℕ) → (code ≡ 0 → ⊥) → anyCode code (rowsAll n p c b) ≡ false → call n p c b .answer ≡ code → anyCode code (rowsOf (chosen n) (asked p c b) b) ≡ true
+  own-code : (code : ℕ) → (code ≡ 0 → ⊥) → anyCode code (rowsAll n p c b) ≡ false → call n p c b .answer ≡ code
+      → anyCode code (rowsOf (chosen n) (asked p c b) b) ≡ true
   own-code code z none h =
       ⊎-elim
       (λ (q : anyRow (rowsCall n p c b) ≡ true).
@@ -72,7 +77,8 @@ module _ (n p c : ℕ) (b : Buffers) where
 
   -- 255/11: no place is empty
   own-11 : (k : Chosen) → anyCode (255 ∕ 11) (rowsOf k (asked p c b) b) ≡ true → leb (unpack (b .list) .capacity) (freePlace (unpack (b .list))) ≡ true
-  unfolding rowsOf asked askedBy rowsNew rows15 rows16 rows19 rows22 rows23 rows33 rows34 rows41 rows42 rows43 rowsThere rowsMay rowsRoom rowsDiffer rowsRun rowsLacking rowsTake anyCode _and_ _or_
+  unfolding rowsOf asked askedBy rowsNew rows15 rows16 rows19 rows22 rows23 rows33 rows34 rows41 rows42 rows43 rowsThere rowsMay rowsRoom rowsDiffer
+      rowsRun rowsLacking rowsTake anyCode _and_ _or_
   own-11 (Call Open) h = or-end _ (code-only (255 ∕ 11) _ _ h)
   own-11 (Call Close) h = absurd (never h refl)
   own-11 (Call Delete) h = absurd (never h refl)
@@ -89,8 +95,10 @@ module _ (n p c : ℕ) (b : Buffers) where
   own-11 Unknown h = absurd (never h refl)
 
   -- 14/0: fewer places than records not yet held
-  own-14 : (k : Chosen) → anyCode (14 ∕ 0) (rowsOf k (asked p c b) b) ≡ true → ltb (freePlaces (unpack (b .list))) (count (isNew (unpack (b .list)) p (callerFile p (unpack (b .list)) (b .fcb)) (recordOf (b .fcb))) c) ≡ true
-  unfolding rowsOf asked askedBy rowsNew rows15 rows16 rows19 rows22 rows23 rows33 rows34 rows41 rows42 rows43 rowsThere rowsMay rowsRoom rowsDiffer rowsRun rowsLacking rowsTake anyCode _and_ _or_
+  own-14 : (k : Chosen) → anyCode (14 ∕ 0) (rowsOf k (asked p c b) b) ≡ true
+      → ltb (freePlaces (unpack (b .list))) (count (isNew (unpack (b .list)) p (callerFile p (unpack (b .list)) (b .fcb)) (recordOf (b .fcb))) c) ≡ true
+  unfolding rowsOf asked askedBy rowsNew rows15 rows16 rows19 rows22 rows23 rows33 rows34 rows41 rows42 rows43 rowsThere rowsMay rowsRoom rowsDiffer
+      rowsRun rowsLacking rowsTake anyCode _and_ _or_
   own-14 (Call Open) h = absurd (never (code-only (14 ∕ 0) _ _ h) refl)
   own-14 (Call Close) h = absurd (never h refl)
   own-14 (Call Delete) h = absurd (never h refl)
@@ -106,8 +114,42 @@ module _ (n p c : ℕ) (b : Buffers) where
   own-14 (Call Terminate) h = absurd (never h refl)
   own-14 Unknown h = absurd (never h refl)
 
-  pub answered-11 : call n p c b .answer ≡ 255 ∕ 11 → leb (unpack (b .list) .capacity) (freePlace (unpack (b .list))) ≡ true
-  answered-11 h = own-11 (chosen n) (own-code (255 ∕ 11) (λ z. omega arith) general-11 h)
+-- ---- 33, 34 and 40 give neither
 
-  pub answered-14 : call n p c b .answer ≡ 14 ∕ 0 → ltb (freePlaces (unpack (b .list))) (count (isNew (unpack (b .list)) p (callerFile p (unpack (b .list)) (b .fcb)) (recordOf (b .fcb))) c) ≡ true
-  answered-14 h = own-14 (chosen n) (own-code (14 ∕ 0) (λ z. omega arith) general-14 h)
+module _ (p c : ℕ) (b : Buffers) where
+  run-11 : (k : Chosen) → Runs k → anyCode (255 ∕ 11) (rowsOf k (asked p c b) b) ≡ false
+  unfolding rowsOf rows33 rows34 rowsThere rowsMay rowsRoom anyCode _and_ _or_
+  run-11 k isRead = refl
+  run-11 k isWrite = refl
+  run-11 k isZeros = refl
+
+  run-14 : (k : Chosen) → Runs k → anyCode (14 ∕ 0) (rowsOf k (asked p c b) b) ≡ false
+  unfolding rowsOf rows33 rows34 rowsThere rowsMay rowsRoom anyCode _and_ _or_
+  run-14 k isRead = refl
+  run-14 k isWrite = refl
+  run-14 k isZeros = refl
+
+module _ (n p c : ℕ) (b : Buffers) where
+  -- a code that no table of theirs has
+  run-never : servesRun n ≡ true → (code : ℕ) → (code ≡ 0 → ⊥) → code < 4096 → ((d : ℕ) (a : Buffers) → anyCode code (rowsAll n p d a) ≡ false)
+      → ((d : ℕ) (a : Buffers) (k : Chosen) → Runs k → anyCode code (rowsOf k (asked p d a) a) ≡ false) → callRun n p c b .answer ≡ code → ⊥
+  run-never h code z low general own e =
+      let w = answer-plain n p c b (λ y. z (sym e ∙ y)) (omega arith) in
+      never (own-code n p (w .0) (w .1) code z (general (w .0) (w .1)) (w .2 ∙ e)) (own (w .0) (w .1) (chosen n) (run-chosen n h))
+
+  pub answered-11 : callRun n p c b .answer ≡ 255 ∕ 11 → leb (unpack (b .list) .capacity) (freePlace (unpack (b .list))) ≡ true
+  answered-11 e =
+      ⊎-elim
+      (λ (h : servesRun n ≡ true). absurd (run-never h (255 ∕ 11) (λ z. omega arith) (omega arith) (general-11 n p) (run-11 p) e))
+      (λ (h : servesRun n ≡ false).
+      own-11 n p c b (chosen n) (own-code n p c b (255 ∕ 11) (λ z. omega arith) (general-11 n p c b) (rw (run-plain n p c b h) at e)))
+      (either (servesRun n))
+
+  pub answered-14 : callRun n p c b .answer ≡ 14 ∕ 0
+      → ltb (freePlaces (unpack (b .list))) (count (isNew (unpack (b .list)) p (callerFile p (unpack (b .list)) (b .fcb)) (recordOf (b .fcb))) c) ≡ true
+  answered-14 e =
+      ⊎-elim
+      (λ (h : servesRun n ≡ true). absurd (run-never h (14 ∕ 0) (λ z. omega arith) (omega arith) (general-14 n p) (run-14 p) e))
+      (λ (h : servesRun n ≡ false).
+      own-14 n p c b (chosen n) (own-code n p c b (14 ∕ 0) (λ z. omega arith) (general-14 n p c b) (rw (run-plain n p c b h) at e)))
+      (either (servesRun n))

@@ -15,7 +15,7 @@ use Rattle.rules.specs.declared.list.LockList.{LockList}
 use Rattle.rules.specs.Locks.{userOf, unpack, freshLock, isEmptyAt, freePlace, freePlaces, held}
 use Rattle.rules.specs.Asks.{callerFile, recordOf}
 use Rattle.rules.specs.Codes.{isNew}
-use Rattle.rules.specs.Call.{call}
+use Rattle.rules.specs.Several.{callRun}
 use Rattle.rules.specs.Drive.{highest}
 use Rattle.rules.proofs.Sound.{SoundImage, sound-of}
 use Rattle.rules.proofs.SoundList.{SoundLocks, list-sound-of}
@@ -69,13 +69,14 @@ module _ (g : Begun) (s : State) (items : List Item) (groups : List Group) (i : 
       let w : l .capacity ≤ lowest (isEmptyAt l) (l .capacity) = leb-true _ _ h in
       count-zero (isEmptyAt l) (l .capacity) (any-never (isEmptyAt l) (l .capacity) (λ j m. lowest-over (isEmptyAt l) (l .capacity) j w m))
 
-  pub full : (q : Ask) → Full (g .capacity) (g .users) items q (outcomeOf call q s .answer)
+  pub full : (q : Ask) → Full (g .capacity) (g .users) items q (outcomeOf callRun q s .answer)
   unfolding outcomeOf isUnheld isNew
   full q = record {
     no-place = λ h. let a = none-free (answered-11 (q .function) (q .process) (q .run) (lent q s) h) in let b = add-up .adds in omega arith;
     too-few = λ h.
         let f = callerFile (q .process) l (q .fcb) in
-        let a : freePlaces l < count (isNew l (q .process) f (recordOf (q .fcb))) (q .run) = ltb-true _ _ (answered-14 (q .function) (q .process) (q .run) (lent q s) h) in
+        let a : freePlaces l < count (isNew l (q .process) f (recordOf (q .fcb))) (q .run) =
+        ltb-true _ _ (answered-14 (q .function) (q .process) (q .run) (lent q s) h) in
         let b = add-up .adds in
         let e : fileBy (g .users) q ≡ f = ap (λ (us : List ℕ). fileBy us q) (sym (i .users)) ∙ file-meant q l in
         let k : count (isNew l (q .process) f (recordOf (q .fcb))) (q .run) ≡ count (isUnheld items (q .process) (f .name) (recordOf (q .fcb))) (q .run) =

@@ -1,11 +1,12 @@
 -- Each call counts just the groups that it leaves with a block. Assumes nothing.
-use Prim.Native.Nat.{ℕ, _/_, _≤_}
-use mathlib.Core.Path.{_≡_}
-use mathlib.Core.Bool.{Bool, false}
+use Prim.Native.Nat.{ℕ, suc, _+_, _/_, _≤_, _<_}
+use mathlib.Core.Path.{_≡_, refl, ap, _∙_}
+use mathlib.Core.Bool.{Bool, true, false}
 use mathlib.Core.List.{List}
 use mathlib.Core.Logic.{⊎-elim}
 use native.Mathlib.Omega.{arith}
 use lib.ListN.{length}
+use Rattle.words.specs.Lists.{turns}
 use Rattle.rules.specs.declared.file.File.{File}
 use Rattle.rules.specs.declared.list.LockList.{LockList}
 use Rattle.rules.specs.declared.routine.Routine.the-variants.{Write, WriteZeros}
@@ -15,17 +16,30 @@ use Rattle.rules.specs.Drive.{blockOf, freeEntry}
 use Rattle.rules.specs.Locks.{unpack}
 use Rattle.rules.specs.Asks.{callerFile, newFile, recordOf}
 use Rattle.rules.specs.Effects.{made}
+use Rattle.rules.specs.Several.{servesRun}
 use Rattle.soundness.proofs.Blocks.{at-of}
 use Rattle.soundness.proofs.Written.{Old, New}
 use Rattle.soundness.proofs.Taken.{caller-long}
 use Rattle.soundness.proofs.Ends.{image-of, made-of, renamed-file, written-of}
-use Rattle.soundness.proofs.Leaves.{Passed, Leaf, MayMake, MayWrite, imageWritten, refused, reopened, newlyOpened, newlyMade, nowClosed, nowErased, nowRenamed, nowRead, nowWritten, nowRewritten, nowLocked, lockIdle, nowUnlocked, unlockIdle, nowTold, nowEnded}
+use Rattle.rules.proofs.Passed.{Passed}
+use Rattle.soundness.proofs.Leaves.{Leaf, MayMake, MayWrite, imageWritten, refused, reopened, newlyOpened, newlyMade, nowClosed, nowErased, nowRenamed, nowRead, nowWritten, nowRewritten, nowLocked, lockIdle, nowUnlocked, unlockIdle, nowTold, nowEnded}
 use Rattle.history.specs.History.{Ask, State, event}
 use Rattle.history.specs.Deeds.{deedBy, deed}
-use Rattle.history.specs.Groups.{Group, group, touching, counting}
+use Rattle.history.specs.Groups.{Group, group, touching, touchingAt, touchingRun, counting}
 use Rattle.history.proofs.Positions.{Counted}
+use Rattle.history.proofs.Served.{writes-serve}
 use Rattle.history.proofs.Counting.{counted-grown, counted-old, touched-old, touched-new, new-none, dropped, carried-over}
-use Rattle.history.proofs.Done.{lent, usersIn, deed-done, deed-none, file-meant, new-meant}
+use Rattle.history.proofs.Done.{lent, usersIn, deed-done, count-refused, file-meant, new-meant}
+
+-- a run of one record touches its group; a run of one more touches the next one's too
+touching-one : (f : File) (r : ℕ) (g : List Group) → touchingRun f r 1 g ≡ touching (group f (r / 8)) g
+unfolding touchingRun touchingAt turns
+touching-one f r g = let e : r + 0 ≡ r = omega arith in ap (λ (n : ℕ). touching (group f (n / 8)) g) e
+
+pub touching-more : (f : File) (r i : ℕ) (g : List Group) → touchingRun f (r + i) 1 (touchingRun f r i g) ≡ touchingRun f r (suc i) g
+touching-more f r i g = touching-one f (r + i) (touchingRun f r i g) ∙ (unfold touchingRun touchingAt turns in refl)
+
+-- ---- one plain call
 
 module _ (q : Ask) (s : State) (g : List Group) (t : Counted (s .image) g) where
   abbrev l : LockList
@@ -55,38 +69,43 @@ module _ (q : Ask) (s : State) (g : List Group) (t : Counted (s .image) g) where
       counted-grown (s .image) _ (k .grown) g (λ e n m. ⊎-elim
       (λ (z : (e ≡ 64) × (n ≡ 0)). let a : e ≡ 64 = z .0 in let d = m .entry-there in absurd (omega arith)) (λ z. z) (k .rest e n m)) t
 
-  written-counted : (ok : Passed p c b) (w : MayWrite p b) (zeros : Bool) → Counted (imageWritten zeros p b (q .dma)) (touching (group f (r / 8)) g)
-  written-counted ok w zeros =
+  -- a plain 34 or 40 writes one record
+  written-counted : (ok : Passed p c b) (w : MayWrite p b) (zeros : Bool) → c ≡ 1 → Counted (imageWritten zeros p b (q .dma)) (touchingRun f r c g)
+  written-counted ok w zeros one =
       let u = imageWritten zeros p b (q .dma) in
-      ⊎-elim (λ (k : Old (s .image) u f r). touched-old (s .image) u f r long g t k) (λ (k : New (s .image) u f r). touched-new (s .image) u f r long g t k)
-      (written-of p c b ok w zeros (q .dma) (let d = ok .ready .dma-long in omega arith))
+      rw (one, touching-one)
+      (⊎-elim (λ (k : Old (s .image) u f r). touched-old (s .image) u f r long g t k) (λ (k : New (s .image) u f r). touched-new (s .image) u f r long g t k)
+      (written-of p c b ok w zeros (q .dma) (let d = ok .ready .dma-long in omega arith)))
 
-  rewritten-counted : (ok : Passed p c b) (w : MayWrite p b) (v : List ℕ) → 128 ≤ length v → (blockOf (s .image) f r ≡ 0 → ⊥) → Counted (imageWritten false p b v) g
+  rewritten-counted : (ok : Passed p c b) (w : MayWrite p b) (v : List ℕ) → 128 ≤ length v → (blockOf (s .image) f r ≡ 0 → ⊥)
+      → Counted (imageWritten false p b v) g
   rewritten-counted ok w v full some =
       let u = imageWritten false p b v in
       ⊎-elim (λ (k : Old (s .image) u f r). counted-old (s .image) u f r long g t k)
       (λ (k : New (s .image) u f r). absurd (new-none (s .image) u f r long g t k _ (at-of (s .image) f r long some)))
       (written-of p c b ok w false v full)
 
-  pub count-step : (o : Outcome) → Leaf (q .function) p c b o → Counted (o .left .image) (counting (deed (usersIn s) (event q (o .answer))) g)
+  pub count-step : (servesRun (q .function) ≡ true → c ≡ 1) → (o : Outcome) → o .answer < 4096 → Leaf (q .function) p c b o
+      → Counted (o .left .image) (counting (deed (usersIn s) (event q (o .answer))) g)
   unfolding counting deedBy
-  count-step o (refused code z) = rw (deed-none (usersIn s) q code z) t
-  count-step o (reopened k ok w fcb) = rw (deed-done (usersIn s) q _ k) t
-  count-step o (newlyOpened k ok w fcb) = rw (deed-done (usersIn s) q _ k) t
-  count-step o (newlyMade k ok w fcb) = rw (deed-done (usersIn s) q _ k) (made-counted ok w)
-  count-step o (nowClosed k ok w) = rw (deed-done (usersIn s) q _ k) t
-  count-step o (nowErased k ok w) = rw (deed-done (usersIn s) q _ k, file-meant q l) (dropped (s .image) f (image-of p c b ok) long g t)
-  count-step o (nowRenamed k ok w) =
+  count-step one o low (refused code z) = rw (count-refused (usersIn s) q code g z low) t
+  count-step one o low (reopened k ok w fcb) = rw (deed-done (usersIn s) q _ k) t
+  count-step one o low (newlyOpened k ok w fcb) = rw (deed-done (usersIn s) q _ k) t
+  count-step one o low (newlyMade k ok w fcb) = rw (deed-done (usersIn s) q _ k) (made-counted ok w)
+  count-step one o low (nowClosed k ok w) = rw (deed-done (usersIn s) q _ k) t
+  count-step one o low (nowErased k ok w) = rw (deed-done (usersIn s) q _ k, file-meant q l) (dropped (s .image) f (image-of p c b ok) long g t)
+  count-step one o low (nowRenamed k ok w) =
       rw (deed-done (usersIn s) q _ k, file-meant q l, new-meant q l)
       (carried-over (s .image) f (newFile p l (q .fcb)) (image-of p c b ok) long (renamed-file p c b ok w) g t)
-  count-step o (nowRead k ok dma) = rw (deed-done (usersIn s) q _ k) t
-  count-step o (nowWritten k ok w zeros) =
-      ⊎-elim (λ (e : chosen (q .function) ≡ Call Write). rw (deed-done (usersIn s) q _ e, file-meant q l) (written-counted ok w zeros))
-      (λ (e : chosen (q .function) ≡ Call WriteZeros). rw (deed-done (usersIn s) q _ e, file-meant q l) (written-counted ok w zeros)) k
-  count-step o (nowRewritten k ok w some v full) = rw (deed-done (usersIn s) q _ k) (rewritten-counted ok w v full some)
-  count-step o (nowLocked k ok w) = rw (deed-done (usersIn s) q _ k) t
-  count-step o (lockIdle k ok w) = rw (deed-done (usersIn s) q _ k) t
-  count-step o (nowUnlocked k ok w) = rw (deed-done (usersIn s) q _ k) t
-  count-step o (unlockIdle k ok w) = rw (deed-done (usersIn s) q _ k) t
-  count-step o (nowTold k ok dma) = rw (deed-done (usersIn s) q _ k) t
-  count-step o (nowEnded k ok) = rw (deed-done (usersIn s) q _ k) t
+  count-step one o low (nowRead k ok dma) = rw (deed-done (usersIn s) q _ k) t
+  count-step one o low (nowWritten k ok w zeros) =
+      let h = written-counted ok w zeros (one (writes-serve (q .function) k)) in
+      ⊎-elim (λ (e : chosen (q .function) ≡ Call Write). rw (deed-done (usersIn s) q _ e, file-meant q l) h)
+      (λ (e : chosen (q .function) ≡ Call WriteZeros). rw (deed-done (usersIn s) q _ e, file-meant q l) h) k
+  count-step one o low (nowRewritten k ok w some v full) = rw (deed-done (usersIn s) q _ k) (rewritten-counted ok w v full some)
+  count-step one o low (nowLocked k ok w) = rw (deed-done (usersIn s) q _ k) t
+  count-step one o low (lockIdle k ok w) = rw (deed-done (usersIn s) q _ k) t
+  count-step one o low (nowUnlocked k ok w) = rw (deed-done (usersIn s) q _ k) t
+  count-step one o low (unlockIdle k ok w) = rw (deed-done (usersIn s) q _ k) t
+  count-step one o low (nowTold k ok dma) = rw (deed-done (usersIn s) q _ k) t
+  count-step one o low (nowEnded k ok) = rw (deed-done (usersIn s) q _ k) t

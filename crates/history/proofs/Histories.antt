@@ -10,13 +10,16 @@ use Rattle.rules.specs.Locks.{freshOpen, freshLock}
 use Rattle.session.specs.Open.{rules}
 use Rattle.session.specs.Session.{orders, fcbWith}
 use Rattle.history.specs.History.{Event, event}
-use Rattle.history.specs.Deeds.{deed, deedBy, fileBy, newBy}
-use Rattle.history.specs.Held.{sameItem, isAmong, granting, grantingAt, grantingRun, without, isBy, holding, heldAfter}
-use Rattle.history.specs.Groups.{Group, group, sameGroup, isCounted, touching, ofFile, carried, counting, countedAfter}
+use Rattle.history.specs.Held.{heldAfter}
+use Rattle.history.specs.Groups.{Group, group, countedAfter}
+use Rattle.history.proofs.Opened.{history, listed}
 
--- a call of process 1 with that FCB, and its answer
+-- a call of process 1 with that FCB and count, and its answer; one of count 1
+doesRun : ℕ → List ℕ → ℕ → ℕ → Event
+doesRun function fcb count answer = event (record { function = function; process = 1; run = count; fcb = fcb; dma = [] }) answer
+
 does : ℕ → List ℕ → ℕ → Event
-does function fcb answer = event (record { function = function; process = 1; run = 1; fcb = fcb; dma = [] }) answer
+does function fcb answer = doesRun function fcb 1 answer
 
 -- ORDERS.DAT, asked for unlocked (as in the session), and locked; with a new name
 locked : List ℕ
@@ -36,40 +39,53 @@ counted es = countedAfter (replicate 16 0) es []
 
 -- Make grants an open, Close takes it back, and so does 143
 made : held (does 22 (fcbWith 0) 0 ∷ []) ≡ freshOpen 1 orders 1 ∷ []
-unfolding rules orders fcbWith does held deed deedBy fileBy sameItem isAmong granting holding heldAfter
+unfolding rules listed history doesRun does held
 made = refl
 
 closed : held (does 22 (fcbWith 0) 0 ∷ does 16 (fcbWith 0) 0 ∷ []) ≡ []
-unfolding rules orders fcbWith does held deed deedBy fileBy sameItem isAmong granting without holding heldAfter
+unfolding rules listed history doesRun does held
 closed = refl
 
 ended : held (does 22 (fcbWith 0) 0 ∷ does 143 (fcbWith 0) 0 ∷ []) ≡ []
-unfolding rules orders fcbWith does held deed deedBy fileBy sameItem isAmong granting without isBy holding heldAfter
+unfolding rules listed history doesRun does held
 ended = refl
 
 -- a lock is granted, and held once; in mode 0 none is
 locked-once : held (does 22 (fcbWith 0) 0 ∷ does 42 (fcbWith 3) 0 ∷ does 42 (fcbWith 3) 0 ∷ []) ≡ freshLock 1 orders 3 ∷ freshOpen 1 orders 1 ∷ []
-unfolding rules orders fcbWith does held deed deedBy fileBy sameItem isAmong granting grantingAt grantingRun holding heldAfter
+unfolding rules listed history doesRun does held
 locked-once = refl
 
 locked-none : held (does 22 locked 0 ∷ does 42 locked 0 ∷ []) ≡ freshOpen 1 orders 0 ∷ []
-unfolding rules orders locked does held deed deedBy fileBy sameItem isAmong granting grantingAt grantingRun holding heldAfter
+unfolding rules listed history locked doesRun does held
 locked-none = refl
 
 -- a refused call does nothing
 refused : counted (does 34 (fcbWith 8) (2 ∕ 0) ∷ []) ≡ []
-unfolding rules orders fcbWith does counted deed deedBy fileBy sameGroup isCounted touching counting countedAfter
+unfolding rules listed history doesRun does counted
 refused = refl
 
 -- 34 touches a group, once; Delete drops it, Rename carries it over
 touched : counted (does 34 (fcbWith 8) 0 ∷ does 40 (fcbWith 9) 0 ∷ []) ≡ group (fileFrom 0 orders 0) 1 ∷ []
-unfolding rules orders fcbWith does counted deed deedBy fileBy sameGroup isCounted touching counting countedAfter
+unfolding rules listed history doesRun does counted
 touched = refl
 
 dropped : counted (does 34 (fcbWith 8) 0 ∷ does 19 (fcbWith 0) 0 ∷ []) ≡ []
-unfolding rules orders fcbWith does counted deed deedBy fileBy sameGroup isCounted touching ofFile without counting countedAfter
+unfolding rules listed history doesRun does counted
 dropped = refl
 
 carried-over : counted (does 34 (fcbWith 8) 0 ∷ does 23 renaming 0 ∷ []) ≡ group (fileFrom 0 other 0) 1 ∷ []
-unfolding rules orders fcbWith other renaming does counted deed deedBy fileBy newBy sameGroup isCounted touching ofFile carried counting countedAfter
+unfolding rules listed history other renaming doesRun does counted
 carried-over = refl
+
+-- 34 of records 6 to 14 touches two groups; refused with 2/0 after records 7 and 8 (of sixteen) it touches theirs, and a refused 33 none
+touched-run : counted (doesRun 34 (fcbWith 6) 9 (0 ∕ 0) ∷ []) ≡ group (fileFrom 0 orders 0) 1 ∷ group (fileFrom 0 orders 0) 0 ∷ []
+unfolding rules listed history doesRun counted
+touched-run = refl
+
+touched-partly : counted (doesRun 34 (fcbWith 7) 16 (2 ∕ 32) ∷ []) ≡ group (fileFrom 0 orders 0) 1 ∷ group (fileFrom 0 orders 0) 0 ∷ []
+unfolding rules listed history doesRun counted
+touched-partly = refl
+
+read-partly : counted (doesRun 33 (fcbWith 7) 16 (1 ∕ 32) ∷ []) ≡ []
+unfolding rules listed history doesRun counted
+read-partly = refl

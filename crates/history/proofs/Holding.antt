@@ -25,14 +25,15 @@ use Rattle.soundness.proofs.Emptied.{close-empties, unlock-empties, end-empties
 use Rattle.soundness.proofs.Kept.{SoundShape, opened-shape, made-shape, closed-shape, unlocked-shape, ended-shape, locked-shape}
 use Rattle.soundness.proofs.Taken.{caller-long, caller-user, own-open, own-good}
 use Rattle.soundness.proofs.Ends.{shape-of, list-of, takes-of}
-use Rattle.soundness.proofs.Leaves.{Passed, Leaf, openBy, modeBy, Idle, refused, reopened, newlyOpened, newlyMade, nowClosed, nowErased, nowRenamed, nowRead, nowWritten, nowRewritten, nowLocked, lockIdle, nowUnlocked, unlockIdle, nowTold, nowEnded}
+use Rattle.rules.proofs.Passed.{Passed}
+use Rattle.soundness.proofs.Leaves.{Leaf, openBy, modeBy, Idle, refused, reopened, newlyOpened, newlyMade, nowClosed, nowErased, nowRenamed, nowRead, nowWritten, nowRewritten, nowLocked, lockIdle, nowUnlocked, unlockIdle, nowTold, nowEnded}
 use Rattle.history.specs.History.{Ask, State, event}
 use Rattle.history.specs.Deeds.{Deed, deedBy, deed}
 use Rattle.history.specs.Held.{sameItem, isAmong, granting, grantingRun, isBy, holding}
 use Rattle.history.proofs.Items.{alike-of, alike-so, granting-held, granting-new}
 use Rattle.history.proofs.Tallied.{Tally, held-listed, not-held, tally-set, tally-gone, tally-idle}
 use Rattle.history.proofs.Locking.{tally-run}
-use Rattle.history.proofs.Done.{lent, usersIn, deed-done, deed-none, file-meant}
+use Rattle.history.proofs.Done.{lent, usersIn, deed-done, held-refused, file-meant}
 
 alike-open : (p : ℕ) (name : List ℕ) (mode : ℕ) (x : Item) → sameItem (freshOpen p name mode) x ≡ true → IsOpen p name x
 alike-open p name mode x h =
@@ -124,7 +125,9 @@ module _ (q : Ask) (s : State) (g : List Item) (t : Tally (unpack (s .list)) g) 
         (λ (x : GoodLock (s .image) l (itemAt l i)).
         let h = x .holder in
         let o = open-is _ _ (itemAt l (h .place)) (h .opens) in
-        absurd (w .not-unlocked (sym (mode-only (w .is-open) (h .place) (h .below) (record { kind-one = o .kind-one; by = o .by ∙ by; named = name-then _ _ _ (o .named) (and-snd _ _ own) })) ∙ h .mode))) (v .good))
+        let mine : IsOpen p (f .name) (itemAt l (h .place)) =
+        record { kind-one = o .kind-one; by = o .by ∙ by; named = name-then _ _ _ (o .named) (and-snd _ _ own) } in
+        absurd (w .not-unlocked (sym (mode-only (w .is-open) (h .place) (h .below) mine) ∙ h .mode))) (v .good))
         (list-of p c b ok .place i m))
         (λ d. d) (either (isInRun p f (recordOf (q .fcb)) c (itemAt l i)))
 
@@ -133,7 +136,8 @@ module _ (q : Ask) (s : State) (g : List Item) (t : Tally (unpack (s .list)) g) 
   abbrev Held : List ℕ → Deed → Type 0
   Held list d = Tally (unpack list) (holding d g)
 
-  opened-tally : (ok : Passed p c b) (mode : ℕ) (image : List ℕ) → SoundShape (opened p f mode l) image → freePlace l < l .capacity → isAmong (freshOpen p (f .name) mode) g ≡ false → Tally (unpack (pack (opened p f mode l))) (granting (freshOpen p (f .name) mode) g)
+  opened-tally : (ok : Passed p c b) (mode : ℕ) (image : List ℕ) → SoundShape (opened p f mode l) image → freePlace l < l .capacity
+      → isAmong (freshOpen p (f .name) mode) g ≡ false → Tally (unpack (pack (opened p f mode l))) (granting (freshOpen p (f .name) mode) g)
   opened-tally ok mode image w room none =
       let it = freshOpen p (f .name) mode in
       let inside : freePlace l < 64 = let k = capacity-fits l (list-of p c b ok .limits) in omega arith in
@@ -142,13 +146,15 @@ module _ (q : Ask) (s : State) (g : List Item) (t : Tally (unpack (s .list)) g) 
 
   pub held-step : (o : Outcome) → Leaf (q .function) p c b o → Tally (unpack (o .left .list)) (holding (deed (usersIn s) (event q (o .answer))) g)
   unfolding holding deedBy grantingRun closed unlockedRun terminated isBy _if_else_
-  held-step o (refused code z) = rw (deed-none (usersIn s) q code z) t
+  held-step o (refused code z) = rw (held-refused (usersIn s) q code g z) t
   held-step o (reopened k ok w fcb) =
       rw (deed-done (usersIn s) q _ k, file-meant q l, ← (w .same-mode), granting-held _ g (open-held ok (w .is-open))) t
   held-step o (newlyOpened k ok w fcb) =
-      rw (deed-done (usersIn s) q _ k, file-meant q l) (opened-tally ok (openMode (q .fcb)) (s .image) (opened-shape p c b ok w) (w .room) (open-unheld ok (openMode (q .fcb)) (none-open ok (w .unopened))))
+      rw (deed-done (usersIn s) q _ k, file-meant q l)
+      (opened-tally ok (openMode (q .fcb)) (s .image) (opened-shape p c b ok w) (w .room) (open-unheld ok (openMode (q .fcb)) (none-open ok (w .unopened))))
   held-step o (newlyMade k ok w fcb) =
-      rw (deed-done (usersIn s) q _ k, file-meant q l) (opened-tally ok (makeMode (q .fcb)) _ (made-shape p c b ok w) (w .room) (open-unheld ok (makeMode (q .fcb)) (none-there ok (w .gone))))
+      rw (deed-done (usersIn s) q _ k, file-meant q l)
+      (opened-tally ok (makeMode (q .fcb)) _ (made-shape p c b ok w) (w .room) (open-unheld ok (makeMode (q .fcb)) (none-there ok (w .gone))))
   held-step o (nowClosed k ok w) =
       let h = closed-shape p c b ok in
       rw (deed-done (usersIn s) q _ k, file-meant q l, unpacked (closed p f l) (s .image) (h .sound) (h .shape))
@@ -156,7 +162,9 @@ module _ (q : Ask) (s : State) (g : List Item) (t : Tally (unpack (s .list)) g) 
   held-step o (nowErased k ok w) = rw (deed-done (usersIn s) q _ k) t
   held-step o (nowRenamed k ok w) = rw (deed-done (usersIn s) q _ k) t
   held-step o (nowRead k ok dma) = rw (deed-done (usersIn s) q _ k) t
-  held-step o (nowWritten k ok w zeros) = ⊎-elim (λ (e : chosen (q .function) ≡ Call Write). rw (deed-done (usersIn s) q _ e) t) (λ (e : chosen (q .function) ≡ Call WriteZeros). rw (deed-done (usersIn s) q _ e) t) k
+  held-step o (nowWritten k ok w zeros) =
+      ⊎-elim (λ (e : chosen (q .function) ≡ Call Write). rw (deed-done (usersIn s) q _ e) t)
+      (λ (e : chosen (q .function) ≡ Call WriteZeros). rw (deed-done (usersIn s) q _ e) t) k
   held-step o (nowRewritten k ok w some v full) = rw (deed-done (usersIn s) q _ k) t
   held-step o (nowLocked k ok w) =
       let h = locked-shape p c b ok w in
@@ -169,7 +177,8 @@ module _ (q : Ask) (s : State) (g : List Item) (t : Tally (unpack (s .list)) g) 
       rw (deed-done (usersIn s) q _ k, file-meant q l, unpacked (unlockedRun p f (recordOf (q .fcb)) c l) (s .image) (h .sound) (h .shape))
       (tally-gone l (isInRun p f (recordOf (q .fcb)) c) _ (unlock-empties p f (recordOf (q .fcb)) c) (shape-of p c b ok) g t)
   held-step o (unlockIdle k ok w) =
-      rw (deed-done (usersIn s) q _ k, file-meant q l) (tally-idle l (isInRun p f (recordOf (q .fcb)) c) _ (unlock-empties p f (recordOf (q .fcb)) c) (shape-of p c b ok) g t (no-locks ok w))
+      rw (deed-done (usersIn s) q _ k, file-meant q l)
+      (tally-idle l (isInRun p f (recordOf (q .fcb)) c) _ (unlock-empties p f (recordOf (q .fcb)) c) (shape-of p c b ok) g t (no-locks ok w))
   held-step o (nowTold k ok dma) = rw (deed-done (usersIn s) q _ k) t
   held-step o (nowEnded k ok) =
       let h = ended-shape p c b ok in

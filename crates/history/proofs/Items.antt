@@ -51,7 +51,13 @@ same-refl a = alike-so a a (record { kinds = refl; processes = refl; names = nam
 pub same-sym : (a b : Item) → sameItem a b ≡ true → sameItem b a ≡ true
 same-sym a b h =
     let w = alike-of a b h in
-    alike-so b a (record { kinds = sym (w .kinds); processes = sym (w .processes); names = name-sym _ _ (w .names); modes = sym (w .modes); numbers = sym (w .numbers) })
+    alike-so b a (record {
+      kinds = sym (w .kinds);
+      processes = sym (w .processes);
+      names = name-sym _ _ (w .names);
+      modes = sym (w .modes);
+      numbers = sym (w .numbers);
+    })
 
 pub same-then : (a b c : Item) → sameItem a b ≡ true → sameItem b c ≡ true → sameItem a c ≡ true
 same-then a b c h k =
@@ -135,7 +141,7 @@ once-holding (locks p f r n) g w =
     ⊎-elim (λ q. rw q (once-run p (f .name) r n g w)) (λ q. rw q w) (either (isAmong (freshOpen p (f .name) 1) g))
 once-holding (unlocks p f r n) g w = once-without _ g w
 once-holding (ends p) g w = once-without _ g w
-once-holding (touches f r) g w = w
+once-holding (touches f r n) g w = w
 once-holding (drops f) g w = w
 once-holding (carries f h) g w = w
 once-holding tells g w = w

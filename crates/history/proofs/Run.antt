@@ -1,7 +1,8 @@
--- From one call to every list of calls. Assumes nothing.
+-- What holds between calls: at the start, and after each plain call. Assumes nothing.
 use Prim.Native.Nat.{ℕ}
 use mathlib.Core.Path.{_≡_, refl, ap, subst, _∙_}
-use mathlib.Core.List.{List, [], _∷_}
+use mathlib.Core.Bool.{true}
+use mathlib.Core.List.{List, []}
 use native.Mathlib.Omega.{arith}
 use lib.ListN.{length}
 use Rattle.words.proofs.Tests.{any-never}
@@ -11,18 +12,19 @@ use Rattle.rules.specs.declared.list.LockList.{LockList}
 use Rattle.rules.specs.Serves.{Outcome}
 use Rattle.rules.specs.Locks.{unpack}
 use Rattle.rules.specs.Call.{call}
+use Rattle.rules.specs.Several.{servesRun}
 use Rattle.soundness.proofs.Kept.{SoundBoth, call-sound}
 use Rattle.soundness.proofs.Walk.{walk}
-use Rattle.history.specs.History.{Ask, State, Begun, outcomeOf, kept, event, stateAfter, eventsOf, firstState, after, historyOf}
+use Rattle.history.specs.History.{Ask, State, Begun, outcomeOf, kept, event, firstState}
 use Rattle.history.specs.Deeds.{deed}
-use Rattle.history.specs.Held.{tally, holding, heldAfter}
-use Rattle.history.specs.Groups.{Group, counting, countedAfter, groupsOf}
-use Rattle.history.specs.Demands.{itemsOf, groupsBy}
+use Rattle.history.specs.Held.{tally, holding}
+use Rattle.history.specs.Groups.{Group, counting, groupsOf}
 use Rattle.history.proofs.Start.{begun-list, begun-sound, begun-empty, first}
 use Rattle.history.proofs.Items.{Once, once-holding}
 use Rattle.history.proofs.Solid.{Solid, solid-holding}
 use Rattle.history.proofs.Tallied.{Tally, passesAt}
 use Rattle.history.proofs.Positions.{Counted, start-counted}
+use Rattle.history.proofs.Ways.{answer-low}
 use Rattle.history.proofs.Done.{lent, usersIn}
 use Rattle.history.proofs.Holding.{held-step}
 use Rattle.history.proofs.Grouping.{count-step}
@@ -46,7 +48,7 @@ module _ (g : Begun) where
     as-many = λ test w. count-zero (passesAt test (first g)) 64 (any-never (passesAt test (first g)) 64 (λ i m. w .not-empty _ (begun-empty g i m)));
   })
 
-  begun-inv : Inv g (firstState g) [] (groupsOf (g .image))
+  pub begun-inv : Inv g (firstState g) [] (groupsOf (g .image))
   unfolding tally
   begun-inv = record {
     both = begun-sound g;
@@ -59,11 +61,12 @@ module _ (g : Begun) where
     counted = start-counted (g .image);
   }
 
-  -- one call
-  step-inv : (q : Ask) (s : State) (items : List Item) (groups : List Group) → Inv g s items groups
-      → Inv g (kept (outcomeOf call q s)) (holding (deed (g .users) (event q (outcomeOf call q s .answer))) items) (counting (deed (g .users) (event q (outcomeOf call q s .answer))) groups)
+  -- one plain call, of 33, 34 and 40 with count 1
+  pub step-inv : (q : Ask) (s : State) (items : List Item) (groups : List Group) → Inv g s items groups → (servesRun (q .function) ≡ true → q .run ≡ 1)
+      → Inv g (kept (outcomeOf call q s)) (holding (deed (g .users) (event q (outcomeOf call q s .answer))) items)
+      (counting (deed (g .users) (event q (outcomeOf call q s .answer))) groups)
   unfolding outcomeOf
-  step-inv q s items groups i =
+  step-inv q s items groups i one =
       let o : Outcome = call (q .function) (q .process) (q .run) (lent q s) in
       let w = walk (q .function) (q .process) (q .run) (lent q s) in
       let f = list-framed (q .function) (q .process) (q .run) (lent q s) o w in
@@ -72,19 +75,10 @@ module _ (g : Begun) where
         users = f .users ∙ i .users;
         capacity = f .capacities ∙ i .capacity;
         long = image-framed (q .function) (q .process) (q .run) (lent q s) o w ∙ i .long;
-        tallied = subst (λ (us : List ℕ). Tally (unpack (o .left .list)) (holding (deed us (event q (o .answer))) items)) (i .users) (held-step q s items (i .tallied) o w);
+        tallied = subst (λ (us : List ℕ). Tally (unpack (o .left .list)) (holding (deed us (event q (o .answer))) items)) (i .users)
+            (held-step q s items (i .tallied) o w);
         once = once-holding _ items (i .once);
         solid = solid-holding _ items (i .solid);
-        counted = subst (λ (us : List ℕ). Counted (o .left .image) (counting (deed us (event q (o .answer))) groups)) (i .users) (count-step q s groups (i .counted) o w);
+        counted = subst (λ (us : List ℕ). Counted (o .left .image) (counting (deed us (event q (o .answer))) groups)) (i .users)
+            (count-step q s groups (i .counted) one o (answer-low (q .function) (q .process) (q .run) (lent q s)) w);
       }
-
-  pub run-inv : (qs : List Ask) (s : State) (items : List Item) (groups : List Group) → Inv g s items groups
-      → Inv g (stateAfter call qs s) (heldAfter (g .users) (eventsOf call qs s) items) (countedAfter (g .users) (eventsOf call qs s) groups)
-  unfolding stateAfter eventsOf heldAfter countedAfter
-  run-inv [] s items groups i = i
-  run-inv (q ∷ qs) s items groups i = run-inv qs (kept (outcomeOf call q s)) _ _ (step-inv q s items groups i)
-
-  -- every history of calls
-  pub always : (qs : List Ask) → Inv g (after call g qs) (itemsOf call g qs) (groupsBy call g qs)
-  unfolding after historyOf itemsOf groupsBy
-  always qs = run-inv qs (firstState g) [] (groupsOf (g .image)) begun-inv

@@ -59,7 +59,7 @@ solid-holding (locks p f r n) g w =
     ⊎-elim (λ q. rw q (solid-run p (f .name) r n g w)) (λ q. rw q w) (either (isAmong (freshOpen p (f .name) 1) g))
 solid-holding (unlocks p f r n) g w = solid-without _ g w
 solid-holding (ends p) g w = solid-without _ g w
-solid-holding (touches f r) g w = w
+solid-holding (touches f r n) g w = w
 solid-holding (drops f) g w = w
 solid-holding (carries f h) g w = w
 solid-holding tells g w = w
@@ -80,7 +80,8 @@ unfolding count passesAt isItem isEmptyAt _if_else_
 empty-or-not l zero = refl
 empty-or-not l (suc n) =
     let k = empty-or-not l n in
-    ⊎-elim (λ (q : eqb (itemAt l n .kind) 0 ≡ true). rw q (omega arith)) (λ (q : eqb (itemAt l n .kind) 0 ≡ false). rw q (omega arith)) (either (eqb (itemAt l n .kind) 0))
+    ⊎-elim (λ (q : eqb (itemAt l n .kind) 0 ≡ true). rw q (omega arith))
+    (λ (q : eqb (itemAt l n .kind) 0 ≡ false). rw q (omega arith)) (either (eqb (itemAt l n .kind) 0))
 
 -- ---- sums
 

@@ -32,7 +32,8 @@ use Rattle.soundness.proofs.Renamed.{all-renamed}
 use Rattle.soundness.proofs.Held.{others-found}
 use Rattle.soundness.proofs.Taken.{caller-long, no-items}
 use Rattle.soundness.proofs.Ends.{shape-of, list-of, made-of, renamed-touch, written-of}
-use Rattle.soundness.proofs.Leaves.{Passed, Leaf, listOf, fileBy, newBy, MayWrite, refused, reopened, newlyOpened, newlyMade, nowClosed, nowErased, nowRenamed, nowRead, nowWritten, nowRewritten, nowLocked, lockIdle, nowUnlocked, unlockIdle, nowTold, nowEnded, imageWritten}
+use Rattle.rules.proofs.Passed.{Passed}
+use Rattle.soundness.proofs.Leaves.{Leaf, listOf, fileBy, newBy, MayWrite, refused, reopened, newlyOpened, newlyMade, nowClosed, nowErased, nowRenamed, nowRead, nowWritten, nowRewritten, nowLocked, lockIdle, nowUnlocked, unlockIdle, nowTold, nowEnded, imageWritten}
 use Rattle.history.specs.Demands.{Unchanged}
 use Rattle.history.proofs.Seen.{Seen, at-range, seen-all, seen-written}
 

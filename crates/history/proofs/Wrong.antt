@@ -3,28 +3,29 @@ use Prim.Native.Nat.{ℕ}
 use mathlib.Core.Path.{_≡_, refl, sym, ap, _∙_}
 use mathlib.Core.List.{List, [], _∷_}
 use native.Mathlib.Omega.{arith}
-use lib.ListN.{replicate}
-use Rattle.words.specs.Bytes.{byte}
+use lib.ListN.{length, replicate}
+use Rattle.words.specs.Bytes.{byte, put}
 use Rattle.words.specs.Tables.{_∕_}
 use Rattle.words.specs.Tests.{count}
 use Rattle.rules.specs.Serves.{Outcome, buffers, outcome}
 use Rattle.rules.specs.Locks.{freshOpen}
-use Rattle.rules.specs.Call.{call}
+use Rattle.rules.specs.Several.{callRun, callSingly}
 use Rattle.session.specs.Open.{rules}
 use Rattle.session.specs.Session.{AsListed, session, orders, fcbWith, dmaWith, firstImage, firstList, listWith, openBy, list0, list3, image0, image2, image5}
 use Rattle.session.proofs.Session.{the-session}
-use Rattle.history.specs.History.{Ask, Begun, outcomeOf, stateAfter, eventsOf, after, historyOf}
-use Rattle.history.specs.Deeds.{tells, deed, deedBy, fileBy}
-use Rattle.history.specs.Held.{sameItem, tally, isAmong, granting, holding, heldAfter}
-use Rattle.history.specs.Demands.{Demand2, Demand3, itemsOf, groupsBy, listAfter, isItemAt, outcomeAfter, deedAfter, figureIn}
-use Rattle.history.specs.Groups.{isNumbered, groupAt, groupsBelow, groupsOf, countedAfter}
+use Rattle.history.specs.History.{Ask, Begun}
+use Rattle.history.specs.Deeds.{tells}
+use Rattle.history.specs.Held.{sameItem, tally}
+use Rattle.history.specs.Groups.{blocksInUse}
+use Rattle.history.specs.Demands.{Demand2, Demand3, itemsOf, groupsBy, listAfter, imageAfter, isItemAt, outcomeAfter, deedAfter, figureIn}
 use Rattle.rules.specs.Drive.{blocks}
 use Rattle.history.specs.Wrong.{refusing, accepting, idleAfter, idle, pretending, madeUp}
+use Rattle.history.proofs.Opened.{history, listed}
 
 -- ---- the session's beginning, and its first two calls
 
 begun : Begun
-unfolding rules orders firstImage firstList
+unfolding rules listed
 begun = record {
   capacity = 3;
   openlimit = 2;
@@ -46,11 +47,11 @@ opens = record { function = 15; process = 2; run = 1; fcb = fcbWith 0; dma = dma
 
 -- storing nothing, the list fails at the first Make: the history holds an open that the list does not
 idle-listed : count (isItemAt (freshOpen 1 orders 1) (listAfter idle begun (makes ∷ []))) 64 ≡ 0
-unfolding rules orders fcbWith dmaWith firstImage firstList begun makes idle idleAfter isItemAt listAfter after stateAfter outcomeOf sameItem
+unfolding rules listed history begun makes idle idleAfter
 idle-listed = refl
 
 idle-held : tally (sameItem (freshOpen 1 orders 1)) (itemsOf idle begun (makes ∷ [])) ≡ 1
-unfolding rules orders fcbWith dmaWith firstImage firstList begun makes idle idleAfter itemsOf historyOf eventsOf outcomeOf sameItem tally heldAfter holding deed deedBy fileBy isAmong granting
+unfolding rules listed history begun makes idle idleAfter
 idle-held = refl
 
 zero-one : (a b : ℕ) → a ≡ 0 → b ≡ 1 → a ≡ b → ⊥
@@ -63,11 +64,11 @@ not-idle d =
 
 -- doing the first call's work and then pretending, it fails at the second
 pretending-listed : count (isItemAt (freshOpen 2 orders 1) (listAfter pretending begun (makes ∷ opens ∷ []))) 64 ≡ 0
-unfolding rules orders fcbWith dmaWith firstImage firstList begun makes opens pretending idle idleAfter isItemAt listAfter after stateAfter outcomeOf sameItem
+unfolding rules listed history begun makes opens pretending idle idleAfter
 pretending-listed = refl
 
 pretending-held : tally (sameItem (freshOpen 2 orders 1)) (itemsOf pretending begun (makes ∷ opens ∷ [])) ≡ 1
-unfolding rules orders fcbWith dmaWith firstImage firstList begun makes opens pretending idle idleAfter itemsOf historyOf eventsOf outcomeOf sameItem tally heldAfter holding deed deedBy fileBy isAmong granting
+unfolding rules listed history begun makes opens pretending idle idleAfter
 pretending-held = refl
 
 pub not-pretending : Demand3 pretending → ⊥
@@ -80,15 +81,15 @@ asks : Ask
 asks = record { function = 46; process = 1; run = 1; fcb = fcbWith 0; dma = dmaWith 0 }
 
 figure-is : byte (outcomeAfter madeUp begun [] asks .left .dma) 0 ≡ 8
-unfolding rules orders fcbWith dmaWith firstImage firstList begun asks madeUp outcomeAfter after stateAfter outcomeOf
+unfolding rules listed history begun asks madeUp
 figure-is = refl
 
 figure-due : byte (figureIn (blocks (begun .image)) (groupsBy madeUp begun []) (asks .dma)) 0 ≡ 16
-unfolding rules orders fcbWith dmaWith firstImage firstList begun asks figureIn groupsBy historyOf eventsOf countedAfter groupsOf groupsBelow isNumbered groupAt
+unfolding rules listed history begun asks
 figure-due = refl
 
 figure-asked : deedAfter madeUp begun [] asks ≡ tells
-unfolding rules orders fcbWith dmaWith firstImage firstList begun asks madeUp deedAfter outcomeAfter after stateAfter outcomeOf deed deedBy
+unfolding rules listed history begun asks madeUp
 figure-asked = refl
 
 pub not-made-up : Demand3 madeUp → ⊥
@@ -96,18 +97,33 @@ not-made-up d =
     let e : _≡_ {A = ℕ} 8 16 = sym figure-is ∙ ap (λ (m : List ℕ). byte m 0) (d .figure-told begun [] asks figure-asked) ∙ figure-due in
     omega arith
 
+-- without the four bits single calls fail too: 34 of records 262,143 and 262,144 takes a block for the first, and 6/0 tells of none
+writes : Ask
+writes = record { function = 34; process = 1; run = 2; fcb = put 33 (255 ∷ 255 ∷ 3 ∷ []) (fcbWith 0); dma = dmaWith 0 }
+
+singly-counted : length (groupsBy callSingly begun (makes ∷ writes ∷ [])) ≡ 0
+unfolding rules listed history begun makes writes
+singly-counted = refl
+
+singly-used : blocksInUse (imageAfter callSingly begun (makes ∷ writes ∷ [])) ≡ 1
+unfolding rules listed history begun makes writes
+singly-used = refl
+
+pub not-singly : Demand3 callSingly → ⊥
+not-singly d = zero-one _ _ singly-counted singly-used (sym (d .blocks-are-groups begun (makes ∷ writes ∷ []) .as-many))
+
 -- ---- demand 2
 
 -- S0, S4 and S8 of the session
-s0 : call 22 1 1 (buffers (fcbWith 0) (dmaWith 0) firstList firstImage) ≡ outcome (0 ∕ 0) (buffers (fcbWith 0) (dmaWith 0) list0 image0)
+s0 : callRun 22 1 1 (buffers (fcbWith 0) (dmaWith 0) firstList firstImage) ≡ outcome (0 ∕ 0) (buffers (fcbWith 0) (dmaWith 0) list0 image0)
 unfolding AsListed session
 s0 = the-session .0
 
-s4 : call 34 2 1 (buffers (fcbWith 0) (dmaWith 1) list3 image2) ≡ outcome (8 ∕ 0) (buffers (fcbWith 0) (dmaWith 1) list3 image2)
+s4 : callRun 34 2 1 (buffers (fcbWith 0) (dmaWith 1) list3 image2) ≡ outcome (8 ∕ 0) (buffers (fcbWith 0) (dmaWith 1) list3 image2)
 unfolding AsListed session
 s4 = the-session .1 .1 .1 .1 .0
 
-s8 : call 46 1 1 (buffers (fcbWith 0) (dmaWith 0) list3 image5) ≡ outcome (0 ∕ 0) (buffers (fcbWith 0) (dmaWith 0) list3 image5)
+s8 : callRun 46 1 1 (buffers (fcbWith 0) (dmaWith 0) list3 image5) ≡ outcome (0 ∕ 0) (buffers (fcbWith 0) (dmaWith 0) list3 image5)
 unfolding AsListed session
 s8 = the-session .1 .1 .1 .1 .1 .1 .1 .1 .0
 

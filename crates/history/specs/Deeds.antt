@@ -1,8 +1,9 @@
--- What a call did, told by the call and its answer alone. Nothing else asks whether an answer is 0/0. Assumes nothing.
-use Prim.Native.Nat.{ℕ}
+-- What a call did, told by the call and its answer alone. Nothing else asks whether an answer is 0/0 to know what a call did. Assumes nothing.
+use Prim.Native.Nat.{ℕ, _/_}
+use mathlib.Core.Bool.{Bool}
 use mathlib.Core.List.{List}
 use lib.Dec.{eqb}
-use Rattle.words.specs.Tests.{_if_else_}
+use Rattle.words.specs.Tests.{_or_, _if_else_}
 use Rattle.words.specs.Bytes.{byte}
 use Rattle.words.specs.Tables.{_∕_}
 use Rattle.rules.specs.declared.file.File.{File}
@@ -14,8 +15,8 @@ use Rattle.rules.specs.Drive.{fileFrom}
 use Rattle.rules.specs.Asks.{recordOf, openMode, makeMode}
 use Rattle.history.specs.History.{Ask, Event}
 
--- what an accepted call may do: 15 and 22 open a file for a process in a mode, 16 closes it, 42 and 43 lock and unlock a run of
--- records from a first on, 143 ends the process, 34 and 40 touch a record, 19 drops a file, 23 carries it over, 46 tells a figure
+-- what a call may do: 15 and 22 open a file for a process in a mode, 16 closes it, 42 and 43 lock and unlock a run of
+-- records from a first on, 143 ends the process, 34 and 40 touch such a run, 19 drops a file, 23 carries it over, 46 tells a figure
 pub data Deed : Type 0 where
   nothing : Deed
   opens : ℕ → File → ℕ → Deed
@@ -23,7 +24,7 @@ pub data Deed : Type 0 where
   locks : ℕ → File → ℕ → ℕ → Deed
   unlocks : ℕ → File → ℕ → ℕ → Deed
   ends : ℕ → Deed
-  touches : File → ℕ → Deed
+  touches : File → ℕ → ℕ → Deed
   drops : File → Deed
   carries : File → File → Deed
   tells : Deed
@@ -35,8 +36,8 @@ fileBy users q = fileFrom (byte users (q .process)) (q .fcb) 1
 unfoldable pub newBy : List ℕ → Ask → File
 newBy users q = fileFrom (byte users (q .process)) (q .fcb) 17
 
--- An open, by each accepted 15 or 22; the run's records, by each accepted 42; an accepted 34 or 40 has touched a group; an
--- accepted Rename carries them over, an accepted Delete drops them. 33 and 41 do none of these.
+-- An open, by each accepted 15 or 22; the run's records, by each accepted 42; an accepted 34 or 40 has touched the
+-- groups of its records; an accepted Rename carries them over, an accepted Delete drops them. 33 and 41 do none of these.
 unfoldable pub deedBy : Chosen → List ℕ → Ask → Deed
 deedBy (Call Open) users q = opens (q .process) (fileBy users q) (openMode (q .fcb))
 deedBy (Call Close) users q = closes (q .process) (fileBy users q)
@@ -44,8 +45,8 @@ deedBy (Call Delete) users q = drops (fileBy users q)
 deedBy (Call Make) users q = opens (q .process) (fileBy users q) (makeMode (q .fcb))
 deedBy (Call Rename) users q = carries (fileBy users q) (newBy users q)
 deedBy (Call Read) users q = nothing
-deedBy (Call Write) users q = touches (fileBy users q) (recordOf (q .fcb))
-deedBy (Call WriteZeros) users q = touches (fileBy users q) (recordOf (q .fcb))
+deedBy (Call Write) users q = touches (fileBy users q) (recordOf (q .fcb)) (q .run)
+deedBy (Call WriteZeros) users q = touches (fileBy users q) (recordOf (q .fcb)) (q .run)
 deedBy (Call TestWrite) users q = nothing
 deedBy (Call Lock) users q = locks (q .process) (fileBy users q) (recordOf (q .fcb)) (q .run)
 deedBy (Call Unlock) users q = unlocks (q .process) (fileBy users q) (recordOf (q .fcb)) (q .run)
@@ -53,6 +54,18 @@ deedBy (Call FreeSpace) users q = tells
 deedBy (Call Terminate) users q = ends (q .process)
 deedBy Unknown users q = nothing
 
--- a refused call did nothing
+-- how many records were done of a call that was refused: the high four bits of H tell it
+abbrev pub doneIn : ℕ → ℕ
+doneIn answer = answer / (0 ∕ 16)
+
+-- 34 and 40
+unfoldable pub writesRun : ℕ → Bool
+writesRun n = eqb n 34 or eqb n 40
+
+-- A refused call did nothing, but a refused 34 or 40 touched the records before the refused one (T-07, demand 3 counts the
+-- records done).
 unfoldable pub deed : List ℕ → Event → Deed
-deed users e = deedBy (chosen (e .ask .function)) users (e .ask) if eqb (e .answer) (0 ∕ 0) else nothing
+deed users e =
+    deedBy (chosen (e .ask .function)) users (e .ask) if eqb (e .answer) (0 ∕ 0) else
+    touches (fileBy users (e .ask)) (recordOf (e .ask .fcb)) (doneIn (e .answer)) if writesRun (e .ask .function) else
+    nothing

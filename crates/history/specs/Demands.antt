@@ -1,4 +1,4 @@
--- Demands 2 and 3, each a statement about an engine. Assumes nothing.
+-- Demands 1, 2 and 3, each a statement about an engine. Assumes nothing.
 use Prim.Native.Nat.{ℕ, zero, suc, _+_, _-_, _*_, _≤_, _<_}
 use mathlib.Core.Path.{_≡_}
 use mathlib.Core.Bool.{Bool, true, false, not}
@@ -12,21 +12,30 @@ use Rattle.words.specs.Tables.{_∕_}
 use Rattle.rules.specs.declared.file.File.{File}
 use Rattle.rules.specs.declared.item.Item.{Item}
 use Rattle.rules.specs.declared.list.LockList.{LockList}
-use Rattle.rules.specs.Serves.{Buffers, Outcome, processes, listSize}
+use Rattle.rules.specs.Serves.{Buffers, Outcome, outcome, processes, listSize}
 use Rattle.rules.specs.Drive.{highest, entries, entrySize, blocks, blockRecords, recordSize, recordAt, isEmpty, userByte, blockOf, freeBlocks, soundImage}
 use Rattle.rules.specs.Locks.{places, itemAt, unpack, freshLock, isKindBy, opensBy, locksBy, isEmptyAt, freePlaces, soundList}
 use Rattle.rules.specs.Asks.{recordOf}
 use Rattle.rules.specs.Look.{look}
-use Rattle.rules.specs.Call.{call}
+use Rattle.rules.specs.Several.{callRun}
 use Rattle.history.specs.History.{Engine, Ask, State, Begun, outcomeOf, kept, eventsOf, after, historyOf, event}
-use Rattle.history.specs.Deeds.{Deed, ends, tells, deed, fileBy}
+use Rattle.history.specs.Deeds.{Deed, ends, tells, deed, doneIn, fileBy}
 use Rattle.history.specs.Held.{sameItem, tally, isAmong, isBy, heldAfter, anyOpenBy}
 use Rattle.history.specs.Groups.{Group, groupOf, hasBlock, isCounted, groupsOf, blocksInUse, countedAfter}
+
+-- ---- Demand 1: a refusal leaves all four buffers unchanged. Of several records the refused one and those after it leave no
+-- trace: what is left is what a call of just the records done leaves, and that call is accepted.
+
+pub record Demand1 (e : Engine) : Type 0 where
+  pub unchanged : (n p c : ℕ) (b : Buffers)
+      → (e n p c b .answer ≡ 0 ∕ 0 → ⊥) → doneIn (e n p c b .answer) ≡ 0 → e n p c b .left ≡ b
+  pub no-trace : (n p c : ℕ) (b : Buffers)
+      → (doneIn (e n p c b .answer) ≡ 0 → ⊥) → e n p (doneIn (e n p c b .answer)) b ≡ outcome (0 ∕ 0) (e n p c b .left)
 
 -- ---- Demand 2: for each input one outcome, that of the rules
 
 unfoldable pub Demand2 : Engine → Type 0
-Demand2 e = (n p c : ℕ) (b : Buffers) → e n p c b ≡ call n p c b
+Demand2 e = (n p c : ℕ) (b : Buffers) → e n p c b ≡ callRun n p c b
 
 -- ---- What the history says
 

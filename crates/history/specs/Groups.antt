@@ -1,10 +1,12 @@
 -- "History's groups": the pairs of file and record number divided by eight that had a block at the start or that an accepted
--- 34 or 40 has touched; an accepted Rename carries them over, an accepted Delete drops them. Assumes nothing.
+-- 34 or 40 has touched; an accepted Rename carries them over, an accepted Delete drops them. Of a 34 or 40 that was refused
+-- the records done count (T-07). Assumes nothing.
 use Prim.Native.Nat.{ℕ, zero, suc, _+_, _*_, _/_, _%_}
 use mathlib.Core.Bool.{Bool, false, not}
 use mathlib.Core.List.{List, [], _∷_, map}
 use lib.Dec.{leb, eqb}
 use Rattle.words.specs.Tests.{_and_, _or_, _if_else_, count}
+use Rattle.words.specs.Lists.{turns}
 use Rattle.rules.specs.declared.file.File.{File}
 use Rattle.rules.specs.Drive.{mapSize, entries, blockRecords, blocks, isEmpty, fileAt, extentAt, mapNumber, blockOf, isUsed}
 use Rattle.rules.specs.Locks.{sameFile}
@@ -64,6 +66,13 @@ blocksInUse s = count (isInUse s) (blocks s)
 unfoldable pub touching : Group → List Group → List Group
 touching x g = g if isCounted x g else x ∷ g
 
+-- .. by each record of a run
+unfoldable pub touchingAt : File → ℕ → ℕ → List Group → List Group
+touchingAt f r k g = touching (groupOf f (r + k)) g
+
+unfoldable pub touchingRun : File → ℕ → ℕ → List Group → List Group
+touchingRun f r n g = turns (touchingAt f r) n g
+
 unfoldable pub ofFile : File → Group → Bool
 ofFile f x = sameFile (x .file) f
 
@@ -77,7 +86,7 @@ counting (closes p f) g = g
 counting (locks p f r n) g = g
 counting (unlocks p f r n) g = g
 counting (ends p) g = g
-counting (touches f r) g = touching (groupOf f r) g
+counting (touches f r n) g = touchingRun f r n g
 counting (drops f) g = without (ofFile f) g
 counting (carries f h) g = map (carried f h) g
 counting tells g = g

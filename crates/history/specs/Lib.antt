@@ -4,3 +4,4 @@ pub mod Held
 pub mod Groups
 pub mod Demands
 pub mod Wrong
+pub mod Claims

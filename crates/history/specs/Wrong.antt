@@ -5,7 +5,7 @@ use Rattle.words.specs.Bytes.{put, le}
 use Rattle.words.specs.Tables.{_∕_}
 use Rattle.rules.specs.Serves.{Buffers, Outcome, buffers, outcome}
 use Rattle.rules.specs.Locks.{places, isEmptyAt, unpack}
-use Rattle.rules.specs.Call.{call}
+use Rattle.rules.specs.Several.{callRun}
 use Rattle.history.specs.History.{Engine}
 
 -- an engine refusing everything
@@ -21,13 +21,13 @@ unfoldable pub idleAfter : Outcome → Buffers → Outcome
 idleAfter o b = outcome (o .answer) (buffers (o .left .fcb) (o .left .dma) (b .list) (b .image))
 
 unfoldable pub idle : Engine
-idle n p c b = idleAfter (call n p c b) b
+idle n p c b = idleAfter (callRun n p c b) b
 
 -- one that does the first call's work (the list is then empty) and then pretends
 unfoldable pub pretending : Engine
-pretending n p c b = call n p c b if all (isEmptyAt (unpack (b .list))) places else idle n p c b
+pretending n p c b = callRun n p c b if all (isEmptyAt (unpack (b .list))) places else idle n p c b
 
 -- one with a made-up figure from 46
 unfoldable pub madeUp : Engine
 madeUp n p c b =
-    outcome (0 ∕ 0) (buffers (b .fcb) (put 0 (le 3 8) (b .dma)) (b .list) (b .image)) if eqb n 46 else call n p c b
+    outcome (0 ∕ 0) (buffers (b .fcb) (put 0 (le 3 8) (b .dma)) (b .list) (b .image)) if eqb n 46 else callRun n p c b

@@ -15,7 +15,6 @@ ghost use Rattle.rules.specs.Locks.{unpack};
 ghost use Rattle.rules.specs.Call.{Ready, served};
 ghost use Rattle.rules.specs.declared.routine.Chosen.the-variants.{Call};
 ghost use Prim.Native.Nat.{_+_, _<_, _≤_};
-ghost use Rattle.words.specs.Bytes.{byte};
 ghost use Rattle.rules.specs.declared.routine.Routine.the-variants.{Lock};
 ghost use Rattle.rules.specs.Codes.{rowsLacking, firstLacking, rowsTake, rows42};
 ghost use mathlib.Core.List.{_++_};
@@ -44,7 +43,7 @@ fn lock_refusal(
     dma: &[u8],
     image: &[u8],
 ) -> u32
-    requires { ⌜ (l .capacity ≤ 64) × (1 ≤ n) × (n ≤ 16) × (r < 16777216) × (length (now dma) ≡ 256) × (2048 ≤ length (now image)) ⌝ }
+    requires { ⌜ (l .capacity ≤ 64) × (1 ≤ n) × (n ≤ 16) × (r < 16777216) × (length (now dma) ≡ 2048) × (2048 ≤ length (now image)) ⌝ }
     ensures { λ c. ⌜ c ≡ firstOf (rows42 p l o f r n (now (dma .entry)) (now (image .entry))) ⌝ }
 {
     if 64 <= o {

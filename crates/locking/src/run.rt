@@ -10,7 +10,7 @@ ghost use lib.Dec.{eqb, ltb};
 ghost use Rattle.words.specs.Tests.{any, count};
 ghost use Rattle.words.specs.Tables.{firstOf};
 ghost use Rattle.rules.specs.Locks.{itemAt, locksBy, freePlaces};
-ghost use Rattle.rules.specs.Codes.{isFileId, noExtent, lacks, firstLacking, rowsLacking, isNew, rowsTake};
+ghost use Rattle.rules.specs.Codes.{isFileId, noExtent, lacks, firstLacking, rowsLacking, isOthers, isNew, rowsTake};
 
 // The open at place `o` is unlocked.
 pub fn is_unlocked(l: LockList, o: usize) -> bool
@@ -28,7 +28,7 @@ fn is_number(b: u8, n: usize) -> bool
 
 // DMA bytes 0 and 1 are the File ID of the open at place `o`.
 pub fn is_file_id(dma: &[u8], o: usize) -> bool
-    requires { ⌜ length (now dma) ≡ 256 ⌝ }
+    requires { ⌜ length (now dma) ≡ 2048 ⌝ }
     ensures { λ t. ⌜ t ≡ isFileId (now (dma .entry)) o ⌝ }
 {
     if !is_number(dma[0], o) {
@@ -107,12 +107,19 @@ fn too_few_places(p: u8, l: LockList, f: File, r: u32, n: u32) -> bool
     l.free_places() < l.count_new(p, f, r, n)
 }
 
+// Another process holds one of the run's records.
+fn any_others(p: u8, l: LockList, f: File, r: u32, n: u32) -> bool
+    ensures { λ t. ⌜ t ≡ any (isOthers l p f r) n ⌝ }
+{
+    l.first_others(p, f, r, n) < n
+}
+
 // The code of the first refusal to take the run's records, or 0.
 pub fn not_to_take(p: u8, l: LockList, f: File, r: u32, n: u32) -> u32
     requires { ⌜ (l .capacity ≤ 64) × (n ≤ 16) ⌝ }
     ensures { λ c. ⌜ c ≡ firstOf (rowsTake p l f r n) ⌝ }
 {
-    if l.any_others(p, f, r, n) {
+    if any_others(p, l, f, r, n) {
         return 8;
     }
     if over_limit(p, l, n) {

@@ -19,7 +19,7 @@ ghost use Rattle.locking.specs.By.{by43};
 
 // The code of the first refusal of 43, or 0. The caller's open is at place `o` (64: none); modes 0 and 2 pass.
 fn unlock_refusal(l: LockList, o: usize, r: u32, n: u32, dma: &[u8]) -> u32
-    requires { ⌜ (1 ≤ n) × (n ≤ 16) × (r < 16777216) × (length (now dma) ≡ 256) ⌝ }
+    requires { ⌜ (1 ≤ n) × (n ≤ 16) × (r < 16777216) × (length (now dma) ≡ 2048) ⌝ }
     ensures { λ c. ⌜ c ≡ firstOf (rows43 l o r n (now (dma .entry))) ⌝ }
 {
     if 64 <= o {

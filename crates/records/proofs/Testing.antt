@@ -13,7 +13,6 @@ use Rattle.words.specs.Tables.{firstOf, noneZero}
 use Rattle.words.proofs.Tables.{row-off, row-rest, nonzeros}
 use Rattle.words.proofs.Sets.{row-yes, row-no, row-none, is-yes, is-no, not-of-true, not-of-false}
 use Rattle.rules.specs.declared.file.File.{File}
-use Rattle.rules.specs.declared.file.Found.{Found}
 use Rattle.rules.specs.declared.list.LockList.{LockList}
 use Rattle.rules.specs.declared.spot.Spot.{Spot}
 use Rattle.rules.specs.declared.routine.Chosen.the-variants.{Call}
@@ -55,9 +54,9 @@ own-block s e r c h z =
     let y : eqb (blockIn s e r) 0 ≡ false = row-off 1 _ _ (λ y. omega arith) (row-rest 4 _ _ (λ y. omega arith) rows) in
     rw (q, y)
 
-module _ (p : ℕ) (l : LockList) (o : ℕ) (f : File) (x : Found) (r : ℕ) (b : Buffers) (c : ℕ) (hx : x ≡ lookUp (b .image) f) (hc : c ≡ firstOf (rowsMay p l o f x r (b .image))) where
-  may : c ≡ firstOf (rowsMay p l o f (lookUp (b .image) f) r (b .image))
-  may = may-table p l o f x r (b .image) c hx hc
+module _ (p : ℕ) (l : LockList) (o : ℕ) (f : File) (e₀ r : ℕ) (b : Buffers) (c : ℕ) (hx : e₀ ≡ entryOf (b .image) f 0) (hc : c ≡ firstOf (rowsMay p l o f e₀ r (b .image))) where
+  may : c ≡ firstOf (rowsMay p l o f (entryOf (b .image) f 0) r (b .image))
+  may = may-table p l o f e₀ r (b .image) c hx hc
 
   -- not to be written
   pub test-refused : (c ≡ 0 → ⊥) → Did (by41 p l o f r b) c (b .fcb) (b .dma) (b .list) (b .image)
@@ -88,7 +87,7 @@ module _ (p : ℕ) (l : LockList) (o : ℕ) (f : File) (x : Found) (r : ℕ) (b 
         test : t ≡ any (differs (b .dma) (b .image) (recordAt (blockIn (b .image) (entryOf (b .image) f (r / 128)) r) r)) 128
         test = ht ∙ ap (λ (k : ℕ). any (differs (b .dma) (b .image) (recordAt k r)) 128) own
 
-        differ : (k : ℕ) → k ≡ firstOf (rowsDiffer (b .dma) (b .image) (blockIn (b .image) (entryOf (b .image) f (r / 128)) r) r) → (a : ℕ) (image : List ℕ) → Did (unless (rowsDiffer (b .dma) (b .image) (blockIn (b .image) (entryOf (b .image) f (r / 128)) r) r) b (does41 f (lookUp (b .image) f) (entryOf (b .image) f (r / 128)) r b)) a (b .fcb) (b .dma) (b .list) image → Did (by41 p l o f r b) a (b .fcb) (b .dma) (b .list) image
+        differ : (k : ℕ) → k ≡ firstOf (rowsDiffer (b .dma) (b .image) (blockIn (b .image) (entryOf (b .image) f (r / 128)) r) r) → (a : ℕ) (image : List ℕ) → Did (unless (rowsDiffer (b .dma) (b .image) (blockIn (b .image) (entryOf (b .image) f (r / 128)) r) r) b (does41 f (entryOf (b .image) f 0) (entryOf (b .image) f (r / 128)) r b)) a (b .fcb) (b .dma) (b .list) image → Did (by41 p l o f r b) a (b .fcb) (b .dma) (b .list) image
         unfolding by41 rows41
         differ k hk a image g =
             did-go-on _ _ b _ c may a _ _ _ _ z (nonzero-may p l o f _ r (b .image))
@@ -102,7 +101,7 @@ module _ (p : ℕ) (l : LockList) (o : ℕ) (f : File) (x : Found) (r : ℕ) (b 
             differ 7 q 7 (b .image) (did-refuse _ b _ 7 q (λ v. omega arith))
 
         -- written
-        pub test-done : (image : List ℕ) → t ≡ false → image ≡ written false w (x .entry) f r (take (256 - 128) (drop 128 (b .dma))) (b .image) → Did (by41 p l o f r b) 0 (b .fcb) (b .dma) (b .list) image
+        pub test-done : (image : List ℕ) → t ≡ false → image ≡ written false w e₀ f r (take (256 - 128) (drop 128 (b .dma))) (b .image) → Did (by41 p l o f r b) 0 (b .fcb) (b .dma) (b .list) image
         unfolding rowsDiffer does41
         test-done image y g =
             let q = row-no 0 7 _ [] (is-no t _ test y) (row-none 0 refl) in
@@ -113,12 +112,12 @@ module _ (p : ℕ) (l : LockList) (o : ℕ) (f : File) (x : Found) (r : ℕ) (b 
               leaves-fcb = refl;
               leaves-dma = refl;
               leaves-list = refl;
-              leaves-image = g ∙ ap (λ (v : Spot). written false v (x .entry) f r (part 128 128 (b .dma)) (b .image)) spot ∙ ap (λ (v : Found). written false (spotAt (b .image) (entryOf (b .image) f (r / 128)) r) (v .entry) f r (part 128 128 (b .dma)) (b .image)) hx;
+              leaves-image = g ∙ ap (λ (v : Spot). written false v e₀ f r (part 128 128 (b .dma)) (b .image)) spot ∙ ap (λ (v : ℕ). written false (spotAt (b .image) (entryOf (b .image) f (r / 128)) r) v f r (part 128 128 (b .dma)) (b .image)) hx;
             }))
 
 -- the calls on the buffers
 pub test-called : (p c : ℕ) (b : Buffers) (l : LockList) (f : File) (o r a : ℕ) (fcb dma list image : List ℕ) → l ≡ unpack (b .list) → f ≡ callerFile p l (b .fcb) → o ≡ openOf l p f → r ≡ recordOf (b .fcb) → Did (by41 p l o f r b) a fcb dma list image → Did (served (Call TestWrite) p c b) a fcb dma list image
-unfolding by41 rowsOf effectOf askedBy
+unfolding by41 rowsOf effectOf askedBy lookUp
 test-called p c b l f o r a fcb dma list image hl hf ho hr d =
     did-as _ _ a fcb dma list image (served-as (Call TestWrite) p c b l f r hl hf hr) (rw ho at d)
 

@@ -1,32 +1,31 @@
--- 34 and 40: the outcome at each end of their routine. Assumes nothing.
-use Prim.Native.Nat.{ℕ, _/_, _<_}
-use mathlib.Core.Path.{_≡_, refl, sym, ap, _∙_}
+-- The write of one record, and 34 and 40: the outcome at each end of their routines. Assumes nothing.
+use Prim.Native.Nat.{ℕ, _/_, _≤_, _<_}
+use mathlib.Core.Path.{_≡_, refl, sym, ap, subst, _∙_}
 use mathlib.Core.Bool.{Bool, true, false}
-use mathlib.Core.List.{List}
+use mathlib.Core.List.{List, _++_}
 use mathlib.Core.Logic.{⊎-elim}
 use native.Mathlib.Omega.{arith}
 use lib.Dec.{leb, eqb}
 use borrow.Author.Tests.{ltb-false}
-use Rattle.words.specs.Tests.{_and_, _if_else_}
-use Rattle.words.specs.Tables.{firstOf, noneZero}
-use Rattle.words.proofs.Tests.{either}
-use Rattle.words.proofs.Tables.{row-off, row-rest, nonzeros}
+use Rattle.words.specs.Tests.{_and_, _or_, _if_else_}
+use Rattle.words.specs.Tables.{Row, firstOf, noneZero}
+use Rattle.words.proofs.Tests.{either, equal?}
+use Rattle.words.proofs.Tables.{row-off, row-rest, nonzeros, first-then, first-stays}
 use Rattle.rules.specs.declared.file.File.{File}
-use Rattle.rules.specs.declared.file.Found.{Found}
 use Rattle.rules.specs.declared.list.LockList.{LockList}
 use Rattle.rules.specs.declared.spot.Spot.{Spot}
 use Rattle.rules.specs.declared.routine.Chosen.the-variants.{Call}
 use Rattle.rules.specs.declared.routine.Routine.the-variants.{Write, WriteZeros}
 use Rattle.rules.specs.Serves.{Buffers, Did}
-use Rattle.rules.specs.Drive.{highest, entryOf, lookUp, blockIn, freeEntry, freeBlock, soundImage}
-use Rattle.rules.specs.Locks.{unpack, openOf}
+use Rattle.rules.specs.Drive.{highest, entryOf, lookUp, readOnly, blockIn, freeEntry, freeBlock, soundImage}
+use Rattle.rules.specs.Locks.{itemAt, unpack, openOf, lockedByOther}
 use Rattle.rules.specs.Asks.{callerFile, recordOf}
 use Rattle.rules.specs.Codes.{rowsMay, rowsRoom, rows34}
 use Rattle.rules.specs.Effects.{spotAt, written, does34}
 use Rattle.rules.specs.Call.{askedBy, rowsOf, effectOf, served}
-use Rattle.rules.proofs.Room.{Within, room-within}
-use Rattle.rules.proofs.Ends.{did-as, did-refuse, did-pass, did-refuse-first, did-go-on, served-as}
-use Rattle.records.specs.By.{by34}
+use Rattle.rules.proofs.Room.{room-within}
+use Rattle.rules.proofs.Ends.{did-as, did-refuse, did-pass, served-as}
+use Rattle.records.specs.By.{rowsMayBy, OneDid, by34}
 
 -- ---- a spot tells whether there is room
 
@@ -59,68 +58,102 @@ module _ (s : List ℕ) (e r : ℕ) (w : Spot) (h : w ≡ spotAt s e r) where
 
 -- ---- what 34, 40 and 41 share
 
-pub nonzero-may : (p : ℕ) (l : LockList) (o : ℕ) (f : File) (x : Found) (r : ℕ) (s : List ℕ) → noneZero (rowsMay p l o f x r s) ≡ true
+pub nonzero-may : (p : ℕ) (l : LockList) (o : ℕ) (f : File) (e₀ r : ℕ) (s : List ℕ) → noneZero (rowsMay p l o f e₀ r s) ≡ true
 unfolding rowsMay
-nonzero-may p l o f x r s = search nonzeros depth 20 fits 20000
+nonzero-may p l o f e₀ r s = search nonzeros depth 20 fits 20000
 
-module _ (p : ℕ) (l : LockList) (o : ℕ) (f : File) (x : Found) (r : ℕ) (s : List ℕ) (c : ℕ) (hx : x ≡ lookUp s f) (hc : c ≡ firstOf (rowsMay p l o f x r s)) where
-  pub may-table : c ≡ firstOf (rowsMay p l o f (lookUp s f) r s)
-  may-table = hc ∙ ap (λ (y : Found). firstOf (rowsMay p l o f y r s)) hx
+module _ (p : ℕ) (l : LockList) (o : ℕ) (f : File) (e₀ r : ℕ) (s : List ℕ) (c : ℕ) (hx : e₀ ≡ entryOf s f 0) (hc : c ≡ firstOf (rowsMay p l o f e₀ r s)) where
+  pub may-table : c ≡ firstOf (rowsMay p l o f (entryOf s f 0) r s)
+  may-table = hc ∙ ap (λ (y : ℕ). firstOf (rowsMay p l o f y r s)) hx
 
-  -- the record number is in range
-  pub may-number : c ≡ 0 → r < 262144
-  unfolding rowsMay
-  may-number z =
-      let k = ltb-false highest r (row-off 6 _ _ (λ y. omega arith) (row-rest 1023 _ _ (λ y. omega arith) (row-rest 10 _ _ (λ y. omega arith) (sym hc ∙ z)))) in
-      omega arith
+-- the rows from the answers to their tests
+pub may-by : (p : ℕ) (l : LockList) (o : ℕ) (f : File) (e₀ r : ℕ) (s : List ℕ) (stopped locked : Bool)
+    → stopped ≡ (readOnly s e₀ or eqb (itemAt l o .mode) 2) → locked ≡ lockedByOther l p f r → rowsMayBy o stopped r locked ≡ rowsMay p l o f e₀ r s
+unfolding rowsMayBy rowsMay
+may-by p l o f e₀ r s stopped locked hs hl = rw (hs, hl) refl
 
--- ---- the ends of 34 and 40
+pub may-told : (p : ℕ) (l : LockList) (o : ℕ) (f : File) (e₀ r : ℕ) (s : List ℕ) (stopped locked : Bool) (mode c : ℕ)
+    → mode ≡ itemAt l o .mode → stopped ≡ (readOnly s e₀ or eqb mode 2) → locked ≡ lockedByOther l p f r → c ≡ firstOf (rowsMayBy o stopped r locked) → c ≡ firstOf (rowsMay p l o f e₀ r s)
+may-told p l o f e₀ r s stopped locked mode c hm hs hl hc =
+    hc ∙ ap firstOf (may-by p l o f e₀ r s stopped locked (hs ∙ ap (λ (m : ℕ). readOnly s e₀ or eqb m 2) hm) hl)
 
-module _ (zeros : Bool) (p : ℕ) (l : LockList) (o : ℕ) (f : File) (x : Found) (r : ℕ) (b : Buffers) (c : ℕ) (hx : x ≡ lookUp (b .image) f) (hc : c ≡ firstOf (rowsMay p l o f x r (b .image))) where
-  may : c ≡ firstOf (rowsMay p l o f (lookUp (b .image) f) r (b .image))
-  may = may-table p l o f x r (b .image) c hx hc
+-- the record number is in range
+pub write-number : (o : ℕ) (stopped : Bool) (r : ℕ) (locked : Bool) (c : ℕ) → c ≡ firstOf (rowsMayBy o stopped r locked) → c ≡ 0 → r < 262144
+unfolding rowsMayBy
+write-number o stopped r locked c hc z =
+    let k = ltb-false highest r (row-off 6 _ _ (λ y. omega arith) (row-rest 1023 _ _ (λ y. omega arith) (row-rest 10 _ _ (λ y. omega arith) (sym hc ∙ z)))) in
+    omega arith
+
+pub may-number : (p : ℕ) (l : LockList) (o : ℕ) (f : File) (e₀ r : ℕ) (s : List ℕ) (c : ℕ) → c ≡ firstOf (rowsMay p l o f e₀ r s) → c ≡ 0 → r < 262144
+may-number p l o f e₀ r s c hc z = write-number o _ r _ c (hc ∙ ap firstOf (sym (may-by p l o f e₀ r s _ _ refl refl))) z
+
+-- ---- the ends of one record's write
+
+module _ (zeros : Bool) (o : ℕ) (stopped locked : Bool) (f : File) (e₀ e r : ℕ) (v s : List ℕ) (c : ℕ) (le : e ≤ 64) (hc : c ≡ firstOf (rowsMayBy o stopped r locked)) where
+  abbrev may : List Row
+  may = rowsMayBy o stopped r locked
+
+  may-real : noneZero may ≡ true
+  unfolding rowsMayBy
+  may-real = search nonzeros depth 20 fits 20000
+
+  stays : (code : ℕ) → code ≡ firstOf (may ++ rowsRoom s e r) → (code ≡ 0 → ⊥) → OneDid zeros o stopped locked f e₀ e r v s code e s
+  stays code h n = record { gives = h; within = le; wrote = λ z. absurd (n z); at = λ z. absurd (n z); kept = λ z. refl; stays = λ z. refl }
 
   -- not to be written
-  pub write-refused : (c ≡ 0 → ⊥) → Did (by34 zeros p l o f r b) c (b .fcb) (b .dma) (b .list) (b .image)
-  unfolding by34 rows34
-  write-refused n = did-refuse-first _ _ b _ c may n
+  pub write-stays : (c ≡ 0 → ⊥) → OneDid zeros o stopped locked f e₀ e r v s c e s
+  write-stays n = stays c (hc ∙ sym (first-stays may (rowsRoom s e r) (λ q. n (hc ∙ q)))) n
 
-  module _ (z : c ≡ 0) (e : ℕ) (he : e ≡ entryOf (b .image) f (r / 128)) (w : Spot) (hw : w ≡ spotAt (b .image) e r) (d : ℕ) (hd : d ≡ firstOf (rowsRoom (b .image) e r)) where
-    room : d ≡ firstOf (rowsRoom (b .image) (entryOf (b .image) f (r / 128)) r)
-    room = hd ∙ ap (λ (k : ℕ). firstOf (rowsRoom (b .image) k r)) he
-
-    spot : w ≡ spotAt (b .image) (entryOf (b .image) f (r / 128)) r
-    spot = hw ∙ ap (λ (k : ℕ). spotAt (b .image) k r) he
+  module _ (z : c ≡ 0) (w : Spot) (hw : w ≡ spotAt s e r) (d : ℕ) (hd : d ≡ firstOf (rowsRoom s e r)) where
+    room : d ≡ firstOf (may ++ rowsRoom s e r)
+    room = hd ∙ sym (first-then may (rowsRoom s e r) (sym hc ∙ z) may-real)
 
     -- no room
-    pub write-full : (d ≡ 0 → ⊥) → Did (by34 zeros p l o f r b) d (b .fcb) (b .dma) (b .list) (b .image)
-    unfolding by34 rows34
-    write-full n = did-go-on _ _ b _ c may d _ _ _ _ z (nonzero-may p l o f _ r (b .image)) (did-refuse _ b _ d room n)
-
-    -- the spot lies in the image
-    pub write-within : d ≡ 0 → soundImage highest (b .image) ≡ true → Within w (b .image)
-    write-within n h = room-within highest (b .image) h f r w e d he hw hd n
+    pub write-full : (d ≡ 0 → ⊥) → OneDid zeros o stopped locked f e₀ e r v s d e s
+    write-full n = stays d room n
 
     -- written
-    pub write-done : (image : List ℕ) → d ≡ 0 → image ≡ written zeros w (x .entry) f r (b .dma) (b .image) → Did (by34 zeros p l o f r b) 0 (b .fcb) (b .dma) (b .list) image
-    unfolding by34 rows34 does34
-    write-done image n g =
-        did-go-on _ _ b _ c may 0 _ _ _ _ z (nonzero-may p l o f _ r (b .image))
-        (did-pass _ b _ d room 0 _ _ _ _ n
-        (record {
-          gives = refl;
-          leaves-fcb = refl;
-          leaves-dma = refl;
-          leaves-list = refl;
-          leaves-image = g ∙ ap (λ (v : Spot). written zeros v (x .entry) f r (b .dma) (b .image)) spot ∙ ap (λ (y : Found). written zeros (spotAt (b .image) (entryOf (b .image) f (r / 128)) r) (y .entry) f r (b .dma) (b .image)) hx;
-        }))
+    pub write-put : (t : List ℕ) → soundImage highest s ≡ true → e ≡ entryOf s f (r / 128) → d ≡ 0 → t ≡ written zeros w e₀ f r v s → OneDid zeros o stopped locked f e₀ e r v s 0 (w .entry) t
+    write-put t h he y g = record {
+      gives = sym y ∙ room;
+      within = let k = room-within highest s h f r w e d he hw hd y .entry-within in omega arith;
+      wrote = λ u. g ∙ ap (λ (m : Spot). written zeros m e₀ f r v s) hw;
+      at = λ u. ap (λ (m : Spot). m .entry) hw;
+      kept = λ n. absurd (n refl);
+      stays = λ n. absurd (n refl);
+    }
+
+-- ---- 34 and 40, from the write of their record
+
+module _ (zeros : Bool) (p : ℕ) (l : LockList) (o : ℕ) (f : File) (r : ℕ) (b : Buffers) where
+  abbrev rows : List Row
+  rows = rows34 p l o f (entryOf (b .image) f 0) (entryOf (b .image) f (r / 128)) r (b .image)
+
+  ended : (code entry : ℕ) (t : List ℕ) (stopped locked : Bool) → stopped ≡ (readOnly (b .image) (entryOf (b .image) f 0) or eqb (itemAt l o .mode) 2) → locked ≡ lockedByOther l p f r
+      → OneDid zeros o stopped locked f (entryOf (b .image) f 0) (entryOf (b .image) f (r / 128)) r (b .dma) (b .image) code entry t → Did (by34 zeros p l o f r b) code (b .fcb) (b .dma) (b .list) t
+  unfolding by34 rows34 does34
+  ended code entry t stopped locked hs hl d =
+      let told : code ≡ firstOf rows = d .gives ∙ ap (λ (m : List Row). firstOf (m ++ rowsRoom (b .image) (entryOf (b .image) f (r / 128)) r)) (may-by p l o f (entryOf (b .image) f 0) r (b .image) stopped locked hs hl) in
+      ⊎-elim
+      (λ (z : code ≡ 0).
+      did-pass rows b _ code told code _ _ _ _ z (record { gives = z; leaves-fcb = refl; leaves-dma = refl; leaves-list = refl; leaves-image = d .wrote z }))
+      (λ (z : code ≡ 0 → ⊥). rw (d .kept z) (did-refuse rows b _ code told z))
+      (equal? code 0)
+
+  pub write-ended : (e₀ e : ℕ) (stopped locked : Bool) (mode code entry : ℕ) (t : List ℕ) → e₀ ≡ entryOf (b .image) f 0 → e ≡ entryOf (b .image) f (r / 128)
+      → mode ≡ itemAt l o .mode → stopped ≡ (readOnly (b .image) e₀ or eqb mode 2) → locked ≡ lockedByOther l p f r
+      → OneDid zeros o stopped locked f e₀ e r (b .dma) (b .image) code entry t → Did (by34 zeros p l o f r b) code (b .fcb) (b .dma) (b .list) t
+  write-ended e₀ e stopped locked mode code entry t h₀ he hm hs hl d =
+      ended code entry t stopped locked (hs ∙ ap (λ (m : ℕ). readOnly (b .image) e₀ or eqb m 2) hm ∙ ap (λ (m : ℕ). readOnly (b .image) m or eqb (itemAt l o .mode) 2) h₀) hl
+      (subst (λ (m : ℕ). OneDid zeros o stopped locked f (entryOf (b .image) f 0) m r (b .dma) (b .image) code entry t) he
+      (subst (λ (m : ℕ). OneDid zeros o stopped locked f m e r (b .dma) (b .image) code entry t) h₀ d))
 
 -- the calls on the buffers
 module _ (p c : ℕ) (b : Buffers) (l : LockList) (f : File) (o r a : ℕ) (fcb dma list image : List ℕ) (hl : l ≡ unpack (b .list)) (hf : f ≡ callerFile p l (b .fcb)) (ho : o ≡ openOf l p f) (hr : r ≡ recordOf (b .fcb)) where
   pub write-called : Did (by34 false p l o f r b) a fcb dma list image → Did (served (Call Write) p c b) a fcb dma list image
-  unfolding by34 rowsOf effectOf askedBy
+  unfolding by34 rowsOf effectOf askedBy lookUp
   write-called d = did-as _ _ a fcb dma list image (served-as (Call Write) p c b l f r hl hf hr) (rw ho at d)
 
   pub zeros-called : Did (by34 true p l o f r b) a fcb dma list image → Did (served (Call WriteZeros) p c b) a fcb dma list image
-  unfolding by34 rowsOf effectOf askedBy
+  unfolding by34 rowsOf effectOf askedBy lookUp
   zeros-called d = did-as _ _ a fcb dma list image (served-as (Call WriteZeros) p c b l f r hl hf hr) (rw ho at d)

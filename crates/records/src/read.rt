@@ -7,16 +7,18 @@ use rules::bytes::put_bytes;
 use rules::file::File;
 use rules::list::LockList;
 ghost use mathlib.Core.Path.{_≡_};
-ghost use Prim.Native.Nat.{_<_, _≤_};
+ghost use Prim.Native.Nat.{_+_, _*_, _<_, _≤_};
 ghost use lib.ListN.{length};
+ghost use Rattle.words.specs.Bytes.{put};
 ghost use Rattle.words.specs.Tables.{firstOf};
 ghost use Rattle.rules.specs.Serves.{Did, buffers};
 ghost use Rattle.rules.specs.Codes.{rows33};
+ghost use Rattle.rules.specs.Effects.{contents};
 ghost use Rattle.rules.specs.Locks.{unpack};
 ghost use Rattle.rules.specs.Call.{Ready, served};
 ghost use Rattle.rules.specs.declared.routine.Chosen.the-variants.{Call};
 ghost use Rattle.rules.specs.declared.routine.Routine.the-variants.{Read};
-ghost use Rattle.records.specs.By.{by33};
+ghost use Rattle.records.specs.By.{Inside, readAt, by33};
 
 // The code of the first refusal of 33, or 0. The caller's open is at place `o`, the record's extent at entry `e` (64: none).
 fn read_refusal(o: usize, e: usize, r: usize, image: &[u8]) -> u32
@@ -32,7 +34,31 @@ fn read_refusal(o: usize, e: usize, r: usize, image: &[u8]) -> u32
     not_there(image, e, r)
 }
 
-// 33 on what was found: decide first, then copy.
+// Record `r` in its block to the 128 bytes of the DMA from `at` on.
+fn copy_record(dma: &mut [u8], at: usize, image: &[u8], block: usize, r: usize)
+    requires { ⌜ (at + 128 ≤ length (now dma)) × (block < 256) × (1024 * block + 1024 ≤ length (now image)) ⌝ }
+    ensures { λ _. ⌜ now (dma .exit) ≡ put at (contents (now (image .entry)) block r) (now (dma .entry)) ⌝ }
+{
+    let start = 1024 * block + 128 * (r % 8);
+    let end = start + 128;
+    put_bytes(dma, at, &image[start..end]);
+}
+
+// One record: decide first, then copy it to the DMA from `at` on.
+pub fn read_one(o: usize, e: usize, r: usize, dma: &mut [u8], at: usize, image: &[u8]) -> u32
+    requires { ⌜ (at + 128 ≤ length (now dma)) × (3072 ≤ length (now image)) × Inside (now image) e r ⌝ }
+    ensures { λ c. ⌜ (c ≡ firstOf (rows33 o e r (now (image .entry)))) × (now (dma .exit) ≡ readAt o e r at (now (image .entry)) (now (dma .entry))) ⌝ }
+{
+    let code = read_refusal(o, e, r, image);
+    if code != 0 {
+        return code;
+    }
+    let block = block_in(image, e, r);
+    copy_record(dma, at, image, block, r);
+    0
+}
+
+// 33 on what was found.
 fn read_by(
     o: usize,
     f: File,
@@ -46,14 +72,7 @@ fn read_by(
     ensures { λ c. ⌜ Did (by33 o f r (buffers (now (fcb .entry)) (now (dma .entry)) (now (list .entry)) (now (image .entry)))) c (now (fcb .entry)) (now (dma .exit)) (now (list .entry)) (now (image .entry)) ⌝ }
 {
     let e = entry_of(image, f, r / 128);
-    let code = read_refusal(o, e, r, image);
-    if code != 0 {
-        return code;
-    }
-    let at = 1024 * block_in(image, e, r) + 128 * (r % 8);
-    let end = at + 128;
-    put_bytes(dma, 0, &image[at..end]);
-    0
+    read_one(o, e, r, dma, 0, image)
 }
 
 // 33 on the buffers.

@@ -1,7 +1,6 @@
 use crate::may::may_write;
 use crate::there::not_there;
 use drive::find::entry_of;
-use drive::find::look_up;
 use locklist::ask::caller_file;
 use locklist::ask::record_of;
 use rules::file::File;
@@ -12,7 +11,6 @@ ghost use mathlib.Core.Path.{_≡_};
 ghost use Prim.Native.Nat.{_+_, _≤_};
 ghost use lib.ListN.{length};
 ghost use Rattle.words.specs.Tests.{any};
-ghost use Rattle.words.specs.Tables.{firstOf};
 ghost use Rattle.rules.specs.Serves.{Did, buffers};
 ghost use Rattle.rules.specs.Codes.{differs};
 ghost use Rattle.rules.specs.Locks.{unpack};
@@ -51,8 +49,8 @@ fn test_by(
     requires { ⌜ Ready (buffers (now fcb) (now dma) (now list) (now image)) ⌝ }
     ensures { λ c. ⌜ Did (by41 p l o f r (buffers (now (fcb .entry)) (now (dma .entry)) (now (list .entry)) (now (image .entry)))) c (now (fcb .entry)) (now (dma .entry)) (now (list .entry)) (now (image .exit)) ⌝ }
 {
-    let x = look_up(&*image, f);
-    let refused = may_write(p, l, o, f, x, r, &*image);
+    let first = entry_of(&*image, f, 0);
+    let refused = may_write(p, l, o, f, first, r, &*image);
     if refused != 0 {
         return refused;
     }
@@ -67,7 +65,7 @@ fn test_by(
     if any_differs(dma, &*image, 1024 * block + 128 * (number % 8)) {
         return 7;
     }
-    write_record(image, false, w, x.entry, f, number, &dma[128..256]);
+    write_record(image, false, w, first, f, number, &dma[128..256]);
     0
 }
 

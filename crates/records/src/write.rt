@@ -1,6 +1,6 @@
-use crate::may::may_write;
+use crate::may::may_write_by;
+use crate::may::write_stopped;
 use drive::find::entry_of;
-use drive::find::look_up;
 use locklist::ask::caller_file;
 use locklist::ask::record_of;
 use rules::file::File;
@@ -16,14 +16,14 @@ ghost use lib.Dec.{leb};
 ghost use Rattle.words.specs.Tests.{_and_};
 ghost use Rattle.words.specs.Tables.{firstOf};
 ghost use Rattle.rules.specs.Serves.{Did, buffers};
-ghost use Rattle.rules.specs.Drive.{blocks};
+ghost use Rattle.rules.specs.Drive.{highest, entryOf, soundImage};
 ghost use Rattle.rules.specs.Effects.{spotAt};
 ghost use Rattle.rules.specs.Codes.{rowsRoom};
 ghost use Rattle.rules.specs.Locks.{unpack};
 ghost use Rattle.rules.specs.Call.{Ready, served};
 ghost use Rattle.rules.specs.declared.routine.Chosen.the-variants.{Call};
 ghost use Rattle.rules.specs.declared.routine.Routine.the-variants.{Write, WriteZeros};
-ghost use Rattle.records.specs.By.{by34};
+ghost use Rattle.records.specs.By.{OneDid, by34};
 
 // A new entry is wanted and there is no empty one.
 fn lacks_entry(w: Spot) -> bool
@@ -59,7 +59,52 @@ fn no_room(w: Spot, image: &[u8], e: usize, r: usize) -> u32
     0
 }
 
-// 34 and 40 on what was found: decide first, then write.
+// What the write of one record answered: the code of its refusal or 0, and the entry where its extent stands.
+pub struct Wrote {
+    pub code: u32,
+    pub entry: usize,
+}
+
+// One record: decide first, then write. The file's extent 0 is at entry `first`, the record's extent at entry `e` (64: missing).
+pub fn write_one(
+    zeros: bool,
+    o: usize,
+    stopped: bool,
+    locked: bool,
+    f: File,
+    first: usize,
+    e: usize,
+    r: u32,
+    v: &[u8],
+    image: &mut [u8],
+) -> Wrote
+    requires { ⌜ (128 ≤ length (now v)) × (3072 ≤ length (now image)) × (length (now image) ≤ 262144) × (first ≤ 64) × (e ≤ 64) × (soundImage highest (now image) ≡ true) × (e ≡ entryOf (now image) f (r / 128)) ⌝ }
+    ensures { λ d. ⌜ OneDid zeros o stopped locked f first e r (now (v .entry)) (now (image .entry)) (d .code) (d .entry) (now (image .exit)) ⌝ }
+{
+    let refused = may_write_by(o, stopped, r, locked);
+    if refused != 0 {
+        return Wrote {
+            code: refused,
+            entry: e,
+        };
+    }
+    let at = r as usize;
+    let w = spot_at(&*image, e, at);
+    let full = no_room(w, &*image, e, at);
+    if full != 0 {
+        return Wrote {
+            code: full,
+            entry: e,
+        };
+    }
+    write_record(image, zeros, w, first, f, at, v);
+    Wrote {
+        code: 0,
+        entry: w.entry,
+    }
+}
+
+// 34 and 40 on what was found.
 fn write_by(
     zeros: bool,
     p: u8,
@@ -75,20 +120,12 @@ fn write_by(
     requires { ⌜ Ready (buffers (now fcb) (now dma) (now list) (now image)) ⌝ }
     ensures { λ c. ⌜ Did (by34 zeros p l o f r (buffers (now (fcb .entry)) (now (dma .entry)) (now (list .entry)) (now (image .entry)))) c (now (fcb .entry)) (now (dma .entry)) (now (list .entry)) (now (image .exit)) ⌝ }
 {
-    let x = look_up(&*image, f);
-    let refused = may_write(p, l, o, f, x, r, &*image);
-    if refused != 0 {
-        return refused;
-    }
-    let at = r as usize;
-    let e = entry_of(&*image, f, at / 128);
-    let w = spot_at(&*image, e, at);
-    let full = no_room(w, &*image, e, at);
-    if full != 0 {
-        return full;
-    }
-    write_record(image, zeros, w, x.entry, f, at, dma);
-    0
+    let first = entry_of(&*image, f, 0);
+    let e = entry_of(&*image, f, r as usize / 128);
+    let stopped = write_stopped(l.mode_at(o), first, &*image);
+    let locked = l.locked_by_other(p, f, r);
+    let did = write_one(zeros, o, stopped, locked, f, first, e, r, dma, image);
+    did.code
 }
 
 // 34 on the buffers.

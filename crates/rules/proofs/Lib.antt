@@ -10,3 +10,7 @@ pub mod Runs
 pub mod Items
 pub mod SoundList
 pub mod Frames
+pub mod Passed
+pub mod Singles
+pub mod Several
+pub mod OneRecord

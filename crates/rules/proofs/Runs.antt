@@ -8,11 +8,11 @@ use native.Mathlib.Omega.{arith}
 use lib.ListN.{length, getD, set, replicate, length-set, getD-replicate}
 use lib.Seq.{getD-set-same, getD-set-other}
 use borrow.Author.Needs.{needs}
-use borrow.Author.Tests.{ne-eqb}
-use Rattle.words.specs.Tests.{any, count}
+use borrow.Author.Tests.{ne-eqb, not-true, not-false}
+use Rattle.words.specs.Tests.{any, lowest, count}
 use Rattle.words.proofs.Tests.{equal?, any-none, any-skip, any-here, any-found, any-never}
 use Rattle.words.proofs.Counts.{count-ext}
-use Rattle.words.proofs.Sets.{and-left, and-last, any-goes, any-stops}
+use Rattle.words.proofs.Sets.{and-left, and-last, any-goes, lowest-stops, lowest-ends}
 use Rattle.rules.specs.declared.file.File.{File}
 use Rattle.rules.specs.declared.list.LockList.{LockList}
 use Rattle.rules.specs.Locks.{itemAt, locksRecord, locksRecordAt, isOthersLock, lockedByOther, isOwnLock, held}
@@ -49,42 +49,53 @@ module _ (l : LockList) (test : ℕ → ℕ → Bool) (only : (x i : ℕ) → (i
 
 -- ---- others' locks
 
--- none of the first i places has another's lock of one of the run's records
-pub record Clear (l : LockList) (p : ℕ) (f : File) (r n i : ℕ) : Type 0 where
-  pub none : (k : ℕ) → k < n → any (isOthersLock l p f (r + k)) i ≡ false
+-- among the first i places, none has another's lock of a record of the run before the one at that distance; that one is locked by another
+pub record First (l : LockList) (p : ℕ) (f : File) (r n first i : ℕ) : Type 0 where
+  pub within : first ≤ n
+  pub none : (k : ℕ) → k < first → any (isOthersLock l p f (r + k)) i ≡ false
+  pub hit : first < n → isOthers l p f r first ≡ true
 
 module _ (l : LockList) (p : ℕ) (f : File) (r n : ℕ) where
-  pub clear-none : Clear l p f r n 0
-  clear-none = record { none = λ k m. any-none (isOthersLock l p f (r + k)) }
+  pub first-none : First l p f r n n 0
+  first-none = record { within = omega arith; none = λ k m. any-none (isOthersLock l p f (r + k)); hit = λ (m : n < n). absurd (omega arith) }
 
-  module _ (i : ℕ) (c : Clear l p f r n i) where
-    next : ((k : ℕ) → k < n → isOthersLock l p f (r + k) i ≡ false) → Clear l p f r n (i + 1)
-    next h = record { none = λ k m. any-goes (isOthersLock l p f (r + k)) i (c .none k m) (h k m) }
+  module _ (first i : ℕ) (c : First l p f r n first i) where
+    next : ((k : ℕ) → k < first → isOthersLock l p f (r + k) i ≡ false) → First l p f r n first (i + 1)
+    next h = record { within = c .within; none = λ k m. any-goes (isOthersLock l p f (r + k)) i (c .none k m) (h k m); hit = c .hit }
 
-    pub clear-low : itemAt l i .number < r → Clear l p f r n (i + 1)
-    clear-low h = next (below l (isOthersLock l p f) (others-not l p f) r n i h)
+    pub first-low : itemAt l i .number < r → First l p f r n first (i + 1)
+    first-low h = next (below l (isOthersLock l p f) (others-not l p f) r first i h)
 
-    pub clear-high : r ≤ itemAt l i .number → n ≤ itemAt l i .number - r → Clear l p f r n (i + 1)
-    clear-high g h = next (past l (isOthersLock l p f) (others-not l p f) r n i g h)
+    pub first-high : r ≤ itemAt l i .number → first ≤ itemAt l i .number - r → First l p f r n first (i + 1)
+    first-high g h = next (past l (isOthersLock l p f) (others-not l p f) r first i g h)
 
-    pub clear-not : (t : Bool) → t ≡ isOthersLock l p f (itemAt l i .number) i → t ≡ false → Clear l p f r n (i + 1)
-    clear-not t e y = next (fails l (isOthersLock l p f) (others-not l p f) r n i t e y)
+    module _ (t : Bool) (e : t ≡ isOthersLock l p f (itemAt l i .number) i) where
+      pub first-not : not t ≡ true → First l p f r n first (i + 1)
+      first-not y = next (fails l (isOthersLock l p f) (others-not l p f) r first i t e (not-true t y))
 
-    pub clear-ends : 64 ≤ i → i ≤ 64 → false ≡ any (isOthers l p f r) n
+      pub first-here : not t ≡ false → i < 64 → r ≤ itemAt l i .number → itemAt l i .number - r < first → First l p f r n (itemAt l i .number - r) (i + 1)
+      unfolding isOthers lockedByOther
+      first-here y m g h =
+          let k = itemAt l i .number - r in
+          let q : itemAt l i .number ≡ r + k = omega arith in
+          let w = c .within in
+          record {
+            within = omega arith;
+            none = λ j d. any-goes (isOthersLock l p f (r + j)) i (c .none j (omega arith)) (others-not l p f (r + j) i (λ z. absurd (omega arith)));
+            hit = λ d. any-found (isOthersLock l p f (r + k)) 64 i m (ap (λ (x : ℕ). isOthersLock l p f x i) (sym q) ∙ sym e ∙ not-false t y);
+          }
+
+    pub first-ends : 64 ≤ i → i ≤ 64 → first ≡ lowest (isOthers l p f r) n
     unfolding isOthers lockedByOther
-    clear-ends g h =
+    first-ends g h =
         let q : i ≡ 64 = omega arith in
-        sym (any-never (isOthers l p f r) n (λ k m. ap (λ (j : ℕ). any (isOthersLock l p f (r + k)) j) (sym q) ∙ c .none k m))
+        let none : any (isOthers l p f r) first ≡ false = any-never (isOthers l p f r) first (λ k m. ap (λ (j : ℕ). any (isOthersLock l p f (r + k)) j) (sym q) ∙ c .none k m) in
+        ⊎-elim
+        (λ (m : first ≡ n). lowest-ends (isOthers l p f r) n first none (omega arith) (omega arith))
+        (λ (m : first ≡ n → ⊥). let w = c .within in lowest-stops (isOthers l p f r) n first (omega arith) none (c .hit (omega arith)))
+        (equal? first n)
 
-  pub others-found : (i : ℕ) (t : Bool) → i < 64 → r ≤ itemAt l i .number → itemAt l i .number - r < n → t ≡ isOthersLock l p f (itemAt l i .number) i → t ≡ true → true ≡ any (isOthers l p f r) n
-  unfolding isOthers lockedByOther
-  others-found i t m g h e y =
-      let k = itemAt l i .number - r in
-      let q : itemAt l i .number ≡ r + k = omega arith in
-      any-stops (isOthers l p f r) n k h
-      (any-found (isOthersLock l p f (r + k)) 64 i m (ap (λ (x : ℕ). isOthersLock l p f x i) (sym q) ∙ sym e ∙ y))
-
-pub ruleset others = (needs, clear-none, clear-low, clear-high, clear-not, clear-ends, others-found)
+pub ruleset others = (needs, first-none, first-low, first-high, first-not, first-here, first-ends)
 
 -- ---- one's own
 

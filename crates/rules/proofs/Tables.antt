@@ -1,15 +1,16 @@
 -- What the tables promise of every call. Assumes nothing.
-use Prim.Native.Nat.{ℕ}
+use Prim.Native.Nat.{ℕ, _<_}
 use mathlib.Core.Path.{_≡_, refl, sym, ap, _∙_}
 use mathlib.Core.Bool.{Bool, true, false}
 use mathlib.Core.List.{List, _∷_, _++_}
 use mathlib.Core.Logic.{⊎-elim}
+use native.Mathlib.Omega.{arith}
 use lib.Dec.{eqb}
 use borrow.Author.Tests.{ne-eqb, eqb-false}
 use Rattle.words.specs.Tests.{_if_else_}
 use Rattle.words.specs.Tables.{Row, _∕_, _when_, firstOf, anyRow, noneZero}
 use Rattle.words.proofs.Tests.{either}
-use Rattle.words.proofs.Tables.{none-applies, first-applies, some-applies, first-then, first-stays, nonzeros, nonzero-append}
+use Rattle.words.proofs.Tables.{none-applies, first-applies, some-applies, first-then, first-stays, nonzeros, nonzero-append, codesBelow, first-below, below-append, belows}
 use Rattle.rules.specs.declared.routine.Routine.the-variants.{Open, Close, Delete, Make, Rename, Read, Write, WriteZeros, TestWrite, Lock, Unlock, FreeSpace, Terminate}
 use Rattle.rules.specs.declared.routine.Chosen.{Chosen}
 use Rattle.rules.specs.declared.routine.Chosen.the-variants.{Call, Unknown}
@@ -45,6 +46,39 @@ nonzero-of Unknown a b = search nonzeros depth 20 fits 20000
 pub nonzero-call : (n p c : ℕ) (b : Buffers) → noneZero (rowsCall n p c b) ≡ true
 unfolding rowsCall
 nonzero-call n p c b = nonzero-append (rowsAll n p c b) _ (nonzero-all n p c b) (nonzero-of (chosen n) (asked p c b) b)
+
+-- ---- .. and the high four bits of H are zero in each
+
+below-all : (n p c : ℕ) (b : Buffers) → codesBelow 4096 (rowsAll n p c b) ≡ true
+unfolding rowsInside rowsAll
+below-all n p c b = search belows depth 20 fits 20000
+
+below-of : (k : Chosen) (a : Asked) (b : Buffers) → codesBelow 4096 (rowsOf k a b) ≡ true
+unfolding rowsOf rowsNew rows15 rows16 rows19 rows22 rows23 rows33 rows34 rows41 rows42 rows43 rowsThere rowsMay rowsRoom rowsDiffer rowsRun rowsLacking rowsTake
+below-of (Call Open) a b = search belows depth 20 fits 20000
+below-of (Call Close) a b = search belows depth 20 fits 20000
+below-of (Call Delete) a b = search belows depth 20 fits 20000
+below-of (Call Make) a b = search belows depth 20 fits 20000
+below-of (Call Rename) a b = search belows depth 20 fits 20000
+below-of (Call Read) a b = search belows depth 20 fits 20000
+below-of (Call Write) a b = search belows depth 20 fits 20000
+below-of (Call WriteZeros) a b = search belows depth 20 fits 20000
+below-of (Call TestWrite) a b = search belows depth 20 fits 20000
+below-of (Call Lock) a b = search belows depth 20 fits 20000
+below-of (Call Unlock) a b = search belows depth 20 fits 20000
+below-of (Call FreeSpace) a b = search belows depth 20 fits 20000
+below-of (Call Terminate) a b = search belows depth 20 fits 20000
+below-of Unknown a b = search belows depth 20 fits 20000
+
+pub all-below : (n p c : ℕ) (b : Buffers) → firstOf (rowsAll n p c b) < 4096
+all-below n p c b = first-below 4096 _ (omega arith) (below-all n p c b)
+
+pub of-below : (k : Chosen) (a : Asked) (b : Buffers) → firstOf (rowsOf k a b) < 4096
+of-below k a b = first-below 4096 _ (omega arith) (below-of k a b)
+
+pub call-below : (n p c : ℕ) (b : Buffers) → firstOf (rowsCall n p c b) < 4096
+unfolding rowsCall
+call-below n p c b = first-below 4096 _ (omega arith) (below-append 4096 (rowsAll n p c b) _ (below-all n p c b) (below-of (chosen n) (asked p c b) b))
 
 -- ---- a table and an effect
 
@@ -113,6 +147,13 @@ module _ (n p c : ℕ) (b : Buffers) where
 
   pub accepted-zero : anyRow (rowsCall n p c b) ≡ false → call n p c b .answer ≡ 0 ∕ 0
   accepted-zero h = ap (λ (o : Outcome). o .answer) (accepted n p c b h) ∙ effect-zero (chosen n) (asked p c b) b
+
+  -- the answer is the table's
+  pub answer-is : call n p c b .answer ≡ firstOf (rowsCall n p c b)
+  answer-is =
+      ⊎-elim
+      (λ (h : anyRow (rowsCall n p c b) ≡ true). ap (λ (o : Outcome). o .answer) (refused n p c b h))
+      (λ (h : anyRow (rowsCall n p c b) ≡ false). accepted-zero h ∙ sym (none-applies (rowsCall n p c b) h)) (either (anyRow (rowsCall n p c b)))
 
   -- the general table first, then the call's own
   pub call-refused : (firstOf (rowsAll n p c b) ≡ 0 → ⊥) → call n p c b ≡ outcome (firstOf (rowsAll n p c b)) b

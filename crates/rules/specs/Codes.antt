@@ -95,7 +95,7 @@ rows19 l f x fcb s =
     255 ∕ 9 when not (legalName fcb 1)
     ∷ 255 ∕ 0 when missing x
     ∷ 255 ∕ 5 when stopsDelete l f
-    ∷ 255 ∕ 3 when readOnly s x
+    ∷ 255 ∕ 3 when readOnly s (x .entry)
     ∷ []
 
 -- ---- 23
@@ -110,7 +110,7 @@ rows23 l f x y fcb s =
     255 ∕ 9 when (not (legalName fcb 1) or not (legalName fcb 17))
     ∷ 255 ∕ 0 when missing x
     ∷ 255 ∕ 5 when stopsRename l f
-    ∷ 255 ∕ 3 when readOnly s x
+    ∷ 255 ∕ 3 when readOnly s (x .entry)
     ∷ 255 ∕ 8 when not (missing y)
     ∷ []
 
@@ -126,10 +126,11 @@ rows33 o e r s = 10 ∕ 0 when not (isOpened o) ∷ 6 ∕ 0 when ltb highest r �
 
 -- ---- 34, 40
 
-unfoldable pub rowsMay : ℕ → LockList → ℕ → File → Found → ℕ → List ℕ → List Row
-rowsMay p l o f x r s =
+-- e₀ is the entry of extent 0
+unfoldable pub rowsMay : ℕ → LockList → ℕ → File → ℕ → ℕ → List ℕ → List Row
+rowsMay p l o f e₀ r s =
     10 ∕ 0 when not (isOpened o)
-    ∷ 255 ∕ 3 when (readOnly s x or eqb (itemAt l o .mode) readonly)
+    ∷ 255 ∕ 3 when (readOnly s e₀ or eqb (itemAt l o .mode) readonly)
     ∷ 6 ∕ 0 when ltb highest r
     ∷ 8 ∕ 0 when lockedByOther l p f r
     ∷ []
@@ -141,8 +142,8 @@ rowsRoom s e r =
     ∷ 2 ∕ 0 when (eqb (blockIn s e r) 0 and leb (blocks s) (freeBlock s))
     ∷ []
 
-unfoldable pub rows34 : ℕ → LockList → ℕ → File → Found → ℕ → ℕ → List ℕ → List Row
-rows34 p l o f x e r s = rowsMay p l o f x r s ++ rowsRoom s e r
+unfoldable pub rows34 : ℕ → LockList → ℕ → File → ℕ → ℕ → ℕ → List ℕ → List Row
+rows34 p l o f e₀ e r s = rowsMay p l o f e₀ r s ++ rowsRoom s e r
 
 -- ---- 41
 
@@ -154,8 +155,8 @@ differs dma s at k = not (eqb (byte dma k) (byte s (at + k)))
 unfoldable pub rowsDiffer : List ℕ → List ℕ → ℕ → ℕ → List Row
 rowsDiffer dma s block r = 7 ∕ 0 when any (differs dma s (recordAt block r)) recordSize ∷ []
 
-unfoldable pub rows41 : ℕ → LockList → ℕ → File → Found → ℕ → ℕ → List ℕ → List ℕ → List Row
-rows41 p l o f x e r dma s = rowsMay p l o f x r s ++ (rowsThere s e r ++ rowsDiffer dma s (blockIn s e r) r)
+unfoldable pub rows41 : ℕ → LockList → ℕ → File → ℕ → ℕ → ℕ → List ℕ → List ℕ → List Row
+rows41 p l o f e₀ e r dma s = rowsMay p l o f e₀ r s ++ (rowsThere s e r ++ rowsDiffer dma s (blockIn s e r) r)
 
 -- ---- 42, 43
 

@@ -129,9 +129,9 @@ lookUp s f = record { entry = entryOf s f 0 }
 unfoldable pub missing : Found → Bool
 missing x = leb entries (x .entry)
 
--- The file's attributes are those of extent 0; the high bit of byte 9 is read-only.
-unfoldable pub readOnly : List ℕ → Found → Bool
-readOnly s x = leb 128 (entryByte s (x .entry) 9)
+-- The file's attributes are those of extent 0, which stands at entry e; the high bit of byte 9 is read-only.
+unfoldable pub readOnly : List ℕ → ℕ → Bool
+readOnly s e = leb 128 (entryByte s e 9)
 
 -- the lowest empty entry, 64 where there is none
 unfoldable pub freeEntry : List ℕ → ℕ

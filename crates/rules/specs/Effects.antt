@@ -144,14 +144,14 @@ unfoldable pub does33 : ℕ → ℕ → Buffers → Outcome
 does33 e r b = accept (withDma b (put 0 (contents (b .image) (blockIn (b .image) e r) r) (b .dma)))
 
 -- 34 and 40 take it from there; ..
-unfoldable pub does34 : Bool → File → Found → ℕ → ℕ → Buffers → Outcome
-does34 zeros f x e r b =
-    accept (withImage b (written zeros (spotAt (b .image) e r) (x .entry) f r (b .dma) (b .image)))
+unfoldable pub does34 : Bool → File → ℕ → ℕ → ℕ → Buffers → Outcome
+does34 zeros f e₀ e r b =
+    accept (withImage b (written zeros (spotAt (b .image) e r) e₀ f r (b .dma) (b .image)))
 
 -- .. 41 from bytes 128 to 255.
-unfoldable pub does41 : File → Found → ℕ → ℕ → Buffers → Outcome
-does41 f x e r b =
-    accept (withImage b (written false (spotAt (b .image) e r) (x .entry) f r (part recordSize recordSize (b .dma)) (b .image)))
+unfoldable pub does41 : File → ℕ → ℕ → ℕ → Buffers → Outcome
+does41 f e₀ e r b =
+    accept (withImage b (written false (spotAt (b .image) e r) e₀ f r (part recordSize recordSize (b .dma)) (b .image)))
 
 -- ---- Items gone: Close, 43, 143
 

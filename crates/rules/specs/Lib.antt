@@ -6,3 +6,4 @@ pub mod Codes
 pub mod Effects
 pub mod Look
 pub mod Call
+pub mod Several

@@ -53,12 +53,12 @@ unfoldable pub isUnknown : Chosen → Bool
 isUnknown (Call k) = false
 isUnknown Unknown = true
 
--- A call has four separate lent buffers: FCB (36 bytes), DMA (256), list (1,299), image.
+-- A call has four separate lent buffers: FCB (36 bytes), DMA (2,048 since T-07), list (1,299), image.
 abbrev pub fcbSize : ℕ
 fcbSize = 36
 
 abbrev pub dmaSize : ℕ
-dmaSize = 256
+dmaSize = 2048
 
 abbrev pub listSize : ℕ
 listSize = 1299

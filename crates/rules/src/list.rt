@@ -4,7 +4,7 @@ use crate::tests::one_if;
 use crate::tests::user_in;
 ghost use mathlib.Core.Path.{_≡_};
 ghost use Prim.Native.Nat.{_+_, _<_, _≤_};
-ghost use Rattle.words.specs.Tests.{any, count};
+ghost use Rattle.words.specs.Tests.{any, lowest, count};
 ghost use Rattle.rules.specs.Locks.{itemAt, userOf, openOf, anyOpen, lockedByOther, opensBy, locksBy, freePlace, freePlaces, isKindByAt};
 ghost use Rattle.rules.specs.Codes.{standsAgainstAt, isOthers, isNew};
 ghost use Rattle.rules.specs.Effects.{placed, opened, closed, unlockedRun, terminated, lockedRun};
@@ -221,11 +221,12 @@ impl LockList {
         n
     }
 
-    // Another process has locked one of the n records from r on.
-    pub fn any_others(self, p: u8, f: File, r: u32, n: u32) -> bool
-        ensures { λ t. ⌜ t ≡ any (isOthers self p f r) n ⌝ }
+    // How far into the n records from r on the first is that another process has locked; n where there is none.
+    pub fn first_others(self, p: u8, f: File, r: u32, n: u32) -> u32
+        ensures { λ t. ⌜ t ≡ lowest (isOthers self p f r) n ⌝ }
     {
         let users = self.users;
+        let mut first = n;
         let mut i = 0;
         while i < 64 {
             let it = self.items[i];
@@ -234,14 +235,15 @@ impl LockList {
             if number < r {
                 continue;
             }
-            if n <= number - r {
+            if first <= number - r {
                 continue;
             }
-            if it.is_others_lock(p, f, number, users) {
-                return true;
+            if !it.is_others_lock(p, f, number, users) {
+                continue;
             }
+            first = number - r;
         }
-        false
+        first
     }
 
     // How many of the n records from r on the process does not hold: those it holds are marked first.

@@ -13,7 +13,7 @@ const USERS_SIZE: usize = 16;
 
 const FCB_SIZE: usize = 36;
 
-const DMA_SIZE: usize = 256;
+const DMA_SIZE: usize = 2048;
 
 pub const START_SIZE: usize = MARKS_SIZE + NUMBERS_SIZE + USERS_SIZE;
 

@@ -1,8 +1,13 @@
 -- The session is as listed. Each call is computed from the state listed before it. Assumes nothing.
-use mathlib.Core.Path.{_≡_, refl}
+use Prim.Native.Nat.{ℕ}
+use mathlib.Core.Path.{_≡_, refl, _∙_}
+use Rattle.words.specs.Tests.{_or_}
 use Rattle.words.specs.Tables.{_∕_}
-use Rattle.rules.specs.Serves.{outcome, buffers}
+use Rattle.rules.specs.Serves.{Buffers, Outcome, outcome, buffers}
 use Rattle.rules.specs.Call.{call}
+use Rattle.rules.specs.Several.{servesRun, callRun}
+use Rattle.rules.proofs.Several.{run-plain}
+use Rattle.rules.proofs.OneRecord.{one-record}
 use Rattle.session.specs.Open.{rules}
 use Rattle.session.specs.Session.{AsListed, session, orders, fcbWith, dmaWith, firstImage, firstList, imageWith, unwritten, writtenWith, listWith, openBy, lockBy, none, list0, list1, list3, list11, list12, image0, image2, image5}
 
@@ -62,6 +67,38 @@ s13 : call 19 2 1 (buffers (fcbWith 0) (dmaWith 1) list12 image5) ≡ outcome (2
 unfolding rules orders fcbWith dmaWith firstImage firstList imageWith unwritten writtenWith listWith openBy lockBy none image5 list12
 s13 = refl
 
+-- of one record, and of no run of records, the call is the plain one
+one : (n p : ℕ) (b : Buffers) (o : Outcome) → call n p 1 b ≡ o → callRun n p 1 b ≡ o
+one n p b o h = one-record n p b ∙ h
+
+two : (p c : ℕ) (b : Buffers) (o : Outcome) → call 42 p c b ≡ o → callRun 42 p c b ≡ o
+unfolding servesRun _or_
+two p c b o h = run-plain 42 p c b refl ∙ h
+
 pub the-session : AsListed firstList firstImage session
 unfolding AsListed session
-the-session = (s0, (s1, (s2, (s3, (s4, (s5, (s6, (s7, (s8, (s9, (s10, (s11, (s12, (s13, tt))))))))))))))
+the-session = (
+  one _ _ _ _ s0,
+  (
+    one _ _ _ _ s1,
+    (
+      one _ _ _ _ s2,
+      (
+        one _ _ _ _ s3,
+        (
+          one _ _ _ _ s4,
+          (
+            one _ _ _ _ s5,
+            (
+              one _ _ _ _ s6,
+              (
+                one _ _ _ _ s7,
+                (one _ _ _ _ s8, (one _ _ _ _ s9, (two _ _ _ _ s10, (one _ _ _ _ s11, (one _ _ _ _ s12, (one _ _ _ _ s13, tt)))))),
+              ),
+            ),
+          ),
+        ),
+      ),
+    ),
+  ),
+)

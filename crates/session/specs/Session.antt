@@ -5,7 +5,7 @@ use mathlib.Core.List.{List, [], _∷_, _++_}
 use lib.ListN.{replicate}
 use Rattle.words.specs.Tables.{_∕_}
 use Rattle.rules.specs.Serves.{Outcome, buffers, outcome}
-use Rattle.rules.specs.Call.{call}
+use Rattle.rules.specs.Several.{callRun}
 
 -- ---- What the calls are given
 
@@ -19,7 +19,7 @@ fcbWith r = 0 ∷ 0x4F ∷ 0x52 ∷ 0x44 ∷ 0x45 ∷ 0xD2 ∷ 0x53 ∷ 0x20 ∷
 
 -- a DMA whose bytes 0 and 1 are the caller's File ID, the rest zeros
 unfoldable pub dmaWith : ℕ → List ℕ
-dmaWith id = id ∷ replicate 255 0
+dmaWith id = id ∷ replicate 2047 0
 
 -- process, function, record, count, File ID
 pub record Step : Type 0 where
@@ -142,5 +142,5 @@ session =
 unfoldable pub AsListed : List ℕ → List ℕ → List Line → Type 0
 AsListed l i [] = Unit {0}
 AsListed l i (x ∷ xs) =
-    (call (x .asks .function) (x .asks .process) (x .asks .count) (buffers (fcbWith (x .asks .number)) (dmaWith (x .asks .id)) l i) ≡ x .gives)
+    (callRun (x .asks .function) (x .asks .process) (x .asks .count) (buffers (fcbWith (x .asks .number)) (dmaWith (x .asks .id)) l i) ≡ x .gives)
     × AsListed (x .gives .left .list) (x .gives .left .image) xs

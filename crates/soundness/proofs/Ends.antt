@@ -24,7 +24,8 @@ use Rattle.soundness.proofs.Renamed.{renamed-sound, renamed-touches, re
 use Rattle.soundness.proofs.Written.{Old, New, written-step}
 use Rattle.soundness.proofs.Run.{Takes}
 use Rattle.soundness.proofs.Taken.{name-low, name-legal, caller-long, caller-user, caller-low, new-long, own-there, own-holder, own-legal}
-use Rattle.soundness.proofs.Leaves.{Passed, listOf, fileBy, newBy, MayMake, MayRename, MayWrite, MayLock, imageWritten}
+use Rattle.rules.proofs.Passed.{Passed}
+use Rattle.soundness.proofs.Leaves.{listOf, fileBy, newBy, MayMake, MayRename, MayWrite, MayLock, imageWritten}
 
 module _ (p c : ℕ) (b : Buffers) (ok : Passed p c b) where
   pub image-of : SoundImage highest (b .image)

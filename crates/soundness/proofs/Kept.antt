@@ -17,9 +17,11 @@ use Rattle.rules.specs.Locks.{freshOpen, freePlace, pack, soundList, withItems,
 use Rattle.rules.specs.Asks.{recordOf, openMode, makeMode}
 use Rattle.rules.specs.Effects.{placed, opened, made, closed, lockedRun, unlockedRun, terminated}
 use Rattle.rules.specs.Call.{call}
+use Rattle.rules.specs.Several.{single, backAt, Run, run, several}
 use Rattle.rules.proofs.Sound.{SoundImage, sound-so}
 use Rattle.rules.proofs.SoundList.{Shape, SoundLocks, capacity-fits, locks-so, list-sound-so}
 use Rattle.rules.proofs.Packing.{pack-long}
+use Rattle.rules.proofs.Several.{Steps, begun, done, stopped, idle, steps}
 use Rattle.soundness.proofs.Changes.{Grown, Touches}
 use Rattle.soundness.proofs.Erased.{erased-sound, erased-touches}
 use Rattle.soundness.proofs.Written.{Old, New}
@@ -28,7 +30,8 @@ use Rattle.soundness.proofs.Emptied.{Empties, Whole, gone-shape, gone-s
 use Rattle.soundness.proofs.Follows.{follow-grown, follow-touched}
 use Rattle.soundness.proofs.Run.{running}
 use Rattle.soundness.proofs.Taken.{caller-long, mayopen-fits, maymake-fits, no-items}
-use Rattle.soundness.proofs.Leaves.{Passed, Leaf, listOf, fileBy, newBy, MayOpen, MayMake, MayLock, refused, reopened, newlyOpened, newlyMade, nowClosed, nowErased, nowRenamed, nowRead, nowWritten, nowRewritten, nowLocked, lockIdle, nowUnlocked, unlockIdle, nowTold, nowEnded}
+use Rattle.rules.proofs.Passed.{Passed}
+use Rattle.soundness.proofs.Leaves.{Leaf, listOf, fileBy, newBy, MayOpen, MayMake, MayLock, refused, reopened, newlyOpened, newlyMade, nowClosed, nowErased, nowRenamed, nowRead, nowWritten, nowRewritten, nowLocked, lockIdle, nowUnlocked, unlockIdle, nowTold, nowEnded}
 use Rattle.soundness.proofs.Ends.{image-of, shape-of, list-of, made-of, made-there, renamed-of, renamed-touch, written-of, takes-of}
 use Rattle.soundness.proofs.Walk.{walk}
 
@@ -145,3 +148,16 @@ leaf-sound n p c b o (nowEnded k ok) g = packed _ (b .image) (ended-shape p c b 
 
 pub call-sound : (n p c : ℕ) (b : Buffers) → SoundBoth (b .list) (b .image) → SoundBoth (call n p c b .left .list) (call n p c b .left .image)
 call-sound n p c b g = leaf-sound n p c b (call n p c b) (walk n p c b) g
+
+-- ---- a run of records, by single calls
+
+module _ (n p : ℕ) (b : Buffers) where
+  steps-sound : (c : ℕ) (g : Run) → Steps n p b c g → SoundBoth (b .list) (b .image) → SoundBoth (g .left .list) (g .left .image)
+  unfolding single backAt
+  steps-sound c g begun k = k
+  steps-sound c g (done i b′ w z) k = call-sound n p 1 (single i b′) (steps-sound i (run 0 i b′) w k)
+  steps-sound c g (stopped i b′ w z) k = steps-sound i (run 0 i b′) w k
+  steps-sound c g (idle i x w z) k = steps-sound i x w k
+
+  pub several-sound : (c : ℕ) → SoundBoth (b .list) (b .image) → SoundBoth (several n p c b .left .list) (several n p c b .left .image)
+  several-sound c k = steps-sound c (several n p c b) (steps n p b c) k

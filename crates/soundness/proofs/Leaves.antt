@@ -11,26 +11,13 @@ use Rattle.rules.specs.declared.file.File.{File}
 use Rattle.rules.specs.declared.list.LockList.{LockList}
 use Rattle.rules.specs.declared.routine.Routine.the-variants.{Open, Close, Delete, Make, Rename, Read, Write, WriteZeros, TestWrite, Lock, Unlock, FreeSpace, Terminate}
 use Rattle.rules.specs.declared.routine.Chosen.the-variants.{Call}
-use Rattle.rules.specs.Serves.{Buffers, Outcome, buffers, outcome, chosen, fcbSize, dmaSize, listSize, withDma, withList, withImage}
-use Rattle.rules.specs.Drive.{highest, blocks, legalName, entryOf, freeEntry, freeBlock, blockIn, blockOf, soundImage}
-use Rattle.rules.specs.Locks.{itemAt, unpack, pack, soundList, openOf, anyOpen, lockedByOther, opensBy, locksBy, freePlace, freePlaces}
+use Rattle.rules.specs.Serves.{Buffers, Outcome, buffers, outcome, chosen, withDma, withList, withImage}
+use Rattle.rules.specs.Drive.{blocks, legalName, entryOf, freeEntry, freeBlock, blockIn, blockOf}
+use Rattle.rules.specs.Locks.{itemAt, unpack, pack, openOf, anyOpen, lockedByOther, opensBy, locksBy, freePlace, freePlaces}
 use Rattle.rules.specs.Asks.{callerFile, newFile, recordOf, openMode, makeMode}
 use Rattle.rules.specs.Codes.{standsAgainstAt, isNew}
+use Rattle.rules.proofs.Passed.{Passed}
 use Rattle.rules.specs.Effects.{accept, opened, made, erased, renamed, written, spotAt, closed, lockedRun, unlockedRun, terminated}
-
--- what the general table leaves to rely on
-pub record Given (b : Buffers) : Type 0 where
-  pub fcb-long : length (b .fcb) ≡ fcbSize
-  pub dma-long : length (b .dma) ≡ dmaSize
-  pub list-long : length (b .list) ≡ listSize
-  pub image-sound : soundImage highest (b .image) ≡ true
-  pub list-sound : soundList highest (b .list) (b .image) ≡ true
-
-pub record Passed (p c : ℕ) (b : Buffers) : Type 0 where
-  pub process-fits : p < 16
-  pub run-some : 1 ≤ c
-  pub run-fits : c ≤ 16
-  pub ready : Given b
 
 abbrev pub listOf : Buffers → LockList
 listOf b = unpack (b .list)

@@ -1,21 +1,21 @@
--- What a call may rely on where no row applies: the general table, and the tables that calls share. Assumes nothing.
+-- What a call may rely on where no row of the tables that calls share applies. Assumes nothing.
 use Prim.Native.Nat.{ℕ, _/_, _<_}
 use mathlib.Core.Path.{_≡_, refl}
 use mathlib.Core.Bool.{Bool, true, false, not}
 use mathlib.Core.List.{List, [], _∷_, _++_}
 use lib.Dec.{eqb, leb}
-use borrow.Author.Tests.{eqb-true, eqb-false, leb-false, ltb-true, ltb-false, not-false}
+use borrow.Author.Tests.{eqb-false, ltb-true, ltb-false, not-false}
 use Rattle.words.specs.Tests.{_and_, _if_else_}
 use Rattle.words.specs.Tables.{Row, onlyIf, anyRow}
 use Rattle.words.proofs.Tests.{or-fst, or-snd}
 use Rattle.words.proofs.Sets.{or-none}
 use Rattle.rules.specs.declared.file.File.{File}
-use Rattle.rules.specs.Serves.{Buffers, chosen, isUnknown}
-use Rattle.rules.specs.Drive.{entryOf, lookUp, freeEntry, blockIn, blockOf, blocks, freeBlock}
+use Rattle.rules.specs.Serves.{Buffers}
+use Rattle.rules.specs.Drive.{entryOf, freeEntry, blockIn, blockOf, blocks, freeBlock}
 use Rattle.rules.specs.Locks.{isOpened}
 use Rattle.rules.specs.Asks.{recordOf}
-use Rattle.rules.specs.Codes.{badNumbers, rowsInside, rowsAll, rowsThere, rowsMay, rowsRoom}
-use Rattle.soundness.proofs.Leaves.{Passed, listOf, fileBy, openBy, MayWrite}
+use Rattle.rules.specs.Codes.{rowsThere, rowsMay, rowsRoom}
+use Rattle.soundness.proofs.Leaves.{listOf, fileBy, openBy, MayWrite}
 
 -- ---- rows that do not apply
 
@@ -34,36 +34,6 @@ pub opened-so : (o : ℕ) → not (isOpened o) ≡ false → o < 64
 unfolding isOpened
 opened-so o h = ltb-true o 64 (not-false _ h)
 
--- ---- the general table
-
-pub passed : (n p c : ℕ) (b : Buffers) → anyRow (rowsAll n p c b) ≡ false → Passed p c b
-unfolding rowsInside rowsAll badNumbers anyRow
-passed n p c b h =
-    let a = or-fst _ _ h in
-    let a₁ = or-snd _ _ a in
-    let a₂ = or-snd _ _ a₁ in
-    let a₃ = or-snd _ _ a₂ in
-    let a₄ = or-snd _ _ a₃ in
-    let a₅ = or-snd _ _ a₄ in
-    let h₁ = or-snd _ _ h in
-    let h₂ = or-snd _ _ h₁ in
-    record {
-      process-fits = leb-false 16 p (or-fst _ _ a₁);
-      run-some = ltb-false c 1 (or-fst _ _ a₂);
-      run-fits = ltb-false 16 c (or-fst _ _ a₃);
-      ready = record {
-        fcb-long = eqb-true _ _ (not-false _ (or-fst _ _ a₄));
-        dma-long = eqb-true _ _ (not-false _ (or-fst _ _ a₅));
-        list-long = eqb-true _ _ (not-false _ (or-snd _ _ a₅));
-        image-sound = not-false _ (or-fst _ _ h₁);
-        list-sound = not-false _ (or-fst _ _ h₂);
-      };
-    }
-
-pub known : (n p c : ℕ) (b : Buffers) → anyRow (rowsAll n p c b) ≡ false → isUnknown (chosen n) ≡ false
-unfolding rowsInside rowsAll badNumbers anyRow
-known n p c b h = or-fst _ _ (or-fst _ _ h)
-
 -- ---- the tables that calls share
 
 module _ (p : ℕ) (b : Buffers) where
@@ -79,7 +49,7 @@ module _ (p : ℕ) (b : Buffers) where
   abbrev pub e : ℕ
   e = entryOf s f (r / 128)
 
-  pub may-write : anyRow (rowsMay p (listOf b) (openBy p b) f (lookUp s f) r s) ≡ false → (leb 64 e and leb 64 (freeEntry s)) ≡ false
+  pub may-write : anyRow (rowsMay p (listOf b) (openBy p b) f (entryOf s f 0) r s) ≡ false → (leb 64 e and leb 64 (freeEntry s)) ≡ false
       → (eqb (blockIn s e r) 0 and leb (blocks s) (freeBlock s)) ≡ false → MayWrite p b
   unfolding rowsMay anyRow
   may-write h room block =

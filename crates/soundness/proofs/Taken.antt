@@ -27,7 +27,8 @@ use Rattle.rules.proofs.Items.{IsOpen, open-is, open-so, name-sym, name-then, n
 use Rattle.rules.proofs.SoundList.{Shape, Holder, GoodOpen, GoodLock, isPlain, Used, Vacant, SoundLocks}
 use Rattle.soundness.proofs.Placed.{Fits}
 use Rattle.soundness.proofs.Entered.{low-low}
-use Rattle.soundness.proofs.Leaves.{Passed, listOf, fileBy, openBy, modeBy, MayOpen, MayMake}
+use Rattle.rules.proofs.Passed.{Passed}
+use Rattle.soundness.proofs.Leaves.{listOf, fileBy, openBy, modeBy, MayOpen, MayMake}
 
 -- ---- the name in an FCB, as a file has it
 

@@ -18,15 +18,16 @@ use Rattle.rules.specs.declared.routine.Routine.the-variants.{Open, Close, Dele
 use Rattle.rules.specs.declared.routine.Chosen.{Chosen}
 use Rattle.rules.specs.declared.routine.Chosen.the-variants.{Call, Unknown}
 use Rattle.rules.specs.Serves.{Buffers, Outcome, chosen, isUnknown}
-use Rattle.rules.specs.Drive.{lookUp, missing, blockIn}
+use Rattle.rules.specs.Drive.{entryOf, lookUp, missing, blockIn}
 use Rattle.rules.specs.Locks.{isOpened}
 use Rattle.rules.specs.Asks.{openMode}
-use Rattle.rules.specs.Codes.{rowsInside, rowsAll, rowsNew, rows15, rows16, rows19, rows22, rows23, rows34, rows41, rows42, rows43, rowsThere, rowsMay, rowsRoom, rowsRun, rowsLacking, rowsTake, stopsDelete, stopsRename, lacks, firstLacking, isOthers, rowsDiffer}
+use Rattle.rules.specs.Codes.{rowsAll, rowsNew, rows15, rows16, rows19, rows22, rows23, rows34, rows41, rows42, rows43, rowsThere, rowsMay, rowsRoom, rowsRun, rowsLacking, rowsTake, stopsDelete, stopsRename, lacks, firstLacking, isOthers, rowsDiffer}
 use Rattle.rules.specs.Effects.{does15, does16, does19, does22, makes, does23, does33, does34, does41, does42, does43, does46, does143}
 use Rattle.rules.specs.Call.{asked, askedBy, rowsOf, effectOf, rowsCall, call}
 use Rattle.rules.proofs.Tables.{accepted, refused, nonzero-call}
-use Rattle.soundness.proofs.Passed.{any-append, any-only, opened-so, passed, known, may-write, has-room, is-there, block-some, r, e}
-use Rattle.soundness.proofs.Leaves.{Passed, Leaf, listOf, fileBy, openBy, modeBy, MayLock, reopened, newlyOpened, newlyMade, nowClosed, nowErased, nowRenamed, nowRead, nowWritten, nowRewritten, nowLocked, lockIdle, nowUnlocked, unlockIdle, nowTold, nowEnded}
+use Rattle.soundness.proofs.Passed.{any-append, any-only, opened-so, may-write, has-room, is-there, block-some, r, e}
+use Rattle.rules.proofs.Passed.{Passed, passed, known}
+use Rattle.soundness.proofs.Leaves.{Leaf, listOf, fileBy, openBy, modeBy, MayLock, reopened, newlyOpened, newlyMade, nowClosed, nowErased, nowRenamed, nowRead, nowWritten, nowRewritten, nowLocked, lockIdle, nowUnlocked, unlockIdle, nowTold, nowEnded}
 
 -- ---- one call's table and effect
 
@@ -94,17 +95,17 @@ module _ (n p c : ℕ) (b : Buffers) (ok : Passed p c b) where
         gone-new = leb-true _ _ (not-false _ (or-fst _ _ (or-snd _ _ (or-snd _ _ h₂))));
       })
 
-  write-leaf : (zeros : Bool) → (chosen n ≡ Call Write) ⊎ (chosen n ≡ Call WriteZeros) → anyRow (rowsOf (Call Write) (asked p c b) b) ≡ false → Leaf n p c b (does34 zeros (fileBy p b) (lookUp (b .image) (fileBy p b)) (e p b) (r p b) b)
+  write-leaf : (zeros : Bool) → (chosen n ≡ Call Write) ⊎ (chosen n ≡ Call WriteZeros) → anyRow (rowsOf (Call Write) (asked p c b) b) ≡ false → Leaf n p c b (does34 zeros (fileBy p b) (entryOf (b .image) (fileBy p b) 0) (e p b) (r p b) b)
   unfolding rowsOf asked askedBy rows34 does34 lookUp
   write-leaf zeros k h =
-      let g = any-append (rowsMay p (listOf b) (openBy p b) (fileBy p b) (lookUp (b .image) (fileBy p b)) (r p b) (b .image)) (rowsRoom (b .image) (e p b) (r p b)) h in
+      let g = any-append (rowsMay p (listOf b) (openBy p b) (fileBy p b) (entryOf (b .image) (fileBy p b) 0) (r p b) (b .image)) (rowsRoom (b .image) (e p b) (r p b)) h in
       let m = has-room p b (g .1) in
       nowWritten k ok (may-write p b (g .0) (m .0) (m .1)) zeros
 
   test-leaf : chosen n ≡ Call TestWrite → anyRow (rowsOf (Call TestWrite) (asked p c b) b) ≡ false → Leaf n p c b (effectOf (Call TestWrite) (asked p c b) b)
   unfolding rowsOf effectOf asked askedBy rows41 does41 lookUp
   test-leaf k h =
-      let may = rowsMay p (listOf b) (openBy p b) (fileBy p b) (lookUp (b .image) (fileBy p b)) (r p b) (b .image) in
+      let may = rowsMay p (listOf b) (openBy p b) (fileBy p b) (entryOf (b .image) (fileBy p b) 0) (r p b) (b .image) in
       let there = rowsThere (b .image) (e p b) (r p b) in
       let last = rowsDiffer (b .dma) (b .image) (blockIn (b .image) (e p b) (r p b)) (r p b) in
       let g = any-append may (there ++ last) h in
@@ -160,7 +161,7 @@ module _ (n p c : ℕ) (b : Buffers) (ok : Passed p c b) where
       (either (eqb (modeBy p b) 1))
 
   leaf : (k : Chosen) → chosen n ≡ k → isUnknown k ≡ false → anyRow (rowsOf k (asked p c b) b) ≡ false → Leaf n p c b (effectOf k (asked p c b) b)
-  unfolding effectOf rowsOf asked askedBy does33 does46 does143 isUnknown
+  unfolding effectOf rowsOf asked askedBy lookUp does33 does46 does143 isUnknown
   leaf (Call Open) k u h = open-leaf k h
   leaf (Call Close) k u h = close-leaf k h
   leaf (Call Delete) k u h = delete-leaf k h

@@ -20,7 +20,7 @@ use Rattle.rules.specs.Effects.{spot, spotAt, newEntry, entered, mapped, counte
 use Rattle.rules.proofs.Sound.{Is, Names, SoundImage, found-is}
 use Rattle.rules.proofs.Frames.{is-same, file-same, empty-same}
 use Rattle.soundness.proofs.Steps.{Stays}
-use Rattle.soundness.proofs.Changes.{Change, change-then, no-change}
+use Rattle.soundness.proofs.Changes.{Change, Grown, change-then, no-change}
 use Rattle.soundness.proofs.Entered.{entered-change, entered-is, entered-stays, free-empty}
 use Rattle.soundness.proofs.Stored.{data-change, count-change, block-change, taken-there, free-low, free-unnamed}
 
@@ -231,3 +231,35 @@ module _ (zeros : Bool) (s : List ℕ) (f : File) (r : ℕ) (v : List ℕ) (g : 
       rw (q, z) (inl (old-step here l is (eqb-false _ _ z))))
       (either (eqb (mapNumber s here (mapPlace r)) 0)))
       (either (leb 64 here))
+
+  -- the extent then stands at the spot's entry
+  pub written-entry : (leb 64 here and leb 64 (freeEntry s)) ≡ false → (eqb (blockIn s here r) 0 and leb (blocks s) (freeBlock s)) ≡ false
+      → Is (written zeros (spotAt s here r) (entryOf s f 0) f r v s) f (r / 128) (spotAt s here r .entry)
+  unfolding spotAt blockIn _if_else_ _and_ fresh-step taken-step old-step
+  written-entry room block =
+      ⊎-elim
+      (λ (q : leb 64 here ≡ true).
+      let m : leb 64 (freeEntry s) ≡ false = rw q at room in
+      let k : leb (blocks s) (freeBlock s) ≡ false = rw q at block in
+      rw q (fresh-step (leb-true 64 here q) (leb-false 64 _ m) (leb-false (blocks s) _ k) .wrote .is))
+      (λ (q : leb 64 here ≡ false).
+      let l = leb-false 64 here q in
+      let is = found-is s f (r / 128) named l in
+      ⊎-elim
+      (λ (z : eqb (mapNumber s here (mapPlace r)) 0 ≡ true).
+      let k : leb (blocks s) (freeBlock s) ≡ false = rw (q, z) at block in
+      rw (q, z) (taken-step here l is (eqb-true _ _ z) (leb-false (blocks s) _ k) .wrote .is))
+      (λ (z : eqb (mapNumber s here (mapPlace r)) 0 ≡ false).
+      rw (q, z) (old-step here l is (eqb-false _ _ z) .wrote .is))
+      (either (eqb (mapNumber s here (mapPlace r)) 0)))
+      (either (leb 64 here))
+
+  -- .. and the entry of extent 0 stays
+  grown-to : (t : List ℕ) → Old s t f r ⊎ New s t f r → Grown s t
+  grown-to t w = ⊎-elim (λ (k : Old s t f r). k .wrote .change .grown) (λ (k : New s t f r). k .wrote .change .grown) w
+
+  pub written-first : (leb 64 here and leb 64 (freeEntry s)) ≡ false → (eqb (blockIn s here r) 0 and leb (blocks s) (freeBlock s)) ≡ false
+      → Is (written zeros (spotAt s here r) (entryOf s f 0) f r v s) f 0 (entryOf s f 0)
+  written-first room block =
+      let i = found-is s f 0 named there in
+      is-same s (written zeros (spotAt s here r) (entryOf s f 0) f r v s) f 0 (entryOf s f 0) (grown-to _ (written-step room block) .head (entryOf s f 0) there (i .used)) i

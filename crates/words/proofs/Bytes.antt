@@ -1,12 +1,12 @@
 -- Laws of bytes: parts, bytes put at a place, numbers in bytes. Assumes nothing.
 use Prim.Native.Nat.{ℕ, _+_, _-_, _/_, _%_, _≤_, _<_}
 use mathlib.Core.Path.{_≡_, refl, sym, ap, _∙_}
-use mathlib.Core.List.{List, _++_, append-assoc}
+use mathlib.Core.List.{List, _++_, append-assoc, append-nil}
 use mathlib.Core.Logic.{_⊎_, ⊎-elim}
 use native.Mathlib.Numerals.{add-one}
 use native.Mathlib.Omega.{arith}
-use lib.ListN.{length, getD, set, take, drop, replicate, length-append, length-take, length-drop, length-replicate, List·getD-append, List·getD-eq-default}
-use lib.Seq.{getD-append-add, getD-take, getD-drop, length-take-le, take-length, take-at, drop-at, drop-drop, paste, paste-suc}
+use lib.ListN.{length, getD, set, take, drop, replicate, length-append, length-take, length-drop, length-replicate, List·getD-append, List·getD-eq-default, take-append-drop}
+use lib.Seq.{drop-length, getD-append-add, getD-take, getD-drop, length-take-le, take-length, take-at, drop-at, drop-drop, paste, paste-suc}
 use borrow.Rule.Slice.PartMut.{putMid}
 use Rattle.words.specs.Bytes.{byte, part, put, word}
 use Rattle.words.proofs.Lists.{tab-ext, tab-getD}
@@ -101,6 +101,24 @@ pub lent-zeros : (a e k : ℕ) (xs ys : List ℕ) → e ≡ a + k → e ≤ leng
 lent-zeros a e k xs ys h m n =
     let j : length (take (e - a) (drop a xs)) ≡ k = simp (length-take, length-drop) (omega arith) in
     lent-back a e xs ys (replicate k 0) (omega arith) (length-replicate k 0 ∙ omega arith) (n ∙ ap (λ (i : ℕ). replicate i 0) j)
+
+-- all of it put anew
+pub put-whole : (v s : List ℕ) → length v ≡ length s → put 0 v s ≡ v
+unfolding put
+put-whole v s h =
+    let k : 0 + length v ≡ length s = omega arith in
+    ap (λ (m : ℕ). v ++ drop m s) k ∙ ap (λ (m : List ℕ). v ++ m) (drop-length s) ∙ append-nil v
+
+-- a part put back where it stands
+pub put-same : (at n : ℕ) (s : List ℕ) → at + n ≤ length s → put at (part at n s) s ≡ s
+unfolding put
+put-same at n s h =
+    let k : length (part at n s) ≡ n = part-long s at n h in
+    ap (λ (m : ℕ). take at s ++ part at n s ++ drop (at + m) s) k
+    ∙ append-assoc (take at s) (take n (drop at s)) (drop (at + n) s)
+    ∙ ap (λ (m : List ℕ). take at s ++ (take n (drop at s) ++ m)) (sym (drop-drop n at s))
+    ∙ ap (λ (m : List ℕ). take at s ++ m) (take-append-drop n (drop at s))
+    ∙ take-append-drop at s
 
 -- what a step stores, through what a callee made of it
 pub put-as : (at : ℕ) (v v′ s l : List ℕ) → l ≡ put at v s → v ≡ v′ → l ≡ put at v′ s

@@ -3,6 +3,7 @@ use Prim.Native.Nat.{ℕ, _+_, _≤_, _<_}
 use mathlib.Core.Path.{_≡_, refl, sym, ap, _∙_}
 use mathlib.Core.Bool.{Bool, true, false, not}
 use mathlib.Core.List.{List, [], _∷_, _++_}
+use mathlib.Core.Logic.{⊎-elim}
 use native.Mathlib.Numerals.{add-one}
 use native.Mathlib.Omega.{arith}
 use borrow.Author.Needs.{needs}
@@ -12,7 +13,7 @@ use lib.ListN.{length}
 use Rattle.words.specs.Tests.{_and_, _or_, _if_else_, all, any, lowest, count}
 use Rattle.words.specs.Lists.{tab}
 use Rattle.words.specs.Tables.{Row, _when_, firstOf, noneZero, onlyIf}
-use Rattle.words.proofs.Tests.{and-false, all-none, all-more, all-fails, any-none, any-skip, any-found, lowest-none, lowest-found}
+use Rattle.words.proofs.Tests.{and-false, all-none, all-more, all-fails, any-none, any-skip, any-found, lowest-none, lowest-found, lowest-below, either}
 use Rattle.words.proofs.Tables.{first-then, first-stays}
 use Rattle.words.proofs.Lists.{filled, filled-turn, filled-all, turns-none, turns-more, turns-ends}
 
@@ -73,6 +74,12 @@ lowest-stops f n i l h e = sym (lowest-found f n i l h e)
 
 pub lowest-ends : (f : ℕ → Bool) (n i : ℕ) → any f i ≡ false → n ≤ i → i ≤ n → i ≡ lowest f n
 lowest-ends f n i h l g = let q : i ≡ n = omega arith in q ∙ sym (lowest-none f n (rw q at h))
+
+-- some number passes exactly where the lowest that does is below the bound
+pub lowest-any : (f : ℕ → Bool) (n k : ℕ) → k ≡ lowest f n → ltb k n ≡ any f n
+lowest-any f n k h =
+    ⊎-elim (λ (e : any f n ≡ true). rw (h, e) (lt-ltb _ _ (lowest-below f n e)))
+    (λ (e : any f n ≡ false). rw (h, lowest-none f n e, e) (le-ltb n n (omega arith))) (either (any f n))
 
 -- k counted so far, and x, 1 where the next number passes
 pub count-none : (f : ℕ → Bool) → 0 ≡ count f 0

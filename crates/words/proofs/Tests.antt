@@ -174,6 +174,18 @@ module _ (f : ℕ → Bool) where
       ⊎-elim (λ (e : any f n ≡ true). rw e (let k = lowest-below n e in omega arith))
       (λ (e : any f n ≡ false). let k = rw e at h in rw (e, k) (omega arith)) (either (any f n))
 
+  -- nothing before it
+  pub lowest-least : (n i : ℕ) → i < lowest f n → f i ≡ false
+  unfolding lowest _if_else_
+  lowest-least zero i l = absurd (not-suc-le-zero l)
+  lowest-least (suc n) i l =
+      ⊎-elim (λ (e : any f n ≡ true). lowest-least n i (rw e at l))
+      (λ (e : any f n ≡ false).
+      ⊎-elim (λ (d : f n ≡ true). any-at n i e (let m : i < n = rw (e, d) at l in m))
+      (λ (d : f n ≡ false). let m : i < suc n = rw (e, d) at l in ⊎-elim (λ q. rw q d) (λ k. any-at n i e k) (eq-or-lt-of-le (le-of-suc-le-suc m)))
+      (either (f n)))
+      (either (any f n))
+
   -- nothing found
   pub lowest-over : (n i : ℕ) → n ≤ lowest f n → i < n → f i ≡ false
   lowest-over n i h l =

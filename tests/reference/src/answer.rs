@@ -1,3 +1,6 @@
+/// The high four bits of H count records.
+const RECORD_DONE: u8 = 16;
+
 /// The registers A and H after a call.
 #[derive(Clone, Copy, Debug, PartialEq, Eq, PartialOrd, Ord)]
 pub struct Answer {
@@ -14,6 +17,14 @@ impl Answer {
 
     pub const fn extended(h: u8) -> Answer {
         Answer { a: 255, h }
+    }
+
+    /// This refusal, met after so many records of the call were done.
+    pub fn after(self, done: u8) -> Answer {
+        Answer {
+            h: self.h + RECORD_DONE * done,
+            ..self
+        }
     }
 
     pub fn word(self) -> u32 {

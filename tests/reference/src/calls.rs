@@ -1,5 +1,5 @@
 //! The thirteen calls. Each works on what was decoded and says what is to change;
-//! the buffers are written only after it has succeeded.
+//! the buffers are written only after it has succeeded, or has done some of its records.
 
 use crate::answer::{code, extended, Answer, Refusal};
 use crate::drive::{block_start, extent_of, record_start, Drive, Fault, BLOCK, RECORD, RECORD_LIMIT};
@@ -8,7 +8,11 @@ use crate::name::{File, Name, HIGH_BIT};
 use std::ops::Range;
 
 pub const FCB_LENGTH: usize = 36;
-pub const DMA_LENGTH: usize = 256;
+pub const DMA_LENGTH: usize = 2_048;
+pub const MOST_RECORDS: u32 = 16;
+
+/// The functions that do their records one after another.
+pub const RUN_FUNCTIONS: [u32; 3] = [33, 34, 40];
 
 const FUNCTIONS: [u32; 13] = [15, 16, 19, 22, 23, 33, 34, 40, 41, 42, 43, 46, 143];
 const WITHOUT_FCB: [u32; 2] = [46, 143];
@@ -44,9 +48,16 @@ struct Write {
     bytes: Vec<u8>,
 }
 
-/// What a successful call changes; `kind` is for coverage only.
+/// Where a run was stopped after some of its records.
+struct Stop {
+    refusal: Refusal,
+    done: u8,
+}
+
+/// What a call changes that succeeded or was stopped on its way; `kind` is for coverage only.
 struct Effects {
     kind: &'static str,
+    stop: Option<Stop>,
     fcb: Option<[u8; FCB_LENGTH]>,
     dma: Option<[u8; DMA_LENGTH]>,
     list: Option<LockList>,
@@ -55,6 +66,15 @@ struct Effects {
 }
 
 type Outcome = Result<Effects, Refusal>;
+
+/// What the records written so far have made of the drive.
+struct Writing {
+    drive: Drive,
+    data: Vec<Write>,
+    zero_fill: bool,
+    took_extent: bool,
+    took_block: bool,
+}
 
 /// What Lock and Unlock have to do.
 enum Locking {
@@ -66,6 +86,7 @@ impl Effects {
     fn none(kind: &'static str) -> Effects {
         Effects {
             kind,
+            stop: None,
             fcb: None,
             dma: None,
             list: None,
@@ -92,6 +113,14 @@ impl Effects {
         Effects {
             dma: Some(dma),
             ..Effects::none(kind)
+        }
+    }
+
+    /// The answer, and which of the reasons or kinds of success it was.
+    fn told(&self) -> (Answer, &'static str) {
+        match &self.stop {
+            None => (Answer::SUCCESS, self.kind),
+            Some(Stop { refusal, done }) => (refusal.answer.after(*done), refusal.why),
         }
     }
 
@@ -123,12 +152,29 @@ pub fn call_explained(numbers: Numbers, buffers: Buffers) -> (Answer, &'static s
     match scene.serve(numbers.function) {
         Err(refusal) => (refusal.answer, refusal.why),
         Ok(effects) => {
-            let kind = effects.kind;
+            let told = effects.told();
             let before = scene.drive;
             effects.apply(&before, buffers);
-            (Answer::SUCCESS, kind)
+            told
         }
     }
+}
+
+/// Goes from record to record, each with its part of the DMA, until one is refused. A refusal of
+/// the first is one of the whole call.
+fn go_along(
+    records: Range<u32>,
+    mut step: impl FnMut(u32, Range<usize>) -> Result<(), Refusal>,
+) -> Result<Option<Stop>, Refusal> {
+    for (done, record) in (0..).zip(records) {
+        let at = RECORD * usize::from(done);
+        match step(record, at..at + RECORD) {
+            Ok(()) => {}
+            Err(refusal) if done == 0 => return Err(refusal),
+            Err(refusal) => return Ok(Some(Stop { refusal, done })),
+        }
+    }
+    Ok(None)
 }
 
 fn scene<'a>(numbers: Numbers, buffers: &'a Buffers) -> Result<Scene<'a>, Refusal> {
@@ -171,7 +217,7 @@ fn judged_numbers(numbers: Numbers) -> Result<u8, Refusal> {
     if numbers.count < 1 {
         return Err(extended(13, "count below 1"));
     }
-    if numbers.count > 16 {
+    if numbers.count > MOST_RECORDS {
         return Err(extended(13, "count above 16"));
     }
     Ok(numbers.process as u8)
@@ -222,20 +268,16 @@ impl Scene<'_> {
         u32::from_le_bytes([self.fcb[33], self.fcb[34], self.fcb[35], 0])
     }
 
-    fn record(&self) -> Result<u32, Refusal> {
-        let record = self.record_number();
-        if record >= RECORD_LIMIT {
-            return Err(code(6, "record too high"));
-        }
-        Ok(record)
+    /// The FCB's record and those after it; they may pass the last one that there can be.
+    fn records(&self) -> Range<u32> {
+        let first = self.record_number();
+        first..first + self.count
     }
 
+    /// The records, where none may pass the last one.
     fn run(&self) -> Result<Range<u32>, Refusal> {
-        let first = self.record_number();
-        let run = first..first + self.count;
-        if first >= RECORD_LIMIT {
-            return Err(code(6, "record too high"));
-        }
+        let run = self.records();
+        in_range(run.start)?;
         if run.end > RECORD_LIMIT {
             return Err(code(6, "run passes the last record"));
         }
@@ -422,15 +464,21 @@ impl Scene<'_> {
 
     fn read_random(&self) -> Outcome {
         let (file, _) = self.own_open_or_10()?;
-        let record = self.record()?;
-        let at = self.stored(&file, record)?;
         let mut dma = self.dma;
-        dma[..RECORD].copy_from_slice(&self.image[at..at + RECORD]);
-        Ok(Effects::of_dma("read", dma))
+        let stop = go_along(self.records(), |record, part| {
+            in_range(record)?;
+            let at = self.stored(&file, record)?;
+            dma[part].copy_from_slice(&self.image[at..at + RECORD]);
+            Ok(())
+        })?;
+        Ok(Effects {
+            stop,
+            ..Effects::of_dma("read", dma)
+        })
     }
 
-    /// The tests that the three writing calls share: the file and the record they may write.
-    fn writable(&self) -> Result<(File, u32), Refusal> {
+    /// The file, if its caller may write it at all.
+    fn writable_file(&self) -> Result<File, Refusal> {
         let (file, open) = self.own_open_or_10()?;
         if self.drive.is_read_only(&file) {
             return Err(extended(3, "read-only attribute"));
@@ -438,65 +486,46 @@ impl Scene<'_> {
         if open.mode == Mode::ReadOnly {
             return Err(extended(3, "open read-only"));
         }
-        let record = self.record()?;
-        if self.list.is_held_by_another(&file, record, self.process) {
+        Ok(file)
+    }
+
+    fn may_write(&self, file: &File, record: u32) -> Result<(), Refusal> {
+        in_range(record)?;
+        if self.list.is_held_by_another(file, record, self.process) {
             return Err(code(8, "held by another"));
-        }
-        Ok((file, record))
-    }
-
-    fn write_random(&self, zero_fill: bool) -> Outcome {
-        let (file, record) = self.writable()?;
-        let extent_missing = self.drive.extent(&file, extent_of(record)).is_none();
-        let block_missing = self.drive.block(&file, record).is_none();
-        self.room_for(extent_missing, block_missing)?;
-
-        let mut drive = self.drive.clone();
-        let block = drive.provide(&file, record).ok_or(code(2, "no free block"))?;
-        drive.raise_count(&file, record);
-        let mut data = Vec::new();
-        if zero_fill && block_missing {
-            data.push(Write {
-                at: block_start(block),
-                bytes: vec![0; BLOCK],
-            });
-        }
-        data.push(Write {
-            at: record_start(block, record),
-            bytes: self.dma[..RECORD].to_vec(),
-        });
-        let kind = match (extent_missing, block_missing) {
-            (true, _) => "written, new extent",
-            (false, true) => "written, new block",
-            (false, false) => "written in place",
-        };
-        Ok(Effects {
-            data,
-            ..Effects::of_drive(kind, drive)
-        })
-    }
-
-    fn room_for(&self, extent_missing: bool, block_missing: bool) -> Result<(), Refusal> {
-        let no_block = self.drive.lowest_free_block().is_none();
-        if extent_missing && self.drive.lowest_empty_slot().is_none() {
-            return Err(match no_block {
-                true => code(5, "no empty entry, no free block"),
-                false => code(5, "no empty entry"),
-            });
-        }
-        if block_missing && no_block {
-            return Err(match extent_missing {
-                true => code(2, "no free block for a new extent"),
-                false => code(2, "no free block"),
-            });
         }
         Ok(())
     }
 
+    fn write_random(&self, zero_fill: bool) -> Outcome {
+        let file = self.writable_file()?;
+        let mut writing = Writing {
+            drive: self.drive.clone(),
+            data: Vec::new(),
+            zero_fill,
+            took_extent: false,
+            took_block: false,
+        };
+        let stop = go_along(self.records(), |record, part| {
+            self.may_write(&file, record)?;
+            writing.store(&file, record, &self.dma[part])
+        })?;
+        Ok(Effects {
+            stop,
+            data: writing.data,
+            ..Effects::of_drive(
+                kind_of_writing(writing.took_extent, writing.took_block),
+                writing.drive,
+            )
+        })
+    }
+
     fn test_and_write(&self) -> Outcome {
-        let (file, record) = self.writable()?;
+        let file = self.writable_file()?;
+        let record = self.record_number();
+        self.may_write(&file, record)?;
         let at = self.stored(&file, record)?;
-        let (tested, written) = self.dma.split_at(RECORD);
+        let (tested, written) = (&self.dma[..RECORD], &self.dma[RECORD..2 * RECORD]);
         if tested != &self.image[at..at + RECORD] {
             return Err(code(7, "differs"));
         }
@@ -601,6 +630,62 @@ impl Scene<'_> {
         };
         Ok(Effects::of_list(kind, list))
     }
+}
+
+impl Writing {
+    /// Stores a record, with an extent and a block where they are missing.
+    fn store(&mut self, file: &File, record: u32, bytes: &[u8]) -> Result<(), Refusal> {
+        let extent_missing = self.drive.extent(file, extent_of(record)).is_none();
+        let block_missing = self.drive.block(file, record).is_none();
+        room_for(&self.drive, extent_missing, block_missing)?;
+        let block = self.drive.provide(file, record).ok_or(code(2, "no free block"))?;
+        self.drive.raise_count(file, record);
+        if self.zero_fill && block_missing {
+            self.data.push(Write {
+                at: block_start(block),
+                bytes: vec![0; BLOCK],
+            });
+        }
+        self.data.push(Write {
+            at: record_start(block, record),
+            bytes: bytes.to_vec(),
+        });
+        self.took_extent |= extent_missing;
+        self.took_block |= block_missing;
+        Ok(())
+    }
+}
+
+fn room_for(drive: &Drive, extent_missing: bool, block_missing: bool) -> Result<(), Refusal> {
+    let no_block = drive.lowest_free_block().is_none();
+    if extent_missing && drive.lowest_empty_slot().is_none() {
+        return Err(match no_block {
+            true => code(5, "no empty entry, no free block"),
+            false => code(5, "no empty entry"),
+        });
+    }
+    if block_missing && no_block {
+        return Err(match extent_missing {
+            true => code(2, "no free block for a new extent"),
+            false => code(2, "no free block"),
+        });
+    }
+    Ok(())
+}
+
+fn kind_of_writing(took_extent: bool, took_block: bool) -> &'static str {
+    match (took_extent, took_block) {
+        (true, _) => "written, new extent",
+        (false, true) => "written, new block",
+        (false, false) => "written in place",
+    }
+}
+
+fn in_range(record: u32) -> Result<(), Refusal> {
+    if record >= RECORD_LIMIT {
+        return Err(code(6, "record too high"));
+    }
+    Ok(())
 }
 
 fn file_id(open: Open) -> [u8; 2] {

@@ -4,9 +4,9 @@
 use crate::calls::Numbers;
 use crate::engine::{Engine, Reference};
 use crate::stage::Made;
-use crate::step::{set_image, set_list, Changes, Reply, Step, BUFFERS};
+use crate::step::{set_image, set_list, Apart, Changes, Reply, Step, ANSWER_APART, BUFFERS};
 use crate::table::Table;
-use crate::wire::{get_step, put_reply, put_step};
+use crate::wire::{before_the_fill, get_step, put_reply, put_step};
 use std::fmt::Write;
 use std::fs;
 use std::io::{self, Read};
@@ -15,7 +15,7 @@ use std::path::Path;
 /// A batch stays below 64 KB in each direction.
 const BATCH_BYTES: usize = 48 * 1024;
 
-const CASE_MARK: &[u8; 8] = b"MPMCASE1";
+const CASE_MARK: &[u8; 8] = b"MPMCASE2";
 
 /// The step at which engine and reference part.
 #[derive(Debug)]
@@ -187,7 +187,7 @@ pub fn describe(made: &[Made], difference: &Difference) -> String {
     text
 }
 
-fn describe_step(step: &Step) -> String {
+pub fn describe_step(step: &Step) -> String {
     match step {
         Step::Call { numbers, fcb, dma } => {
             let Numbers {
@@ -198,7 +198,7 @@ fn describe_step(step: &Step) -> String {
             format!(
                 "call of {function} by {process}, count {count}\n  FCB {}\n  DMA {}",
                 hex(fcb),
-                hex(dma)
+                hex_and_fill(dma)
             )
         }
         other => format!("{other:?}"),
@@ -209,16 +209,41 @@ fn describe_reply(reply: &Reply) -> String {
     let Reply {
         answer,
         broken_guards,
+        apart,
         changes,
     } = reply;
-    let mut text = format!("  answer {answer} ({}/{})\n", answer % 256, answer / 256);
+    let mut text = format!("  answer {}\n", a_and_h(*answer));
     if *broken_guards != 0 {
-        let _ = writeln!(text, "  guards broken: {broken_guards:04b}");
+        let _ = writeln!(text, "  guards broken: {broken_guards:08b}");
+    }
+    if let Some(apart) = apart {
+        text.push_str(&describe_apart(apart));
     }
     for (name, changes) in BUFFERS.iter().zip(changes) {
         text.push_str(&describe_changes(name, changes));
     }
     text
+}
+
+fn a_and_h(answer: u32) -> String {
+    format!("{answer} ({}/{})", answer % 256, answer / 256)
+}
+
+fn describe_apart(apart: &Apart) -> String {
+    let Apart { parts, answer } = apart;
+    let mut names: Vec<&str> = (0..)
+        .zip(BUFFERS)
+        .filter(|(i, _)| parts & (1 << i) != 0)
+        .map(|(_, name)| name)
+        .collect();
+    if parts & ANSWER_APART != 0 {
+        names.push("answer");
+    }
+    let answer = a_and_h(*answer);
+    format!(
+        "  mpm_singly has done otherwise: {}; its answer is {answer}\n",
+        names.join(", ")
+    )
 }
 
 fn describe_changes(name: &str, changes: &Changes) -> String {
@@ -229,6 +254,15 @@ fn describe_changes(name: &str, changes: &Changes) -> String {
         .iter()
         .map(|change| format!("  {name} at {}: {}\n", change.at, hex(&change.bytes)))
         .collect()
+}
+
+fn hex_and_fill(bytes: &[u8]) -> String {
+    let (told, fill) = before_the_fill(bytes);
+    format!(
+        "{} and {} times {fill:02X}",
+        hex(&bytes[..told]),
+        bytes.len() - told
+    )
 }
 
 fn hex(bytes: &[u8]) -> String {

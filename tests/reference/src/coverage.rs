@@ -1,6 +1,7 @@
 //! Which answers, and for which reasons, have been reached; and which there are.
 
 use crate::answer::Answer;
+use crate::calls::{MOST_RECORDS, RUN_FUNCTIONS};
 use crate::faults::{ImageRule, ListRule};
 use std::collections::{BTreeMap, BTreeSet};
 use std::fmt::Write;
@@ -11,6 +12,9 @@ pub const FUNCTIONS: [u32; 13] = [15, 16, 19, 22, 23, 33, 34, 40, 41, 42, 43, 46
 const UNKNOWN: u32 = u32::MAX;
 
 type Row = (u8, u8, &'static str);
+
+/// A refusal that any record of a run can meet, so after 0 to 15 others: A, and why.
+type Stop = (u8, &'static str);
 
 const COMMON: &[Row] = &[
     (255, 13, "process over 15"),
@@ -82,27 +86,27 @@ const RENAME: &[Row] = &[
     (0, 0, "renamed several entries"),
 ];
 
-const READ: &[Row] = &[
-    (10, 0, "not open"),
-    (6, 0, "record too high"),
-    (4, 0, "no extent"),
-    (1, 0, "no block"),
-    (0, 0, "read"),
-];
+const READ: &[Row] = &[(10, 0, "not open"), (0, 0, "read")];
 
+const READ_STOPS: &[Stop] = &[(6, "record too high"), (4, "no extent"), (1, "no block")];
+
+// No record of a run closes the file or changes its attributes, so these come before the first.
 const WRITE: &[Row] = &[
     (10, 0, "not open"),
     (255, 3, "read-only attribute"),
     (255, 3, "open read-only"),
-    (6, 0, "record too high"),
-    (8, 0, "held by another"),
-    (5, 0, "no empty entry"),
-    (5, 0, "no empty entry, no free block"),
-    (2, 0, "no free block"),
-    (2, 0, "no free block for a new extent"),
     (0, 0, "written in place"),
     (0, 0, "written, new block"),
     (0, 0, "written, new extent"),
+];
+
+const WRITE_STOPS: &[Stop] = &[
+    (6, "record too high"),
+    (8, "held by another"),
+    (5, "no empty entry"),
+    (5, "no empty entry, no free block"),
+    (2, "no free block"),
+    (2, "no free block for a new extent"),
 ];
 
 const TEST_AND_WRITE: &[Row] = &[
@@ -171,6 +175,19 @@ fn own_rows(function: u32) -> &'static [Row] {
     }
 }
 
+fn stops(function: u32) -> &'static [Stop] {
+    match function {
+        33 => READ_STOPS,
+        34 | 40 => WRITE_STOPS,
+        _ => &[],
+    }
+}
+
+/// The rows of a refusal that can come after any number of records: H has sixteen times as many.
+fn rows_of_stop((a, why): Stop) -> impl Iterator<Item = Row> {
+    (0..MOST_RECORDS as u8).map(move |done| (a, 16 * done, why))
+}
+
 /// All rows that a function has.
 fn rows(function: u32) -> Vec<Row> {
     let mut rows = COMMON.to_vec();
@@ -178,7 +195,42 @@ fn rows(function: u32) -> Vec<Row> {
         rows.push(DRIVE);
     }
     rows.extend(own_rows(function));
+    rows.extend(stops(function).iter().copied().flat_map(rows_of_stop));
     rows
+}
+
+/// What the records of a run can take so that a later one finds none left.
+#[derive(Clone, Copy, Debug, PartialEq, Eq, PartialOrd, Ord)]
+pub enum Last {
+    Block,
+    Entry,
+}
+
+impl Last {
+    pub const ALL: [Last; 2] = [Last::Block, Last::Entry];
+}
+
+/// The farthest end that the records done went over.
+#[derive(Clone, Copy, Debug, PartialEq, Eq, PartialOrd, Ord)]
+pub enum Span {
+    OneBlock,
+    Blocks,
+    Extents,
+    Modules,
+}
+
+impl Span {
+    pub const ALL: [Span; 4] = [Span::OneBlock, Span::Blocks, Span::Extents, Span::Modules];
+
+    fn of(first: u32, last: u32) -> Span {
+        let parts = |size: u32| first / size != last / size;
+        match (parts(4_096), parts(128), parts(8)) {
+            (true, _, _) => Span::Modules,
+            (false, true, _) => Span::Extents,
+            (false, false, true) => Span::Blocks,
+            (false, false, false) => Span::OneBlock,
+        }
+    }
 }
 
 type Reached = BTreeMap<(u32, u8, u8, &'static str), u64>;
@@ -186,6 +238,10 @@ type Reached = BTreeMap<(u32, u8, u8, &'static str), u64>;
 #[derive(Clone, Default)]
 pub struct Coverage {
     calls: Reached,
+    /// How many records a 33, 34 or 40 has done of which nothing was refused.
+    lengths: BTreeMap<(u32, u32), u64>,
+    spans: BTreeMap<(u32, Span), u64>,
+    lasts: BTreeMap<(u32, Last), u64>,
     starts: BTreeMap<u32, u64>,
     checks: BTreeMap<u32, u64>,
     looks: BTreeMap<bool, u64>,
@@ -206,6 +262,22 @@ impl Coverage {
         };
         let answer = Answer::from_word(word).unwrap_or(Answer { a: 254, h: 254 });
         add(&mut self.calls, (known, answer.a, answer.h, why));
+    }
+
+    /// A 33, 34 or 40 has done these records, and met a refusal after them or not.
+    pub fn note_run(&mut self, function: u32, first: u32, done: u32, refused: bool) {
+        if done == 0 {
+            return;
+        }
+        add(&mut self.spans, (function, Span::of(first, first + done - 1)));
+        if !refused {
+            add(&mut self.lengths, (function, done));
+        }
+    }
+
+    /// A 34 or 40 has taken the last block or entry and then stopped for want of another.
+    pub fn note_last(&mut self, function: u32, last: Last) {
+        add(&mut self.lasts, (function, last));
     }
 
     pub fn note_start(&mut self, word: u32) {
@@ -251,6 +323,12 @@ impl Coverage {
         for (function, a, h, why) in reached.difference(&wanted) {
             complaints.push(format!("not allowed: function {function}, {a}/{h}, {why}"));
         }
+        let lengths = of_each(&RUN_FUNCTIONS, 1..=MOST_RECORDS);
+        complaints.extend(compare_keys("run of records", &self.lengths, &lengths));
+        let spans = of_each(&RUN_FUNCTIONS, Span::ALL);
+        complaints.extend(compare_keys("span of a run", &self.spans, &spans));
+        let lasts = of_each(&[34, 40], Last::ALL);
+        complaints.extend(compare_keys("last taken by a run", &self.lasts, &lasts));
         complaints.extend(compare_keys("Start", &self.starts, &[0, 255 + 256 * 13]));
         complaints.extend(compare_keys("image check", &self.checks, &[0, 1, 2]));
         complaints.extend(compare_keys("Look", &self.looks, &[false, true]));
@@ -299,6 +377,15 @@ impl Coverage {
             let answer = format!("{a}/{h}");
             let _ = writeln!(lines, "{label:>5}  {answer:<7} {count:>9}  {why}");
         }
+        for ((function, length), count) in &self.lengths {
+            let _ = writeln!(lines, "{function:>5}  records {count:>9}  {length}");
+        }
+        for ((function, span), count) in &self.spans {
+            let _ = writeln!(lines, "{function:>5}  span    {count:>9}  {span:?}");
+        }
+        for ((function, last), count) in &self.lasts {
+            let _ = writeln!(lines, "{function:>5}  last    {count:>9}  {last:?}");
+        }
         for (rule, count) in &self.image_rules {
             let _ = writeln!(lines, "image  broken  {count:>9}  {rule:?}");
         }
@@ -307,6 +394,12 @@ impl Coverage {
         }
         lines
     }
+}
+
+/// All of these for each of the functions.
+fn of_each<T: Copy>(functions: &[u32], all: impl IntoIterator<Item = T> + Clone) -> Vec<(u32, T)> {
+    let pairs = |&function: &u32| all.clone().into_iter().map(move |one| (function, one));
+    functions.iter().flat_map(pairs).collect()
 }
 
 fn cells<K>(table: &BTreeMap<K, u64>, label: impl Fn(&K) -> String) -> String {

@@ -1,6 +1,8 @@
-//! An engine is whatever serves the four functions.
+//! An engine is whatever serves the four functions, and perhaps has a plain side that makes a call
+//! as single calls.
 
 use crate::calls::{call_explained, Buffers, Numbers};
+use crate::singly::{is_run_function, singly};
 use crate::step::{Reply, Step};
 use crate::table::Table;
 
@@ -14,6 +16,11 @@ pub trait Engine {
     fn look(&mut self, user: u32, name: &mut [u8], record: u32, image: &mut [u8]) -> u32;
 
     fn call(&mut self, numbers: Numbers, buffers: Buffers) -> u32;
+
+    /// The same call made by the plain side on buffers of its own; None if it makes none of this.
+    fn singly(&mut self, _: Numbers, _: Buffers) -> Option<u32> {
+        None
+    }
 
     /// The replies to those steps that have one. The table is the engine's own from run to run.
     fn run(&mut self, table: &mut Table, steps: &[&Step]) -> Result<Vec<Reply>, String> {
@@ -49,5 +56,15 @@ impl Engine for Reference {
         let (answer, why) = call_explained(numbers, buffers);
         self.why = why;
         answer.word()
+    }
+
+    /// What is no run of several records is a single call already.
+    fn singly(&mut self, numbers: Numbers, buffers: Buffers) -> Option<u32> {
+        if !is_run_function(numbers.function) || numbers.count < 2 {
+            return None;
+        }
+        Some(singly(numbers, buffers, |numbers, buffers| {
+            call_explained(numbers, buffers).0.word()
+        }))
     }
 }

@@ -2,7 +2,7 @@
 //! wrong lengths and wild numbers in between.
 
 use crate::build::{empty_image, place_start, Entry, Fcb};
-use crate::calls::Numbers;
+use crate::calls::{Numbers, DMA_LENGTH, MOST_RECORDS};
 use crate::coverage::Coverage;
 use crate::damage::{break_directory, break_list};
 use crate::faults::{self, ImageRule, Item, ListRule};
@@ -10,6 +10,7 @@ use crate::history::blocks_of_groups;
 use crate::named;
 use crate::program::{CALL_MARK, START_MARK};
 use crate::random::Random;
+use crate::singly::is_run_function;
 use crate::stage::{Made, Stage};
 use crate::step::{changes, Step};
 use std::collections::BTreeSet;
@@ -35,12 +36,17 @@ const ILLEGAL: [&[u8; 11]; 6] = [
 ];
 
 /// Records at the edges of blocks, extents and modules.
-const EDGE_RECORDS: [u32; 24] = [
-    0, 1, 6, 7, 8, 9, 15, 16, 119, 120, 127, 128, 129, 135, 136, 4_095, 4_096, 4_097, 8_191, 262_015,
-    262_016, 262_128, 262_135, 262_143,
+const EDGE_RECORDS: [u32; 28] = [
+    0, 1, 6, 7, 8, 9, 15, 16, 112, 119, 120, 127, 128, 129, 135, 136, 4_080, 4_088, 4_095, 4_096, 4_097,
+    8_176, 8_191, 262_015, 262_016, 262_128, 262_135, 262_143,
 ];
 
-const EXTENTS: [u32; 8] = [1, 2, 31, 32, 33, 63, 2_046, 2_047];
+const LAST_EXTENT: u32 = 2_047;
+
+/// One past the last record.
+const END_OF_RECORDS: u32 = 262_144;
+
+const EXTENTS: [u32; 8] = [1, 2, 31, 32, 33, 63, 2_046, LAST_EXTENT];
 
 const WEIGHTS: [(u32, usize); 13] = [
     (15, 15),
@@ -48,9 +54,9 @@ const WEIGHTS: [(u32, usize); 13] = [
     (19, 5),
     (22, 9),
     (23, 6),
-    (33, 7),
-    (34, 13),
-    (40, 8),
+    (33, 10),
+    (34, 14),
+    (40, 12),
     (41, 10),
     (42, 15),
     (43, 5),
@@ -77,11 +83,18 @@ struct Held {
     record: u32,
 }
 
-/// Who calls, about which file and, where it matters, which record.
+/// The first record of a call, and how many come before the one that it may have to stop at.
+#[derive(Clone, Copy)]
+struct Aim {
+    first: u32,
+    before: u32,
+}
+
+/// Who calls, about which file and, where it matters, which records.
 struct Target {
     process: u8,
     name: [u8; 11],
-    record: Option<u32>,
+    aim: Option<Aim>,
 }
 
 pub struct Generator {
@@ -221,7 +234,7 @@ impl Generator {
         self.stage.serve(Step::Call {
             numbers,
             fcb: fcb.0.to_vec(),
-            dma: vec![process; 256],
+            dma: vec![process; DMA_LENGTH],
         });
     }
 
@@ -276,6 +289,9 @@ impl Generator {
             self.add_files(cast, &mut image);
         }
         if self.random.chance(25) {
+            self.use_up_blocks(&mut image);
+        }
+        if self.random.chance(30) {
             self.crowd(&mut image);
         }
         image
@@ -325,6 +341,9 @@ impl Generator {
     /// Extent 0, which a file must have, and perhaps others.
     fn some_extents(&mut self) -> BTreeSet<u32> {
         let mut extents = BTreeSet::from([0]);
+        if self.random.chance(10) {
+            extents.insert(LAST_EXTENT);
+        }
         while self.random.chance(35) {
             extents.insert(self.random.pick(&EXTENTS));
         }
@@ -343,12 +362,45 @@ impl Generator {
         if !self.random.chance(15) {
             entry.0[9] &= 127;
         }
-        for index in [0, 1, self.random.below(16), 15] {
-            if self.random.chance(45) && entry.0[16 + index] == 0 {
+        for index in self.some_blocks() {
+            if entry.0[16 + index] == 0 {
                 entry.0[16 + index] = free.pop().unwrap_or(0);
             }
         }
         entry
+    }
+
+    /// Places in a map: a few here and there, or the first or last ones, for runs to go along.
+    fn some_blocks(&mut self) -> Vec<usize> {
+        match self.random.below(10) {
+            0..3 => vec![14, 15],
+            3 => vec![0, 1, 2],
+            4 => vec![0, 1, 14, 15],
+            _ => [0, 1, self.random.below(16), 15]
+                .into_iter()
+                .filter(|_| self.random.chance(45))
+                .collect(),
+        }
+    }
+
+    /// Leaves at most three blocks free; on larger drives nothing is done.
+    fn use_up_blocks(&mut self, image: &mut [u8]) {
+        let used: BTreeSet<u8> = blocks_of_groups(image).iter().map(|(_, block)| *block).collect();
+        let mut free: Vec<u8> = (2..image.len() / 1024)
+            .map(|block| block as u8)
+            .filter(|block| !used.contains(block))
+            .collect();
+        self.random.shuffle(&mut free);
+        let leave = self.random.below(4);
+        let slot = self.empty_slots(image).first().copied();
+        let (Some(slot), 0..=16) = (slot, free.len().saturating_sub(leave)) else {
+            return;
+        };
+        let mut entry = Entry::of(7, *b"HOARD   XXX", 0);
+        for (index, block) in free.into_iter().skip(leave).enumerate() {
+            entry = entry.block(index, block);
+        }
+        image[32 * slot..32 * slot + 32].copy_from_slice(&entry.0);
     }
 
     /// Leaves at most two entries empty.
@@ -403,23 +455,29 @@ impl Generator {
     }
 
     fn a_call_of(&mut self, function: u32, cast: &Cast) -> Step {
-        let Target {
-            process,
-            name,
-            record,
-        } = self.target(function, cast);
+        let Target { process, name, aim } = self.target(function, cast);
         let user = cast.users[usize::from(process)];
         let open = self
             .opens()
             .into_iter()
             .find(|open| open.process == process && open.name == name);
-        let record = record.unwrap_or_else(|| self.record(user, &name, cast));
+        let aim = aim.unwrap_or_else(|| self.aim(function, user, &name, cast));
+        let record = aim.first;
+        let count = match is_run_function(function) {
+            true => self.count_of_run(aim.before),
+            false => self.count(),
+        };
         let fcb = self.fcb(function, name, record, open, cast);
-        let dma = self.dma(function, user, &name, record, open);
+        let mut dma = self.dma(function, count);
+        match (function, open) {
+            (42 | 43, Some(open)) => self.put_file_id(&mut dma, open),
+            (41, _) => self.put_tested_record(&mut dma, user, &name, record),
+            _ => {}
+        }
         let numbers = Numbers {
             function,
             process: u32::from(process),
-            count: self.count(),
+            count,
         };
         Step::Call { numbers, fcb, dma }
     }
@@ -427,7 +485,7 @@ impl Generator {
     fn target(&mut self, function: u32, cast: &Cast) -> Target {
         let is_of_records = matches!(function, 33 | 34 | 40..=43);
         if is_of_records && self.random.chance(35) {
-            if let Some(target) = self.contested_record(cast) {
+            if let Some(target) = self.contested_record(function, cast) {
                 return target;
             }
         }
@@ -437,7 +495,7 @@ impl Generator {
                 return Target {
                     process: open.process,
                     name: open.name,
-                    record: None,
+                    aim: None,
                 };
             }
         }
@@ -445,12 +503,12 @@ impl Generator {
         Target {
             process,
             name: self.name_for(function, process, cast),
-            record: None,
+            aim: None,
         }
     }
 
-    /// A record that is locked, or one a little before it, for its holder or for a rival.
-    fn contested_record(&mut self, cast: &Cast) -> Option<Target> {
+    /// A record that is locked, or one before it, for its holder or for a rival.
+    fn contested_record(&mut self, function: u32, cast: &Cast) -> Option<Target> {
         let locks = self.locks();
         let lock = self.random.pick_any(&locks)?;
         let user = |process: u8| cast.users[usize::from(process)];
@@ -461,11 +519,14 @@ impl Generator {
             .filter(|open| user(open.process) == user(lock.process))
             .collect();
         let rival = self.random.pick_any(&rivals).filter(|_| self.random.chance(60));
-        let back = self.random.pick(&[0, 0, 0, 1, 2]);
+        let before = match is_run_function(function) {
+            true => self.records_before(),
+            false => self.random.pick(&[0, 0, 0, 1, 2]),
+        };
         Some(Target {
             process: rival.map_or(lock.process, |rival| rival.process),
             name: lock.name,
-            record: Some(lock.record.saturating_sub(back)),
+            aim: Some(aim_at(lock.record, before)),
         })
     }
 
@@ -480,11 +541,24 @@ impl Generator {
         match self.random.below(100) {
             0..60 => 1,
             60..75 => 2,
-            75..82 => 16,
+            75..82 => MOST_RECORDS,
             82 => 0,
-            83 => 17,
-            _ => self.random.between(1, 16) as u32,
+            83 => MOST_RECORDS + 1,
+            _ => self.random.between(1, MOST_RECORDS as usize) as u32,
         }
+    }
+
+    /// Mostly enough records to meet the one after those before it.
+    fn count_of_run(&mut self, before: u32) -> u32 {
+        match self.random.below(100) {
+            0..20 => self.count(),
+            20..40 => MOST_RECORDS,
+            _ => self.random.between(before as usize + 1, MOST_RECORDS as usize) as u32,
+        }
+    }
+
+    fn records_before(&mut self) -> u32 {
+        self.random.below(MOST_RECORDS as usize) as u32
     }
 
     fn opens(&self) -> Vec<Held> {
@@ -551,6 +625,46 @@ impl Generator {
         self.random.pick_any(&idle)
     }
 
+    fn aim(&mut self, function: u32, user: u8, name: &[u8; 11], cast: &Cast) -> Aim {
+        if !is_run_function(function) || self.random.chance(40) {
+            return aim_at(self.record(user, name, cast), 0);
+        }
+        let end = self.end_of_run(user, name);
+        aim_at(end, self.records_before())
+    }
+
+    /// A record at which a run may have to stop: the first of a block or extent that is missing
+    /// behind one that is there, or else the first of any extent or the one past the last.
+    fn end_of_run(&mut self, user: u8, name: &[u8; 11]) -> u32 {
+        let groups = self.groups(user, name);
+        let mut missing: Vec<u32> = groups
+            .iter()
+            .map(|number| number + 1)
+            .filter(|number| !groups.contains(number))
+            .collect();
+        if missing.is_empty() || self.random.chance(15) {
+            let any_extent = 128 * self.random.pick(&EXTENTS);
+            return self.random.pick(&[END_OF_RECORDS, any_extent]);
+        }
+        let opens_an_extent = |number: &u32| number.is_multiple_of(16);
+        if missing.iter().any(opens_an_extent) && self.random.chance(60) {
+            missing.retain(opens_an_extent);
+        }
+        8 * self.random.pick(&missing)
+    }
+
+    /// The groups of a file that have a block.
+    fn groups(&self, user: u8, name: &[u8; 11]) -> BTreeSet<u32> {
+        if self.stage.image().len() < 2048 {
+            return BTreeSet::new();
+        }
+        blocks_of_groups(self.stage.image())
+            .iter()
+            .filter(|(group, _)| group.file.user == user && group.file.name == *name)
+            .map(|(group, _)| group.number)
+            .collect()
+    }
+
     fn record(&mut self, user: u8, name: &[u8; 11], cast: &Cast) -> u32 {
         if cast.lively && self.random.chance(50) {
             if let Some(record) = self.record_with_block(user, name) {
@@ -572,14 +686,7 @@ impl Generator {
 
     /// A record of a block that the file has, or one just beside it.
     fn record_with_block(&mut self, user: u8, name: &[u8; 11]) -> Option<u32> {
-        if self.stage.image().len() < 2048 {
-            return None;
-        }
-        let groups: Vec<u32> = blocks_of_groups(self.stage.image())
-            .iter()
-            .filter(|(group, _)| group.file.user == user && group.file.name == *name)
-            .map(|(group, _)| group.number)
-            .collect();
+        let groups: Vec<u32> = self.groups(user, name).into_iter().collect();
         let first = 8 * self.random.pick_any(&groups)?;
         let offset = self.random.between(0, 9) as u32;
         Some((first + offset).saturating_sub(u32::from(offset == 9) * 10))
@@ -641,14 +748,25 @@ impl Generator {
         }
     }
 
-    fn dma(&mut self, function: u32, user: u8, name: &[u8; 11], record: u32, open: Option<Held>) -> Vec<u8> {
-        let mut dma = match self.random.chance(50) {
-            true => self.random.bytes(256),
-            false => vec![self.random.byte(); 256],
+    /// Bytes at random, a byte for each record, or one for all; behind the records that the call
+    /// may look at mostly one byte, which the pipe need not carry.
+    fn dma(&mut self, function: u32, count: u32) -> Vec<u8> {
+        let records = match is_run_function(function) {
+            true => count.clamp(1, MOST_RECORDS) as usize,
+            false => 2,
         };
-        match (function, open) {
-            (42 | 43, Some(open)) => self.put_file_id(&mut dma, open),
-            (41, _) => self.put_tested_record(&mut dma, user, name, record),
+        let mut dma = vec![self.random.byte(); DMA_LENGTH];
+        match self.random.below(100) {
+            0..50 => {
+                let bytes = self.random.bytes(128 * records);
+                dma[..128 * records].copy_from_slice(&bytes);
+            }
+            50..70 => {
+                for record in dma.chunks_mut(128).take(records) {
+                    record.fill(self.random.byte());
+                }
+            }
+            70..73 => dma = self.random.bytes(DMA_LENGTH),
             _ => {}
         }
         dma
@@ -747,7 +865,7 @@ impl Generator {
         if let Step::Call { fcb, dma, .. } = &mut step {
             match self.random.chance(50) {
                 true => fcb.resize(self.random.pick(&[0, 1, 34, 35, 37, 72]), 0),
-                false => dma.resize(self.random.pick(&[0, 1, 128, 255, 257, 512]), 0),
+                false => dma.resize(self.random.pick(&[0, 1, 128, 256, 2_047, 2_049, 4_096]), 0),
             }
         }
         self.stage.serve(step);
@@ -932,6 +1050,14 @@ impl Generator {
 
     fn resize_image(&mut self, length: usize) {
         self.stage.serve(Step::Image { length, fill: 0xE5 });
+    }
+}
+
+fn aim_at(record: u32, before: u32) -> Aim {
+    let first = record.saturating_sub(before);
+    Aim {
+        first,
+        before: record - first,
     }
 }
 

@@ -121,7 +121,8 @@ impl History {
     }
 
     pub fn note(&mut self, call: &Noted) {
-        if call.answer != 0 {
+        let stored = records_stored(call);
+        if call.answer != 0 && stored == 0 {
             return;
         }
         let process = call.process as u8;
@@ -141,7 +142,7 @@ impl History {
             16 => self.close(process, file),
             19 => self.groups.retain(|group| group.file != file),
             23 => self.carry_over(file, low_bits(&call.fcb[17..28])),
-            34 | 40 => self.touch(file, record),
+            34 | 40 => self.touch(file, record..record + stored),
             42 => self.grant_run(process, file, record..record + call.count),
             43 => self.release_run(process, file, record..record + call.count),
             _ => {}
@@ -172,9 +173,12 @@ impl History {
         self.groups = self.groups.iter().map(carried).collect();
     }
 
-    fn touch(&mut self, file: FileName, record: u32) {
-        let number = record / 8;
-        self.groups.insert(Group { file, number });
+    fn touch(&mut self, file: FileName, records: Range<u32>) {
+        let touched = records.map(|record| Group {
+            file,
+            number: record / 8,
+        });
+        self.groups.extend(touched);
     }
 
     fn is_open_unlocked(&self, process: u8, file: FileName) -> bool {
@@ -348,6 +352,15 @@ impl History {
             ));
         }
         Ok(())
+    }
+}
+
+/// The records that a 34 or 40 has stored: all, or as many as the high four bits of H tell.
+fn records_stored(call: &Noted) -> u32 {
+    match (call.function, call.answer) {
+        (34 | 40, 0) => call.count,
+        (34 | 40, refusal) => refusal >> 12,
+        _ => 0,
     }
 }
 

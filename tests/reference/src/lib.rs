@@ -20,6 +20,7 @@ pub mod pipe;
 pub mod program;
 pub mod program_cases;
 pub mod random;
+pub mod singly;
 pub mod stage;
 pub mod step;
 pub mod table;
@@ -82,4 +83,30 @@ pub fn call(
         image,
     };
     calls::call_explained(numbers, buffers).0.word()
+}
+
+/// The same call made as single calls, one after another: the answer of the last one made.
+pub fn call_singly(
+    function: u32,
+    process: u32,
+    count: u32,
+    fcb: &mut [u8],
+    dma: &mut [u8],
+    list: &mut [u8],
+    image: &mut [u8],
+) -> u32 {
+    let numbers = Numbers {
+        function,
+        process,
+        count,
+    };
+    let buffers = Buffers {
+        fcb,
+        dma,
+        list,
+        image,
+    };
+    singly::singly(numbers, buffers, |numbers, buffers| {
+        calls::call_explained(numbers, buffers).0.word()
+    })
 }

@@ -3,8 +3,37 @@
 use crate::calls::{Buffers, Numbers};
 use crate::engine::Engine;
 
+/// mpm_call and mpm_singly have the same parameters.
+type Call = unsafe extern "C" fn(
+    u32,
+    u32,
+    u32,
+    *mut u8,
+    usize,
+    *mut u8,
+    usize,
+    *mut u8,
+    usize,
+    *mut u8,
+    usize,
+) -> u32;
+
 extern "C" {
     fn mpm_call(
+        function: u32,
+        process: u32,
+        count: u32,
+        fcb: *mut u8,
+        fcb_len: usize,
+        dma: *mut u8,
+        dma_len: usize,
+        list: *mut u8,
+        list_len: usize,
+        image: *mut u8,
+        image_len: usize,
+    ) -> u32;
+
+    fn mpm_singly(
         function: u32,
         process: u32,
         count: u32,
@@ -42,7 +71,7 @@ extern "C" {
 
 pub struct Linked;
 
-// SAFETY, of all four: each pointer comes with the length of the slice it is taken from, and the
+// SAFETY, of all five: each pointer comes with the length of the slice it is taken from, and the
 // slices are separate and stay borrowed until the call returns.
 impl Engine for Linked {
     fn start(&mut self, numbers: [u32; 3], users: &mut [u8], list: &mut [u8]) -> u32 {
@@ -78,26 +107,36 @@ impl Engine for Linked {
     }
 
     fn call(&mut self, numbers: Numbers, buffers: Buffers) -> u32 {
-        let Buffers {
-            fcb,
-            dma,
-            list,
-            image,
-        } = buffers;
-        unsafe {
-            mpm_call(
-                numbers.function,
-                numbers.process,
-                numbers.count,
-                fcb.as_mut_ptr(),
-                fcb.len(),
-                dma.as_mut_ptr(),
-                dma.len(),
-                list.as_mut_ptr(),
-                list.len(),
-                image.as_mut_ptr(),
-                image.len(),
-            )
-        }
+        make(mpm_call, numbers, buffers)
+    }
+
+    /// Every call, not only runs.
+    fn singly(&mut self, numbers: Numbers, buffers: Buffers) -> Option<u32> {
+        Some(make(mpm_singly, numbers, buffers))
+    }
+}
+
+fn make(call: Call, numbers: Numbers, buffers: Buffers) -> u32 {
+    let Buffers {
+        fcb,
+        dma,
+        list,
+        image,
+    } = buffers;
+    // SAFETY: as above.
+    unsafe {
+        call(
+            numbers.function,
+            numbers.process,
+            numbers.count,
+            fcb.as_mut_ptr(),
+            fcb.len(),
+            dma.as_mut_ptr(),
+            dma.len(),
+            list.as_mut_ptr(),
+            list.len(),
+            image.as_mut_ptr(),
+            image.len(),
+        )
     }
 }

@@ -2,17 +2,17 @@
 //! of every table, so that each run has reached them all.
 
 use crate::build::{empty_image, image_with, lock_item, name, open_item, put_item, Entry, Fcb};
-use crate::calls::Numbers;
+use crate::calls::{Numbers, DMA_LENGTH, MOST_RECORDS, RUN_FUNCTIONS};
 use crate::coverage::FUNCTIONS;
 use crate::damage::{break_directory, break_list};
 use crate::faults::{ImageRule, ListRule};
 use crate::random::Random;
-use crate::stage::Stage;
+use crate::stage::{changed_dma, Stage};
 use crate::step::Step;
 
 pub type Play = fn(&mut Script);
 
-pub const CASES: [(&str, Play); 26] = [
+pub const CASES: [(&str, Play); 34] = [
     ("the session", session),
     ("open again at the open limit and with a full list", open_again),
     ("rename to itself", rename_to_itself),
@@ -36,6 +36,17 @@ pub const CASES: [(&str, Play); 26] = [
     ("rows of Rename", rows_of_rename),
     ("rows of Read", rows_of_read),
     ("rows of the writing calls", rows_of_writing),
+    ("a read stops after 0 to 15 records", reads_that_stop),
+    ("a write stops after 0 to 15 records", writes_that_stop),
+    ("behind a refusal nothing is done", nothing_behind_a_refusal),
+    ("a run takes the last block", last_block_of_a_run),
+    ("a run takes the last entry", last_entry_of_a_run),
+    ("40 clears a block once", zero_fill_of_a_run),
+    (
+        "runs over the ends of blocks, extents and modules",
+        runs_over_ends,
+    ),
+    ("one record, whatever the count", one_record_only),
     ("rows of Lock and Unlock", rows_of_locking),
     ("Free Space and Terminate", free_space_and_terminate),
     ("Look", look),
@@ -84,6 +95,14 @@ impl Asked<'_, '_> {
         self
     }
 
+    /// Each record of the DMA has a byte of its own, one more than that of the record before.
+    fn rising(mut self, first: u8) -> Self {
+        for (byte, record) in (first..).zip(self.dma.chunks_mut(128)) {
+            record.fill(byte);
+        }
+        self
+    }
+
     fn lengths(mut self, fcb: usize, dma: usize) -> Self {
         self.fcb.resize(fcb, 0);
         self.dma.resize(dma, 0);
@@ -91,18 +110,34 @@ impl Asked<'_, '_> {
     }
 
     fn gives(self, a: u8, h: u8) {
-        let numbers = self.numbers;
+        self.gives_and_leaves(a, h, None);
+    }
+
+    /// The DMA then begins with records of these bytes, and its rest is as it was.
+    fn reads(self, a: u8, h: u8, records: &[u8]) {
+        let mut dma = self.dma.clone();
+        for (byte, record) in records.iter().zip(dma.chunks_mut(128)) {
+            record.fill(*byte);
+        }
+        self.gives_and_leaves(a, h, Some(dma));
+    }
+
+    fn gives_and_leaves(self, a: u8, h: u8, wanted_dma: Option<Vec<u8>>) {
+        let (numbers, dma) = (self.numbers, self.dma.clone());
         let reply = self.script.stage.serve(Step::Call {
             numbers,
             fcb: self.fcb,
             dma: self.dma,
         });
-        let got = reply.map(|reply| reply.answer);
+        let got = reply.as_ref().map(|reply| reply.answer);
         if got != Some(u32::from(a) + 256 * u32::from(h)) {
-            let case = self.script.case;
             self.script
-                .stage
-                .complain(format!("{case}: {numbers:?} gave {got:?}, not {a}/{h}"));
+                .complain(&format!("{numbers:?} gave {got:?}, not {a}/{h}"));
+        }
+        let left = reply.map(|reply| changed_dma(&dma, &reply));
+        if wanted_dma.is_some() && left != wanted_dma {
+            self.script
+                .complain(&format!("{numbers:?} left another DMA than it should"));
         }
     }
 
@@ -151,7 +186,7 @@ impl<'a> Script<'a> {
                 count: 1,
             },
             fcb: fcb.0.to_vec(),
-            dma: vec![0; 256],
+            dma: vec![0; DMA_LENGTH],
         }
     }
 
@@ -174,8 +209,13 @@ impl<'a> Script<'a> {
     }
 
     fn image_has(&mut self, at: usize, bytes: &[u8]) {
-        if self.stage.image()[at..at + bytes.len()] != *bytes {
-            self.complain(&format!("the image at {at} is not {bytes:?}"));
+        let there = &self.stage.image()[at..at + bytes.len()];
+        let differing = (at..)
+            .zip(there.iter().zip(bytes))
+            .find(|(_, (is, wanted))| is != wanted);
+        if let Some((at, (is, wanted))) = differing {
+            let fault = format!("the image at {at} has {is:02X}, not {wanted:02X}");
+            self.complain(&fault);
         }
     }
 
@@ -516,41 +556,39 @@ fn common_refusals(script: &mut Script) {
         let spare = [function == 46, function == 143].contains(&true);
         match spare {
             true => script.call(0, function, wrong_drive).ok(),
-            false => script.call(0, function, wrong_drive).gives(255, 4),
+            false => script.call(0, function, wrong_drive).count(16).gives(255, 4),
         }
         script.stage.damaged();
         script.stage.serve(Step::PatchList {
             at: 0,
             bytes: vec![0],
         });
-        script.call(0, function, wrong_drive).gives(255, 12);
+        script.call(0, function, wrong_drive).count(16).gives(255, 12);
         script.stage.serve(Step::PatchImage {
             at: 0,
             bytes: vec![99],
         });
-        script.call(0, function, wrong_drive).gives(255, 1);
+        script.call(0, function, wrong_drive).count(16).gives(255, 1);
         script.stage.serve(Step::Image { length: 5, fill: 0 });
         script.call(0, function, wrong_drive).gives(255, 1);
         script.call(16, function, wrong_drive).gives(255, 13);
         script.call(0, function, wrong_drive).count(0).gives(255, 13);
         script.call(0, function, wrong_drive).count(17).gives(255, 13);
-        script
-            .call(0, function, wrong_drive)
-            .lengths(35, 256)
-            .gives(255, 13);
-        script
-            .call(0, function, wrong_drive)
-            .lengths(37, 256)
-            .gives(255, 13);
-        script
-            .call(0, function, wrong_drive)
-            .lengths(36, 128)
-            .gives(255, 13);
-        script
-            .call(0, function, wrong_drive)
-            .lengths(36, 257)
-            .gives(255, 13);
-        script.call(0, function, wrong_drive).lengths(0, 0).gives(255, 13);
+        for (fcb, dma) in [
+            (35, 2_048),
+            (37, 2_048),
+            (36, 128),
+            (36, 256),
+            (36, 2_047),
+            (36, 2_049),
+            (0, 0),
+        ] {
+            script
+                .call(0, function, wrong_drive)
+                .count(16)
+                .lengths(fcb, dma)
+                .gives(255, 13);
+        }
         for length in [0, 1298, 1300] {
             script.stage.serve(Step::List { length, fill: 0 });
             script.call(0, function, wrong_drive).gives(255, 13);
@@ -755,7 +793,7 @@ fn rows_of_read(script: &mut Script) {
     script.call(0, 33, shared().record(262_144)).gives(10, 0);
     script.call(0, 33, Fcb::named("")).gives(10, 0);
     script.call(1, 15, shared()).ok();
-    script.call(0, 33, shared()).gives(10, 0);
+    script.call(0, 33, shared()).count(16).gives(10, 0);
     script.call(0, 15, shared()).ok();
     script.call(1, 42, shared()).count(8).ok();
     for record in [128, 4_095, 4_224, 262_143] {
@@ -776,11 +814,14 @@ fn rows_of_writing(script: &mut Script) {
         let wild = shared().record(262_144);
         script.world(&read_only, [9, 9, 9]);
         script.call(0, function, wild).gives(10, 0);
+        script.call(0, function, shared()).count(16).gives(10, 0);
         script.call(0, 15, shared()).ok();
         script.call(0, function, wild).gives(255, 3);
+        script.call(0, function, shared()).count(16).gives(255, 3);
         script.world(&one_file(6), [64, 9, 9]);
         script.call(0, 15, file().read_only()).ok();
         script.call(0, function, wild).gives(255, 3);
+        script.call(0, function, shared()).count(16).gives(255, 3);
         script.call(0, 16, file()).ok();
         script.call(0, 15, shared()).ok();
         script.call(1, 15, shared()).ok();
@@ -804,6 +845,332 @@ fn rows_of_writing(script: &mut Script) {
         script.call(0, function, file().record(129)).fill(7).ok();
         script.call(0, function, file().record(4_095)).fill(6).ok();
     }
+}
+
+/// The byte of which a record of `way` is full.
+fn byte_of(record: u32) -> u8 {
+    (record % 101) as u8
+}
+
+/// Where the records of `way` lie: sixteen before record 48, sixteen before the end of extent 0,
+/// sixteen before the end of module 0 and the last sixteen that there can be. Behind each of them
+/// something is missing: a block, an extent, an extent of the next module, a record number.
+const WAY: [(u32, [usize; 2], [u8; 2]); 4] = [
+    (0, [4, 5], [2, 3]),
+    (0, [14, 15], [4, 5]),
+    (31, [14, 15], [6, 7]),
+    (2_047, [14, 15], [8, 9]),
+];
+const WAY_BLOCKS: usize = 10;
+
+const NO_BLOCK: u32 = 48;
+const NO_EXTENT: u32 = 128;
+const NO_MODULE: u32 = 4_096;
+const NO_RECORD: u32 = 262_144;
+
+fn way(blocks: usize) -> Vec<u8> {
+    let extent_0 = Entry::named(FILE)
+        .block(4, 2)
+        .block(5, 3)
+        .block(14, 4)
+        .block(15, 5);
+    let extent_31 = Entry::named(FILE).extent(31).block(14, 6).block(15, 7);
+    let last = Entry::named(FILE).extent(2_047).block(14, 8).block(15, 9);
+    let mut image = image_with(blocks, &[extent_0, extent_31, last]);
+    for (record, at) in way_records() {
+        image[at..at + 128].fill(byte_of(record));
+    }
+    image
+}
+
+/// Each record of `way` and where it lies.
+fn way_records() -> impl Iterator<Item = (u32, usize)> {
+    WAY.into_iter().flat_map(|(extent, indices, blocks)| {
+        (0..16u32).map(move |i| {
+            let half = (i / 8) as usize;
+            let record = 128 * extent + 8 * indices[half] as u32 + i % 8;
+            (record, 1024 * usize::from(blocks[half]) + 128 * (i % 8) as usize)
+        })
+    })
+}
+
+/// Where the record of `way` lies; it must be one.
+fn way_at(record: u32) -> usize {
+    way_records()
+        .find(|(is, _)| *is == record)
+        .map_or(0, |(_, at)| at)
+}
+
+/// The image with no empty entry.
+fn without_entries(mut image: Vec<u8>) -> Vec<u8> {
+    for slot in 0..64 {
+        if image[32 * slot] == 0xE5 {
+            crate::build::put_entry(&mut image, slot, Entry::of(9, name("FILLER"), slot as u32));
+        }
+    }
+    crate::build::put_entry(&mut image, 63, Entry::of(9, name("FILLER"), 0));
+    image
+}
+
+fn reads_that_stop(script: &mut Script) {
+    script.world(&way(WAY_BLOCKS), [9, 9, 9]);
+    script.call(0, 15, shared()).ok();
+    script.call(1, 15, shared()).ok();
+    script.call(1, 42, shared().record(120)).id(1, 0).count(5).ok();
+    for (end, code) in [(NO_BLOCK, 1), (NO_EXTENT, 4), (NO_MODULE, 4), (NO_RECORD, 6)] {
+        for done in 0..MOST_RECORDS {
+            let first = shared().record(end - done);
+            let bytes: Vec<u8> = (end - done..end).map(byte_of).collect();
+            for count in done + 1..=MOST_RECORDS {
+                let call = script.call(0, 33, first).count(count).rising(0xC0);
+                call.reads(code, 16 * done as u8, &bytes);
+            }
+            if done > 0 {
+                let call = script.call(0, 33, first).count(done).rising(0xC0);
+                call.reads(0, 0, &bytes);
+            }
+        }
+        let first = shared().record(end - 16);
+        let bytes: Vec<u8> = (end - 16..end).map(byte_of).collect();
+        script
+            .call(0, 33, first)
+            .count(16)
+            .rising(0xC0)
+            .reads(0, 0, &bytes);
+    }
+}
+
+fn writes_that_stop(script: &mut Script) {
+    let no_block = way(WAY_BLOCKS);
+    let no_entry = without_entries(way(WAY_BLOCKS + 1));
+    let neither = without_entries(way(WAY_BLOCKS));
+    for function in [34, 40] {
+        for (image, end, code) in [
+            (&no_block, NO_BLOCK, 2),
+            (&no_block, NO_EXTENT, 2),
+            (&no_block, NO_MODULE, 2),
+            (&no_block, NO_RECORD, 6),
+            (&no_entry, NO_EXTENT, 5),
+            (&no_entry, NO_MODULE, 5),
+            (&neither, NO_EXTENT, 5),
+            (&neither, NO_MODULE, 5),
+        ] {
+            stops(script, function, image, end, code);
+        }
+        // Another's lock on the last record that has a block; the fifteen before it are free.
+        for done in 0..MOST_RECORDS {
+            script.world(&no_block, [9, 9, 9]);
+            script.call(0, 15, shared()).ok();
+            script.call(1, 15, shared()).ok();
+            script.call(1, 42, shared().record(127)).id(1, 0).ok();
+            stop_after(script, function, 127, 8, done);
+        }
+    }
+}
+
+/// Runs towards `end`, each on a fresh image, of which 0 to 15 records are done.
+fn stops(script: &mut Script, function: u32, image: &[u8], end: u32, code: u8) {
+    for done in 0..MOST_RECORDS {
+        script.world(image, [9, 9, 9]);
+        script.call(0, 15, shared()).ok();
+        stop_after(script, function, end, code, done);
+    }
+}
+
+fn stop_after(script: &mut Script, function: u32, end: u32, code: u8, done: u32) {
+    let before = script.stage.image().to_vec();
+    let first = end - done;
+    let call = script.call(0, function, shared().record(first));
+    call.count(16).rising(0xC0).gives(code, 16 * done as u8);
+    let mut wanted = before;
+    for record in first..end {
+        let at = way_at(record);
+        wanted[at..at + 128].fill(0xC0 + (record - first) as u8);
+    }
+    if done > 0 {
+        raise_way_counts(&mut wanted, end - 1);
+    }
+    if script.stage.image() != wanted {
+        script.complain(&format!(
+            "{function} of {done} records before {end} left another image"
+        ));
+    }
+}
+
+/// Raises the count of the last record's extent, which is 0 in `way`.
+fn raise_way_counts(image: &mut [u8], last: u32) {
+    let slot = match last / 128 {
+        0 => 0,
+        31 => 1,
+        _ => 2,
+    };
+    image[32 * slot + 15] = (last % 128) as u8 + 1;
+}
+
+/// Records behind the refused one could be done, were they asked for alone.
+fn nothing_behind_a_refusal(script: &mut Script) {
+    let mut image = one_file(5);
+    image[2048..].fill(0x11);
+    for function in [34, 40] {
+        script.world(&image, [9, 9, 9]);
+        script.call(0, 15, shared()).ok();
+        script.call(1, 15, shared()).ok();
+        let call = script.call(0, 33, shared().record(4)).count(16).rising(0xC0);
+        call.reads(1, 16 * 4, &[0x11; 4]);
+        let call = script.call(0, function, shared().record(4)).count(16);
+        call.rising(0x40).gives(2, 16 * 4);
+        script.image_has(2048 + 7 * 128, &[0x43; 128]);
+        script.image_has(3072, &[0x11; 1024]);
+        script
+            .call(0, function, shared().record(16))
+            .count(8)
+            .fill(0x11)
+            .ok();
+        script.call(1, 42, shared().record(3)).id(1, 0).ok();
+        let call = script.call(0, function, shared()).count(8);
+        call.rising(0x60).gives(8, 16 * 3);
+        script.image_has(2048 + 2 * 128, &[0x62; 128]);
+        script.image_has(2048 + 3 * 128, &[0x11; 128]);
+        script.image_has(2048 + 4 * 128, &[0x40; 128]);
+        script
+            .call(0, function, shared().record(4))
+            .count(4)
+            .rising(0x60)
+            .ok();
+    }
+}
+
+fn last_block_of_a_run(script: &mut Script) {
+    for (function, rest) in [(34, 0xE5), (40, 0)] {
+        // Blocks 2 and 3 are free. Records 5 to 7 take the one, 8 to 15 the other; 16 gets none.
+        script.world(&empty_image(4), [9, 9, 9]);
+        script.call(0, 22, shared()).ok();
+        let call = script.call(0, function, shared().record(5));
+        call.count(16).rising(0x40).gives(2, 16 * 11);
+        script.image_has(15, &[16, 2, 3, 0]);
+        script.image_has(2048, &[rest; 5 * 128]);
+        for (i, byte) in (5..16).zip(0x40..) {
+            script.image_has(2048 + 128 * i, &[byte; 128]);
+        }
+        // At the end of an extent the next one would need an entry, and that is free.
+        script.world(&empty_image(3), [9, 9, 9]);
+        script.call(0, 22, shared()).ok();
+        let call = script.call(0, function, shared().record(122));
+        call.count(16).rising(0x40).gives(2, 16 * 6);
+        script.image_has(15, &[128]);
+        script.image_has(31, &[2]);
+        script.image_has(32, &[0xE5; 32]);
+        script.call(0, 46, shared()).ok();
+        script.call(0, function, shared().record(120)).count(8).ok();
+    }
+}
+
+fn last_entry_of_a_run(script: &mut Script) {
+    for function in [34, 40] {
+        // Extent 1 takes the last empty entry; for extent 2 there is none.
+        let mut image = without_entries(way(WAY_BLOCKS + 4));
+        image[32 * 5] = 0xE5;
+        script.world(&image, [9, 9, 9]);
+        script.call(0, 15, shared()).ok();
+        let call = script.call(0, function, shared().record(250));
+        call.count(16).rising(0x40).gives(5, 16 * 6);
+        script.image_has(32 * 5 + 12, &[1, 0, 0, 128]);
+        script.image_has(32 * 5 + 31, &[10]);
+        script.image_has(1024 * 10 + 128 * 2, &[0x40; 128]);
+        script.image_has(1024 * 10 + 128 * 7, &[0x45; 128]);
+        script.call(0, 46, shared()).ok();
+        // A run over two extents that are both missing takes an entry and a block for each.
+        script.world(&empty_image(9), [9, 9, 9]);
+        script.call(0, 22, shared()).ok();
+        script
+            .call(0, function, shared().record(4_090))
+            .count(16)
+            .rising(0x40)
+            .ok();
+        script.image_has(32 + 12, &[31, 0, 0, 128]);
+        script.image_has(32 + 31, &[2]);
+        script.image_has(64 + 12, &[0, 0, 1, 10, 3, 4, 0]);
+        script.image_has(2048 + 7 * 128, &[0x45; 128]);
+        script.image_has(3072, &[0x46; 128]);
+        script.image_has(4096 + 128, &[0x4F; 128]);
+    }
+}
+
+fn zero_fill_of_a_run(script: &mut Script) {
+    for (function, rest) in [(34, 0xE5), (40, 0)] {
+        // Block 10 is there with records 16 to 23, block 11 is taken for 24 to 31.
+        let mut image = way(WAY_BLOCKS + 2);
+        image[18] = 10;
+        script.world(&image, [9, 9, 9]);
+        script.call(0, 15, shared()).ok();
+        script
+            .call(0, function, shared().record(19))
+            .count(9)
+            .rising(0x40)
+            .ok();
+        script.image_has(15, &[28]);
+        script.image_has(16, &[0, 0, 10, 11, 2, 3]);
+        script.image_has(1024 * 10, &[0xE5; 3 * 128]);
+        for (i, byte) in (3..12).zip(0x40..) {
+            script.image_has(1024 * 10 + 128 * i, &[byte; 128]);
+        }
+        script.image_has(1024 * 11 + 4 * 128, &[rest; 4 * 128]);
+        // What an earlier call took is not cleared either.
+        script
+            .call(0, function, shared().record(26))
+            .count(3)
+            .rising(0x60)
+            .ok();
+        for (i, byte) in [0x45, 0x46, 0x60, 0x61, 0x62, rest].into_iter().enumerate() {
+            script.image_has(1024 * 11 + 128 * i, &[byte; 128]);
+        }
+    }
+}
+
+fn runs_over_ends(script: &mut Script) {
+    for function in [34, 40] {
+        for start in [0, 3, 120, 121, 4_081, 4_089, 262_128] {
+            script.world(&empty_image(9), [9, 9, 9]);
+            script.call(0, 22, shared()).ok();
+            for count in 1..=MOST_RECORDS {
+                let first = shared().record(start);
+                let byte = 7 * count as u8;
+                let bytes: Vec<u8> = (byte..).take(count as usize).collect();
+                script.call(0, function, first).count(count).rising(byte).ok();
+                let call = script.call(0, 33, first).count(count).rising(0xC0);
+                call.reads(0, 0, &bytes);
+            }
+        }
+    }
+}
+
+fn one_record_only(script: &mut Script) {
+    let mut image = one_file(6);
+    image[2048..3072].fill(0x11);
+    script.world(&image, [64, 9, 9]);
+    script.call(0, 15, shared()).count(16).ok();
+    script.call(1, 15, shared()).count(16).ok();
+    script
+        .call(0, 41, shared().record(2))
+        .records(0x11, 0x22)
+        .count(16)
+        .ok();
+    script.image_has(2048 + 2 * 128, &[0x22; 128]);
+    script.image_has(2048 + 3 * 128, &[0x11; 128]);
+    script.call(0, 41, shared().record(7)).count(16).gives(7, 0);
+    script.call(0, 41, shared().record(262_143)).count(16).gives(4, 0);
+    // The whole run of a 42 is refused, and no bit tells of the records before.
+    script.call(1, 42, shared().record(5)).id(1, 0).ok();
+    script.call(0, 42, shared()).count(8).gives(8, 0);
+    script.call(0, 42, shared()).count(9).gives(1, 0);
+    script.call(0, 42, shared().record(262_140)).count(16).gives(6, 0);
+    script.call(0, 43, shared().record(262_140)).count(16).gives(6, 0);
+    script.list_has(3, [0; 20]);
+    for function in RUN_FUNCTIONS {
+        // One record has no bits, whatever it meets.
+        script.call(0, function, shared().record(262_144)).gives(6, 0);
+    }
+    script.call(0, 46, shared()).count(16).fill(0xAB).ok();
 }
 
 fn rows_of_locking(script: &mut Script) {

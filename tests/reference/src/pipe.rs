@@ -156,6 +156,7 @@ impl Pipe {
         last.unwrap_or(Reply {
             answer: u32::MAX,
             broken_guards: 0,
+            apart: None,
             changes: [None, None, None, None],
         })
     }

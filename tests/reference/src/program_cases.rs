@@ -69,6 +69,7 @@ impl ProgramCases {
             35..40 => self.lengthen_input(&mut case),
             40..55 => self.change_disk(&mut case),
             55..57 => self.spoil_anything(&mut case),
+            57..60 => shorten_records(&mut case),
             _ => {}
         }
         case
@@ -144,10 +145,22 @@ impl ProgramCases {
 
     fn spoil_anything(&mut self, case: &mut ProgramCase) {
         case.kind = "nonsense input";
-        let length = self.random.below(1000);
+        let length = self.random.below(3 * CALL_LENGTH);
         case.input = self.random.bytes(length);
         if self.random.chance(50) && length > 2 {
             case.input[..2].copy_from_slice(b"MS");
         }
     }
+}
+
+/// Gives each call record a DMA of 256 bytes, as it had when a call was for one record.
+fn shorten_records(case: &mut ProgramCase) {
+    const OLD_LENGTH: usize = 297;
+    case.kind = "records of the old length";
+    let (start, calls) = case.input.split_at(START_LENGTH);
+    let shortened = calls.chunks(CALL_LENGTH).map(|record| &record[..OLD_LENGTH]);
+    case.input = std::iter::once(start)
+        .chain(shortened)
+        .collect::<Vec<_>>()
+        .concat();
 }

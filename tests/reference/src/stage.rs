@@ -1,10 +1,14 @@
 //! Runs steps on the reference, keeps them with their replies, and watches over every one:
-//! coverage, the history, refusals that change nothing, and the second reading of soundness.
+//! coverage, the history, buffers that may not change, runs made once more as single calls, and
+//! the second reading of soundness.
 
-use crate::coverage::Coverage;
+use crate::calls::Numbers;
+use crate::comparison::describe_step;
+use crate::coverage::{Coverage, Last};
 use crate::engine::Reference;
 use crate::faults::{block_of, image_faults, is_legal_name, list_faults, ImageRule};
 use crate::history::{groups_with_block, History, Kept, Noted};
+use crate::singly::is_run_function;
 use crate::step::{set_image, set_list, Reply, Step};
 use crate::table::Table;
 
@@ -117,14 +121,17 @@ impl Stage {
             Step::Look { user, name, record } => self.watch_look(*user, name, *record, reply),
             _ => {}
         }
-        let must_not_change =
-            reply.answer != 0 && matches!(step, Step::Start { .. } | Step::Call { .. } | Step::Check);
-        let is_look_or_check = matches!(step, Step::Check | Step::Look { .. });
-        if (must_not_change || is_look_or_check) && reply.changes.iter().any(|one| *one != Some(Vec::new())) {
-            self.complain("a buffer changed that may not".to_string());
+        let may_change = buffers_that_may_change(step, reply.answer);
+        for (changes, may_change) in reply.changes.iter().zip(may_change) {
+            if !may_change && *changes != Some(Vec::new()) {
+                self.complain("a buffer changed that may not".to_string());
+            }
+        }
+        if reply.apart.is_some() {
+            self.complain("a run and its single calls differ".to_string());
         }
         if self.faults.len() > faults_before {
-            self.complain(format!("  at {step:?}"));
+            self.complain(format!("  at {}", describe_step(step)));
         }
     }
 
@@ -175,6 +182,7 @@ impl Stage {
         };
         self.coverage
             .note_call(numbers.function, reply.answer, self.reference.why);
+        self.watch_run(*numbers, fcb, reply);
         if self.damaged || self.served.is_multiple_of(SOUNDNESS_INTERVAL) {
             self.compare_soundness(reply.answer);
         }
@@ -201,6 +209,26 @@ impl Stage {
         }
     }
 
+    fn watch_run(&mut self, numbers: Numbers, fcb: &[u8], reply: &Reply) {
+        let done = records_done(numbers, reply.answer);
+        if done == 0 {
+            return;
+        }
+        let first = u32::from_le_bytes([fcb[33], fcb[34], fcb[35], 0]);
+        self.coverage
+            .note_run(numbers.function, first, done, reply.answer != 0);
+        if let Some(last) = last_taken(reply) {
+            self.coverage.note_last(numbers.function, last);
+        }
+        let past_them = |at: usize, length: usize| at + length > 128 * done as usize;
+        let dma_changes = reply.changes[1].iter().flatten();
+        for change in dma_changes {
+            if past_them(change.at, change.bytes.len()) {
+                self.complain("the DMA changed past the records done".to_string());
+            }
+        }
+    }
+
     fn compare_soundness(&mut self, answer: u32) {
         if answer == WRONG_NUMBERS {
             return;
@@ -220,7 +248,55 @@ impl Stage {
     }
 }
 
-fn changed_dma(dma: &[u8], reply: &Reply) -> Vec<u8> {
+/// How many records a 33, 34 or 40 has done; 0 for the others.
+fn records_done(numbers: Numbers, answer: u32) -> u32 {
+    match (is_run_function(numbers.function), answer) {
+        (false, _) => 0,
+        (true, 0) => numbers.count,
+        (true, refusal) => refusal >> 12,
+    }
+}
+
+/// What a run has used up itself, if it stopped because there was no more of it.
+fn last_taken(reply: &Reply) -> Option<Last> {
+    let is_user_byte = |at: &usize| at.is_multiple_of(32);
+    let is_block_number = |at: &usize| at % 32 >= 16;
+    let mut changed = reply.changes[3]
+        .iter()
+        .flatten()
+        .flat_map(|change| change.at..change.at + change.bytes.len())
+        .filter(|at| *at < 2048);
+    match reply.answer % 256 {
+        2 => changed.find(is_block_number).map(|_| Last::Block),
+        5 => changed.find(is_user_byte).map(|_| Last::Entry),
+        _ => None,
+    }
+}
+
+/// FCB, DMA, list and image: which of them a step may change that was answered so.
+fn buffers_that_may_change(step: &Step, answer: u32) -> [bool; 4] {
+    const NONE: [bool; 4] = [false; 4];
+    let accepted = answer == 0;
+    let numbers = match step {
+        Step::Start { .. } => return [false, false, accepted, false],
+        Step::Call { numbers, .. } => *numbers,
+        _ => return NONE,
+    };
+    if !accepted && records_done(numbers, answer) == 0 {
+        return NONE;
+    }
+    match numbers.function {
+        15 => [true, false, true, false],
+        22 => [true, false, true, true],
+        33 | 46 => [false, true, false, false],
+        19 | 23 | 34 | 40 | 41 => [false, false, false, true],
+        16 | 42 | 43 | 143 => [false, false, true, false],
+        _ => NONE,
+    }
+}
+
+/// The DMA after the call.
+pub fn changed_dma(dma: &[u8], reply: &Reply) -> Vec<u8> {
     let mut dma = dma.to_vec();
     for change in reply.changes[1].iter().flatten() {
         dma[change.at..change.at + change.bytes.len()].copy_from_slice(&change.bytes);

@@ -5,6 +5,7 @@ use crate::calls::Numbers;
 /// The longest buffers that a step may set; the pipe's other end has areas of these sizes.
 pub const MAX_IMAGE: usize = 258 * 1024;
 pub const MAX_LIST: usize = 4096;
+pub const MAX_DMA: usize = 4096;
 
 #[derive(Clone, Debug, PartialEq, Eq)]
 pub enum Step {
@@ -62,17 +63,29 @@ pub struct Change {
 /// The changes of one buffer; None if they are more than any right call makes.
 pub type Changes = Option<Vec<Change>>;
 
-pub const MAX_CHANGES: usize = 1024;
+/// A 40 of sixteen records can change three blocks and two entries, every second byte of them.
+pub const MAX_CHANGES: usize = 2048;
 pub const MAX_CHANGED_BYTES: usize = 4096;
 
 /// The buffers of a reply, in order. Start's users and Look's name stand in the FCB's place.
 pub const BUFFERS: [&str; 4] = ["FCB", "DMA", "list", "image"];
 
+/// Where the engine's plain side has done otherwise than the engine.
+#[derive(Clone, Debug, PartialEq, Eq)]
+pub struct Apart {
+    /// A bit for each buffer, and the next one for the answer.
+    pub parts: u8,
+    pub answer: u32,
+}
+
+pub const ANSWER_APART: u8 = 1 << BUFFERS.len();
+
 #[derive(Clone, Debug, PartialEq, Eq)]
 pub struct Reply {
     pub answer: u32,
-    /// A bit for each buffer whose guard bytes were overwritten.
+    /// A bit for each buffer whose guard bytes were overwritten; four more for the plain side's.
     pub broken_guards: u8,
+    pub apart: Option<Apart>,
     pub changes: [Changes; 4],
 }
 

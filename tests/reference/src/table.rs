@@ -1,8 +1,10 @@
-//! The image and the list that an engine of this process works on, between guard bytes.
+//! The image and the list that an engine of this process works on, between guard bytes, and a
+//! second set of them for its plain side.
 
-use crate::calls::Buffers;
+use crate::calls::{Buffers, Numbers};
 use crate::engine::Engine;
-use crate::step::{changes, Changes, Reply, Step};
+use crate::singly::plain_answer;
+use crate::step::{changes, Apart, Changes, Reply, Step, ANSWER_APART};
 
 const GUARD: usize = 64;
 const GUARD_BYTES: [u8; GUARD] = guard_bytes();
@@ -51,10 +53,12 @@ impl Guarded {
     }
 }
 
-/// A buffer that lasts from step to step, with a copy of it before the current one.
+/// A buffer that lasts from step to step, with a copy of it before the current one and one that
+/// the plain side works on.
 struct Lasting {
     now: Guarded,
     before: Vec<u8>,
+    plain: Guarded,
 }
 
 impl Lasting {
@@ -62,16 +66,19 @@ impl Lasting {
         Lasting {
             now: Guarded::new(&[]),
             before: Vec::new(),
+            plain: Guarded::new(&[]),
         }
     }
 
     fn resize(&mut self, length: usize, fill: u8) {
         self.now.resize(length, fill);
         self.before.resize(length, fill);
+        self.plain.resize(length, fill);
     }
 
     fn patch(&mut self, at: usize, bytes: &[u8]) {
         self.now.patch(at, bytes);
+        self.plain.patch(at, bytes);
         if let Some(place) = self.before.get_mut(at..at + bytes.len()) {
             place.copy_from_slice(bytes);
         }
@@ -81,15 +88,37 @@ impl Lasting {
     fn settle(&mut self) -> Changes {
         let changes = changes(&self.before, self.now.data());
         match &changes {
-            None => self.before.copy_from_slice(self.now.data()),
+            None => self.settle_all(),
             Some(changes) => {
                 for change in changes {
                     self.before[change.at..change.at + change.bytes.len()].copy_from_slice(&change.bytes);
+                    self.plain.patch(change.at, &change.bytes);
                 }
             }
         }
         changes
     }
+
+    fn settle_all(&mut self) {
+        self.before.copy_from_slice(self.now.data());
+        self.plain.data_mut().copy_from_slice(self.now.data());
+    }
+
+    /// True if the plain side has left other bytes; it goes on from the engine's.
+    fn rejoin(&mut self) -> bool {
+        let apart = self.plain.data() != self.now.data();
+        if apart {
+            self.plain.data_mut().copy_from_slice(self.now.data());
+        }
+        apart
+    }
+}
+
+/// What the plain side has answered, and its FCB and DMA.
+struct Plain {
+    answer: u32,
+    fcb: Guarded,
+    dma: Guarded,
 }
 
 pub struct Table {
@@ -133,14 +162,25 @@ impl Table {
     fn ask<E: Engine + ?Sized>(&mut self, engine: &mut E, step: &Step, first: &[u8], second: &[u8]) -> Reply {
         let (mut first_now, mut second_now) = (Guarded::new(first), Guarded::new(second));
         let answer = self.question(engine, step, first_now.data_mut(), second_now.data_mut());
+        let plain = self.ask_plain_side(engine, step);
         let guarded = [&first_now, &second_now, &self.list.now, &self.image.now];
-        let broken_guards = (0..4)
-            .filter(|&i| !guarded[i].guards_hold())
-            .map(|i| 1 << i)
-            .sum();
+        let mut broken_guards = broken(guarded);
+        let mut apart = None;
+        if let Some(plain) = plain {
+            broken_guards |= broken([&plain.fcb, &plain.dma, &self.list.plain, &self.image.plain]) << 4;
+            let (fcb_now, dma_now) = (first_now.data(), second_now.data());
+            let parts = [
+                plain.fcb.data() != fcb_now,
+                plain.dma.data() != dma_now,
+                self.list.rejoin(),
+                self.image.rejoin(),
+            ];
+            apart = told_apart(parts, plain.answer, wanted_of_plain_side(step, answer));
+        }
         Reply {
             answer,
             broken_guards,
+            apart,
             changes: [
                 changes(first, first_now.data()),
                 changes(second, second_now.data()),
@@ -148,6 +188,22 @@ impl Table {
                 self.image.settle(),
             ],
         }
+    }
+
+    /// The same call on the plain side's buffers; None if there is no such call.
+    fn ask_plain_side<E: Engine + ?Sized>(&mut self, engine: &mut E, step: &Step) -> Option<Plain> {
+        let Step::Call { numbers, fcb, dma } = step else {
+            return None;
+        };
+        let (mut fcb, mut dma) = (Guarded::new(fcb), Guarded::new(dma));
+        let buffers = Buffers {
+            fcb: fcb.data_mut(),
+            dma: dma.data_mut(),
+            list: self.list.plain.data_mut(),
+            image: self.image.plain.data_mut(),
+        };
+        let answer = engine.singly(*numbers, buffers)?;
+        Some(Plain { answer, fcb, dma })
     }
 
     fn question<E: Engine + ?Sized>(
@@ -175,4 +231,33 @@ impl Table {
             _ => 0,
         }
     }
+}
+
+/// A bit for each buffer whose guard bytes were overwritten.
+fn broken(guarded: [&Guarded; 4]) -> u8 {
+    (0..4)
+        .filter(|&i| !guarded[i].guards_hold())
+        .map(|i| 1 << i)
+        .sum()
+}
+
+fn wanted_of_plain_side(step: &Step, answer: u32) -> u32 {
+    match step {
+        Step::Call {
+            numbers: Numbers { function, .. },
+            ..
+        } => plain_answer(*function, answer),
+        _ => answer,
+    }
+}
+
+fn told_apart(buffers: [bool; 4], answer: u32, wanted: u32) -> Option<Apart> {
+    let mut parts = 0;
+    for (i, apart) in buffers.into_iter().enumerate() {
+        parts |= u8::from(apart) << i;
+    }
+    if answer != wanted {
+        parts |= ANSWER_APART;
+    }
+    (parts != 0).then_some(Apart { parts, answer })
 }

@@ -5,15 +5,19 @@
 //!         'i' at(4) n(2) bytes               a part of it gets these bytes
 //!         'L', 'l'                           the same for the list
 //!         'S' capacity(4) open limit(4) lock limit(4) n(2) users
-//!         'C' function(4) process(4) count(4) n(2) FCB n(2) DMA
+//!         'C' function(4) process(4) count(4) n(2) FCB, DMA
 //!         'K'                                check the image
 //!         'V' user(4) record(4) n(2) name    look
+//! DMA:    length(2) fill(1) n(2) bytes       the bytes, and behind them the fill byte
 //! Reply, to S, C, K and V:
-//!         'A' broken guards(1) answer(4), then for users or FCB or name, DMA, list and image:
+//!         'A' broken guards(1) answer(4) apart(1), where apart is not 0 the plain side's
+//!         answer(4), then for users or FCB or name, DMA, list and image:
 //!         n(2), and n times at(4) n(2) bytes; n of 65,535 means too many to tell.
 
 use crate::calls::Numbers;
-use crate::step::{Change, Changes, Reply, Step, MAX_CHANGED_BYTES, MAX_CHANGES, MAX_IMAGE, MAX_LIST};
+use crate::step::{
+    Apart, Change, Changes, Reply, Step, MAX_CHANGED_BYTES, MAX_CHANGES, MAX_DMA, MAX_IMAGE, MAX_LIST,
+};
 use std::io::{self, Read};
 
 const TOO_MANY: u16 = u16::MAX;
@@ -46,6 +50,20 @@ fn put_numbers(tag: u8, numbers: &[u32], out: &mut Vec<u8>) {
     }
 }
 
+/// How many bytes stand before those that are all like the last one, and that last byte.
+pub fn before_the_fill(bytes: &[u8]) -> (usize, u8) {
+    let fill = bytes.last().copied().unwrap_or(0);
+    let told = bytes.iter().rposition(|&byte| byte != fill);
+    (told.map_or(0, |last| last + 1), fill)
+}
+
+fn put_dma(dma: &[u8], out: &mut Vec<u8>) {
+    let (told, fill) = before_the_fill(dma);
+    out.extend((dma.len() as u16).to_le_bytes());
+    out.push(fill);
+    put_bytes(&dma[..told], out);
+}
+
 pub fn put_step(step: &Step, out: &mut Vec<u8>) {
     match step {
         Step::Image { length, fill } => put_length(b'I', *length, *fill, out),
@@ -59,7 +77,7 @@ pub fn put_step(step: &Step, out: &mut Vec<u8>) {
         Step::Call { numbers, fcb, dma } => {
             put_numbers(b'C', &[numbers.function, numbers.process, numbers.count], out);
             put_bytes(fcb, out);
-            put_bytes(dma, out);
+            put_dma(dma, out);
         }
         Step::Check => out.push(b'K'),
         Step::Look { user, name, record } => {
@@ -72,6 +90,13 @@ pub fn put_step(step: &Step, out: &mut Vec<u8>) {
 pub fn put_reply(reply: &Reply, out: &mut Vec<u8>) {
     out.extend([b'A', reply.broken_guards]);
     out.extend(reply.answer.to_le_bytes());
+    match &reply.apart {
+        None => out.push(0),
+        Some(apart) => {
+            out.push(apart.parts);
+            out.extend(apart.answer.to_le_bytes());
+        }
+    }
     for changes in &reply.changes {
         let Some(changes) = changes else {
             out.extend(TOO_MANY.to_le_bytes());
@@ -121,6 +146,17 @@ fn get_bytes(from: &mut impl Read) -> io::Result<Vec<u8>> {
     Ok(bytes)
 }
 
+fn get_dma(from: &mut impl Read) -> io::Result<Vec<u8>> {
+    let length = usize::from(get_u16(from)?);
+    let fill = get_u8(from)?;
+    let mut bytes = get_bytes(from)?;
+    if length > MAX_DMA || bytes.len() > length {
+        return Err(malformed("too long"));
+    }
+    bytes.resize(length, fill);
+    Ok(bytes)
+}
+
 fn get_tag(from: &mut impl Read) -> io::Result<Option<u8>> {
     let mut tag = [0];
     match from.read(&mut tag)? {
@@ -162,7 +198,7 @@ pub fn get_step(from: &mut impl Read) -> io::Result<Option<Step>> {
                 count: get_u32(from)?,
             },
             fcb: get_bytes(from)?,
-            dma: get_bytes(from)?,
+            dma: get_dma(from)?,
         },
         b'K' => Step::Check,
         b'V' => Step::Look {
@@ -181,6 +217,7 @@ pub fn get_reply(from: &mut impl Read) -> io::Result<Reply> {
     }
     let broken_guards = get_u8(from)?;
     let answer = get_u32(from)?;
+    let apart = get_apart(from)?;
     let mut changes = [None, None, None, None];
     for one in &mut changes {
         *one = get_changes(from)?;
@@ -188,8 +225,18 @@ pub fn get_reply(from: &mut impl Read) -> io::Result<Reply> {
     Ok(Reply {
         answer,
         broken_guards,
+        apart,
         changes,
     })
+}
+
+fn get_apart(from: &mut impl Read) -> io::Result<Option<Apart>> {
+    let parts = get_u8(from)?;
+    if parts == 0 {
+        return Ok(None);
+    }
+    let answer = get_u32(from)?;
+    Ok(Some(Apart { parts, answer }))
 }
 
 fn get_changes(from: &mut impl Read) -> io::Result<Changes> {

@@ -34,7 +34,7 @@ impl Numbers {
 #[test]
 fn any_call_answers() {
     let mut numbers = Numbers(1);
-    for _ in 0..30_000 {
+    for _ in 0..20_000 {
         let image_length = [0, 17, 2048, 3072, 4096][numbers.below(5) as usize];
         let mut image = match numbers.below(4) {
             0 => numbers.bytes(image_length),
@@ -50,7 +50,7 @@ fn any_call_answers() {
         if numbers.below(2) == 0 {
             reference::start(9, 8, 7, &[0; 16], &mut list);
         }
-        let (fcb_length, dma_length) = (numbers.length(36), numbers.length(256));
+        let (fcb_length, dma_length) = (numbers.length(36), numbers.length(2048));
         let mut fcb = numbers.bytes(fcb_length);
         if let Some(drive) = fcb.first_mut() {
             *drive &= 3;
@@ -66,7 +66,9 @@ fn any_call_answers() {
         let word = reference::call(
             function, process, count, &mut fcb, &mut dma, &mut list, &mut image,
         );
-        if split(word) != OK {
+        let (a, h) = split(word);
+        let records_done = [33, 34, 40].contains(&function) && h >= 16;
+        if (a, h) != OK && !records_done {
             assert!(before == (fcb, dma, list, image));
         }
         let length = numbers.below(13) as usize;
@@ -79,9 +81,9 @@ fn any_call_answers() {
 #[test]
 fn any_input_of_the_program() {
     let mut numbers = Numbers(2);
-    for _ in 0..2_000 {
+    for _ in 0..500 {
         let mut input = vec![0x4D, 0x53];
-        let length = numbers.below(900) as usize;
+        let length = numbers.below(6_000) as usize;
         input.extend(numbers.bytes(length));
         let (printed, _) = reference::mpmcalls(Some(&empty_image(3)), &input);
         assert!(printed.starts_with(b"call process function A H\n"));

@@ -1,11 +1,12 @@
 //! The comparison sees through engines that are wrong in one place only, and keeps the case.
 
-use reference::calls::{Buffers, Numbers};
-use reference::comparison::{keep_case, on_reference, read_case, Comparison};
+use reference::calls::{Buffers, Numbers, RUN_FUNCTIONS};
+use reference::comparison::{describe, keep_case, on_reference, read_case, Comparison, Difference};
 use reference::engine::{Engine, Reference};
+use reference::faults::block_of;
 use reference::generate::Generator;
 use reference::pipe::Pipe;
-use reference::step::{changes, Step};
+use reference::step::{changes, Apart, Step, ANSWER_APART};
 use reference::wire::{get_reply, get_step, put_reply, put_step};
 
 /// The buffers before or after a call.
@@ -25,8 +26,10 @@ struct Done {
     answer: u32,
 }
 
+type Fault = fn(&mut Done);
+
 /// The reference with one fault.
-struct Faulty(fn(&mut Done));
+struct Faulty(Fault);
 
 impl Engine for Faulty {
     fn start(&mut self, numbers: [u32; 3], users: &mut [u8], list: &mut [u8]) -> u32 {
@@ -42,28 +45,57 @@ impl Engine for Faulty {
     }
 
     fn call(&mut self, numbers: Numbers, buffers: Buffers) -> u32 {
-        let lent = |buffers: &Buffers| Lent {
-            fcb: buffers.fcb.to_vec(),
-            dma: buffers.dma.to_vec(),
-            list: buffers.list.to_vec(),
-            image: buffers.image.to_vec(),
-        };
-        let before = lent(&buffers);
-        let mut now = before.clone();
-        let answer = now.call(numbers);
-        let mut done = Done {
-            numbers,
-            before,
-            after: now,
-            answer,
-        };
-        self.0(&mut done);
-        buffers.fcb.copy_from_slice(&done.after.fcb);
-        buffers.dma.copy_from_slice(&done.after.dma);
-        buffers.list.copy_from_slice(&done.after.list);
-        buffers.image.copy_from_slice(&done.after.image);
-        done.answer
+        with_fault(self.0, numbers, buffers, Lent::call)
     }
+}
+
+/// The reference whose plain side has one fault.
+struct FaultyPlainSide(Fault);
+
+impl Engine for FaultyPlainSide {
+    fn start(&mut self, numbers: [u32; 3], users: &mut [u8], list: &mut [u8]) -> u32 {
+        Reference::default().start(numbers, users, list)
+    }
+
+    fn check(&mut self, image: &mut [u8]) -> u32 {
+        Reference::default().check(image)
+    }
+
+    fn look(&mut self, user: u32, name: &mut [u8], record: u32, image: &mut [u8]) -> u32 {
+        Reference::default().look(user, name, record, image)
+    }
+
+    fn call(&mut self, numbers: Numbers, buffers: Buffers) -> u32 {
+        Reference::default().call(numbers, buffers)
+    }
+
+    fn singly(&mut self, numbers: Numbers, buffers: Buffers) -> Option<u32> {
+        Some(with_fault(self.0, numbers, buffers, Lent::call_singly))
+    }
+}
+
+/// Makes the call in this way and then the fault.
+fn with_fault(fault: Fault, numbers: Numbers, buffers: Buffers, call: fn(&mut Lent, Numbers) -> u32) -> u32 {
+    let before = Lent {
+        fcb: buffers.fcb.to_vec(),
+        dma: buffers.dma.to_vec(),
+        list: buffers.list.to_vec(),
+        image: buffers.image.to_vec(),
+    };
+    let mut now = before.clone();
+    let answer = call(&mut now, numbers);
+    let mut done = Done {
+        numbers,
+        before,
+        after: now,
+        answer,
+    };
+    fault(&mut done);
+    buffers.fcb.copy_from_slice(&done.after.fcb);
+    buffers.dma.copy_from_slice(&done.after.dma);
+    buffers.list.copy_from_slice(&done.after.list);
+    buffers.image.copy_from_slice(&done.after.image);
+    done.answer
 }
 
 impl Lent {
@@ -78,11 +110,86 @@ impl Lent {
             &mut self.image,
         )
     }
+
+    fn call_singly(&mut self, numbers: Numbers) -> u32 {
+        reference::call_singly(
+            numbers.function,
+            numbers.process,
+            numbers.count,
+            &mut self.fcb,
+            &mut self.dma,
+            &mut self.list,
+            &mut self.image,
+        )
+    }
+
+    fn first_record(&self) -> u32 {
+        u32::from_le_bytes([self.fcb[33], self.fcb[34], self.fcb[35], 0])
+    }
+
+    /// A call for this record alone, with the DMA's part of this number.
+    fn single(&mut self, numbers: Numbers, record: u32, part: u32) -> u32 {
+        let at = 128 * part as usize;
+        let (mut fcb, mut dma) = (self.fcb.clone(), self.dma.clone());
+        fcb[33..].copy_from_slice(&record.to_le_bytes()[..3]);
+        dma.copy_within(at..at + 128, 0);
+        let Numbers {
+            function, process, ..
+        } = numbers;
+        let answer = reference::call(
+            function,
+            process,
+            1,
+            &mut fcb,
+            &mut dma,
+            &mut self.list,
+            &mut self.image,
+        );
+        self.dma[at..at + 128].copy_from_slice(&dma[..128]);
+        answer
+    }
+
+    /// The block of a record of the call's file, 0 if it has none.
+    fn block(&self, numbers: Numbers, record: u32) -> u8 {
+        let user = self.list[3 + numbers.process as usize];
+        block_of(user, &self.fcb[1..12], record, &self.image)
+    }
 }
 
 impl Done {
     fn is(&self, function: u32, answer: u32) -> bool {
         self.numbers.function == function && self.answer == answer
+    }
+
+    /// A call for several records that was not refused as a whole.
+    fn is_run(&self) -> bool {
+        RUN_FUNCTIONS.contains(&self.numbers.function)
+            && (2..=16).contains(&self.numbers.count)
+            && (self.answer == 0 || self.records_done() > 0)
+    }
+
+    fn is_stopped_run(&self) -> bool {
+        self.is_run() && self.answer != 0
+    }
+
+    fn records_done(&self) -> u32 {
+        match self.answer {
+            0 => self.numbers.count,
+            refusal => refusal >> 12,
+        }
+    }
+
+    /// The call once more as single calls, the record of each chosen by its number in the run.
+    fn again_record_by_record(&mut self, record: impl Fn(u32) -> u32) {
+        self.after = self.before.clone();
+        self.answer = 0;
+        for part in 0..self.numbers.count {
+            let answer = self.after.single(self.numbers, record(part), part);
+            if answer != 0 {
+                self.answer = answer + 4096 * part;
+                return;
+            }
+        }
     }
 
     fn again_with(&mut self, numbers: Numbers) {
@@ -282,7 +389,181 @@ fn terminate_clears_the_list(done: &mut Done) {
     }
 }
 
-const FAULTS: [fn(&mut Done); 23] = [
+fn counts_the_refused_record(done: &mut Done) {
+    if done.is_stopped_run() && done.records_done() < 15 {
+        done.answer += 4096;
+    }
+}
+
+fn tells_no_records(done: &mut Done) {
+    if done.is_stopped_run() {
+        done.answer &= 0x0FFF;
+    }
+}
+
+fn tells_the_records_of_a_whole_run(done: &mut Done) {
+    if done.is_run() && done.answer == 0 {
+        done.answer = 4096 * (done.numbers.count % 16);
+    }
+}
+
+fn goes_on_behind_a_refusal(done: &mut Done) {
+    if !done.is_stopped_run() {
+        return;
+    }
+    let first = done.before.first_record();
+    for part in done.records_done() + 1..done.numbers.count {
+        done.after.single(done.numbers, first + part, part);
+    }
+}
+
+fn refuses_all_where_some_were_done(done: &mut Done) {
+    if done.is_stopped_run() {
+        done.after = done.before.clone();
+        done.answer &= 0x0FFF;
+    }
+}
+
+fn takes_the_bytes_of_the_next_record(done: &mut Done) {
+    if !done.is_run() || done.numbers.function == 33 {
+        return;
+    }
+    let dma = done.before.dma.clone();
+    done.before.dma.rotate_left(128);
+    done.again_with(done.numbers);
+    done.after.dma = dma;
+}
+
+fn puts_the_bytes_of_the_next_record(done: &mut Done) {
+    if !done.is_run() || done.numbers.function != 33 {
+        return;
+    }
+    let read = 128 * done.records_done().min(15) as usize;
+    done.after.dma.copy_within(..read, 128);
+    done.after.dma[..128].copy_from_slice(&done.before.dma[..128]);
+}
+
+fn clears_what_an_earlier_record_took(done: &mut Done) {
+    if !done.is_run() || done.numbers.function != 40 {
+        return;
+    }
+    let first = done.before.first_record();
+    for record in first..first + done.records_done() {
+        let is_new = done.before.block(done.numbers, record) == 0;
+        let is_last = record % 8 == 7 || record + 1 == first + done.records_done();
+        let at = 1024 * usize::from(done.after.block(done.numbers, record)) + 128 * (record % 8) as usize;
+        if is_new && !is_last {
+            done.after.image[at..at + 128].fill(0);
+        }
+    }
+}
+
+fn never_clears_in_a_run(done: &mut Done) {
+    if done.is_run() && done.numbers.function == 40 {
+        done.again_with(Numbers {
+            function: 34,
+            ..done.numbers
+        });
+    }
+}
+
+fn keeps_the_extent_across_its_end(done: &mut Done) {
+    if done.is_run() {
+        let first = done.before.first_record();
+        done.again_record_by_record(|part| first / 128 * 128 + (first + part) % 128);
+    }
+}
+
+fn keeps_the_module_across_its_end(done: &mut Done) {
+    if done.is_run() {
+        let first = done.before.first_record();
+        done.again_record_by_record(|part| first / 4096 * 4096 + (first + part) % 4096);
+    }
+}
+
+fn does_one_record_only(done: &mut Done) {
+    if done.is_run() {
+        done.again_with(Numbers {
+            count: 1,
+            ..done.numbers
+        });
+    }
+}
+
+fn does_one_record_too_few(done: &mut Done) {
+    if done.is_run() && done.numbers.count == 16 {
+        done.again_with(Numbers {
+            count: 15,
+            ..done.numbers
+        });
+    }
+}
+
+fn refuses_a_run_over_the_end(done: &mut Done) {
+    if done.is_stopped_run() && done.answer % 256 == 6 {
+        done.after = done.before.clone();
+        done.answer = 6;
+    }
+}
+
+fn looks_for_all_locks_first(done: &mut Done) {
+    if done.is_stopped_run() && done.answer % 256 == 8 {
+        done.after = done.before.clone();
+        done.answer = 8;
+    }
+}
+
+fn advances_the_record_number(done: &mut Done) {
+    if done.is_run() {
+        let next = done.before.first_record() + done.records_done();
+        done.after.fcb[33..].copy_from_slice(&next.to_le_bytes()[..3]);
+    }
+}
+
+fn clears_the_dma_behind_a_stop(done: &mut Done) {
+    if done.is_stopped_run() && done.numbers.function == 33 {
+        let read = 128 * done.records_done() as usize;
+        done.after.dma[read..].fill(0);
+    }
+}
+
+fn keeps_the_count_of_a_stopped_run(done: &mut Done) {
+    if !done.is_stopped_run() || done.numbers.function == 33 {
+        return;
+    }
+    for slot in 0..64 {
+        if done.before.image[32 * slot] != 0xE5 {
+            done.after.image[32 * slot + 15] = done.before.image[32 * slot + 15];
+        }
+    }
+}
+
+fn test_and_write_goes_on(done: &mut Done) {
+    if done.is(41, 0) && done.numbers.count > 1 {
+        let next = done.before.first_record() + 1;
+        let write = Numbers {
+            function: 34,
+            ..done.numbers
+        };
+        done.after.single(write, next, 2);
+    }
+}
+
+fn lock_tells_records(done: &mut Done) {
+    if done.is(42, 8) && done.numbers.count > 1 {
+        done.answer += 4096;
+    }
+}
+
+fn takes_the_old_dma(done: &mut Done) {
+    if done.before.dma.len() == 256 {
+        done.before.dma.resize(2048, 0);
+        done.again_with(done.numbers);
+        done.after.dma.truncate(256);
+    }
+}
+
+const FAULTS: [Fault; 44] = [
     cuts_functions,
     cuts_processes,
     cuts_counts,
@@ -306,6 +587,27 @@ const FAULTS: [fn(&mut Done); 23] = [
     space_in_two_bytes,
     refusal_writes,
     terminate_clears_the_list,
+    counts_the_refused_record,
+    tells_no_records,
+    tells_the_records_of_a_whole_run,
+    goes_on_behind_a_refusal,
+    refuses_all_where_some_were_done,
+    takes_the_bytes_of_the_next_record,
+    puts_the_bytes_of_the_next_record,
+    clears_what_an_earlier_record_took,
+    never_clears_in_a_run,
+    keeps_the_extent_across_its_end,
+    keeps_the_module_across_its_end,
+    does_one_record_only,
+    does_one_record_too_few,
+    refuses_a_run_over_the_end,
+    looks_for_all_locks_first,
+    advances_the_record_number,
+    clears_the_dma_behind_a_stop,
+    keeps_the_count_of_a_stopped_run,
+    test_and_write_goes_on,
+    lock_tells_records,
+    takes_the_old_dma,
 ];
 
 #[test]
@@ -335,6 +637,94 @@ fn chance_sees_every_fault() {
 fn the_reference_agrees_with_itself() {
     let mut generator = Generator::new(5);
     let mut engine = Reference::default();
+    let mut comparison = Comparison::new(&mut engine);
+    for (case, made) in generator.named() {
+        assert!(comparison.run(&made).is_none(), "{case}");
+    }
+    for _ in 0..20 {
+        assert!(comparison.run(&generator.session()).is_none());
+    }
+}
+
+fn plain_side_tells_records(done: &mut Done) {
+    if done.is(33, 1) && done.numbers.count == 16 {
+        done.answer += 4096;
+    }
+}
+
+fn plain_side_refuses_46(done: &mut Done) {
+    if done.is(46, 0) {
+        done.answer = 1;
+    }
+}
+
+fn plain_side_advances_the_fcb(done: &mut Done) {
+    if done.is(33, 0) {
+        done.after.fcb[33] ^= 1;
+    }
+}
+
+fn plain_side_writes_the_dma(done: &mut Done) {
+    if done.is(34, 2) {
+        done.after.dma[2047] ^= 1;
+    }
+}
+
+fn plain_side_writes_the_list(done: &mut Done) {
+    if done.is(40, 6) {
+        done.after.list[1298] ^= 1;
+    }
+}
+
+fn plain_side_goes_on(done: &mut Done) {
+    if done.is(34, 8) {
+        let next = done.before.first_record() + done.numbers.count;
+        done.after.single(done.numbers, next, 0);
+    }
+}
+
+/// Each with what of a reply tells of it.
+const FAULTS_OF_PLAIN_SIDES: [(Fault, u8, &str); 6] = [
+    (plain_side_tells_records, ANSWER_APART, "answer"),
+    (plain_side_refuses_46, ANSWER_APART, "answer"),
+    (plain_side_advances_the_fcb, 1, "FCB"),
+    (plain_side_writes_the_dma, 2, "DMA"),
+    (plain_side_writes_the_list, 4, "list"),
+    (plain_side_goes_on, 8, "image"),
+];
+
+#[test]
+fn a_plain_side_that_does_otherwise_is_seen() {
+    let cases = Generator::new(9).named();
+    for (fault, parts, name) in FAULTS_OF_PLAIN_SIDES {
+        let mut engine = FaultyPlainSide(fault);
+        let mut comparison = Comparison::new(&mut engine);
+        let (made, difference) = cases
+            .iter()
+            .find_map(|(_, made)| comparison.run(made).map(|difference| (made, difference)))
+            .unwrap();
+        let told = describe(made, &difference);
+        assert!(
+            told.contains(&format!("mpm_singly has done otherwise: {name};")),
+            "{told}"
+        );
+        let Difference {
+            expected: Some(expected),
+            got: Ok(got),
+            ..
+        } = difference
+        else {
+            panic!("no two replies");
+        };
+        assert_eq!(got.apart.map(|apart| apart.parts), Some(parts));
+        assert_eq!((got.answer, got.changes), (expected.answer, expected.changes));
+    }
+}
+
+#[test]
+fn a_plain_side_without_fault_agrees() {
+    let mut generator = Generator::new(10);
+    let mut engine = FaultyPlainSide(|_| {});
     let mut comparison = Comparison::new(&mut engine);
     for (case, made) in generator.named() {
         assert!(comparison.run(&made).is_none(), "{case}");
@@ -421,6 +811,69 @@ fn steps_and_replies_survive_the_wire() {
 }
 
 #[test]
+fn a_dma_survives_the_wire() {
+    let mut dmas = vec![
+        Vec::new(),
+        vec![0],
+        vec![7; 4096],
+        vec![1, 2, 2],
+        (0..=255).collect(),
+    ];
+    dmas.push([vec![9; 128], vec![0; 1919], vec![9]].concat());
+    for dma in dmas {
+        let step = Step::Call {
+            numbers: Numbers {
+                function: 33,
+                process: 1,
+                count: 16,
+            },
+            fcb: vec![1; 36],
+            dma,
+        };
+        let mut bytes = Vec::new();
+        put_step(&step, &mut bytes);
+        assert_eq!(get_step(&mut &bytes[..]).unwrap(), Some(step));
+    }
+}
+
+#[test]
+fn a_dma_that_makes_no_sense_is_refused() {
+    let call = |length: u16, told: u16| {
+        let mut bytes = vec![b'C'];
+        bytes.extend([0; 12]);
+        bytes.extend([0, 0]);
+        bytes.extend(length.to_le_bytes());
+        bytes.push(0);
+        bytes.extend(told.to_le_bytes());
+        bytes.resize(bytes.len() + usize::from(told), 0);
+        bytes
+    };
+    assert!(get_step(&mut &call(4096, 4096)[..]).is_ok());
+    assert!(get_step(&mut &call(4097, 0)[..]).is_err());
+    assert!(get_step(&mut &call(100, 101)[..]).is_err());
+}
+
+#[test]
+fn a_plain_side_apart_survives_the_wire() {
+    let made = on_reference(vec![
+        Step::Image {
+            length: 3072,
+            fill: 0xE5,
+        },
+        Step::Check,
+    ]);
+    let mut reply = made[1].reply.clone().unwrap();
+    reply.apart = Some(Apart {
+        parts: ANSWER_APART | 2,
+        answer: 0x1234_5678,
+    });
+    reply.broken_guards = 0b1010_0101;
+    let mut bytes = Vec::new();
+    put_reply(&reply, &mut bytes);
+    assert_eq!(get_reply(&mut &bytes[..]).unwrap(), reply);
+}
+
+#[test]
 fn changes_are_the_longest_runs() {
     let before = [0; 600];
     let mut after = before;
@@ -455,14 +908,14 @@ fn a_pipe_to_the_reference_agrees() {
 }
 
 #[test]
-fn the_pipe_serves_the_four_functions_singly() {
+fn the_pipe_serves_the_four_functions_one_by_one() {
     let mut pipe = pipe_to_reference();
     let (mut list, mut image) = (vec![0xAA; 1299], vec![0xE5; 4096]);
     assert_eq!(pipe.start([3, 2, 2], &mut [0; 16], &mut list), 0);
     assert_eq!(list[..3], [3, 2, 2]);
     assert_eq!(pipe.check(&mut image), 0);
     let mut fcb = reference::build::Fcb::named("X").unlocked().0.to_vec();
-    let mut dma = vec![9; 256];
+    let mut dma = vec![9; 2048];
     for function in [22, 34] {
         let numbers = Numbers {
             function,

@@ -156,7 +156,7 @@ fn assert_start(numbers: [u32; 3], users: &[u8], length: usize, passes: bool) {
 #[test]
 fn buffer_lengths() {
     for function in KNOWN {
-        let lengths = [0, 1, 35, 37, 255, 257, 1298, 1300];
+        let lengths = [0, 1, 35, 37, 256, 1298, 1300, 2047, 2049];
         for length in lengths {
             let mut world = World::empty(3);
             let bytes = vec![0; length];

@@ -1,5 +1,7 @@
-//! The generator reaches every row and every kind of success, by name and by chance.
+//! The generator reaches every row and every kind of success, by name and by chance, and the table
+//! of them tells what is missing and what may not be.
 
+use reference::coverage::Coverage;
 use reference::generate::Generator;
 
 #[test]
@@ -15,7 +17,7 @@ fn the_named_cases_reach_everything() {
 #[test]
 fn chance_alone_reaches_everything() {
     let mut generator = Generator::new(20_261);
-    while generator.coverage().calls() < 150_000 {
+    while generator.coverage().calls() < 200_000 {
         generator.session();
     }
     assert_eq!(generator.faults(), &[] as &[String]);
@@ -31,4 +33,62 @@ fn the_same_seed_makes_the_same_steps() {
     };
     assert!(run(7) == run(7));
     assert!(run(7) != run(8));
+}
+
+fn word(a: u32, h: u32) -> u32 {
+    a + 256 * h
+}
+
+#[test]
+fn a_pair_that_may_not_be_is_told() {
+    let mut generator = Generator::new(0);
+    generator.named();
+    for (function, a, h, why) in [
+        (33, 10, 16, "not open"),
+        (33, 8, 16, "held by another"),
+        (33, 0, 16, "read"),
+        (33, 1, 1, "no block"),
+        (33, 255, 29, "count above 16"),
+        (34, 255, 3 + 16, "open read-only"),
+        (34, 4, 32, "no extent"),
+        (40, 10, 240, "not open"),
+        (40, 2, 8, "no free block"),
+        (41, 7, 16, "differs"),
+        (42, 8, 48, "held by another"),
+        (43, 6, 16, "run passes the last record"),
+        (46, 0, 16, "space"),
+    ] {
+        let mut coverage = generator.coverage().clone();
+        coverage.note_call(function, word(a, h), why);
+        let told = format!("not allowed: function {function}, {a}/{h}, {why}");
+        assert_eq!(coverage.complaints(), [told]);
+    }
+}
+
+#[test]
+fn every_number_of_records_done_is_wanted() {
+    let missing = Coverage::default().complaints();
+    for done in 0..16 {
+        let h = 16 * done;
+        for (function, a, why) in [
+            (33, 6, "record too high"),
+            (33, 4, "no extent"),
+            (33, 1, "no block"),
+            (34, 6, "record too high"),
+            (34, 8, "held by another"),
+            (40, 5, "no empty entry"),
+            (40, 2, "no free block"),
+        ] {
+            let told = format!("not reached: function {function}, {a}/{h}, {why}");
+            assert!(missing.contains(&told), "{told}");
+        }
+    }
+    for told in [
+        "not reached: run of records (33, 16)",
+        "not reached: run of records (40, 1)",
+        "not reached: span of a run (34, Modules)",
+        "not reached: last taken by a run (40, Entry)",
+    ] {
+        assert!(missing.iter().any(|one| one == told), "{told}");
+    }
 }

@@ -100,6 +100,79 @@ fn a_good_run_agrees() {
 }
 
 #[test]
+fn the_records_done_of_a_run_count() {
+    let mut run = Run::new(empty_image(8));
+    run.step(Step(1, 22, orders(0), 1, 0)).unwrap();
+    // Records 5 to 20: the groups 0, 1 and 2.
+    run.step(Step(1, 34, orders(5), 16, 0)).unwrap();
+    run.step(Step(1, 46, orders(0), 1, 0)).unwrap();
+    assert_eq!(run.world.dma[0], 24);
+    // Over the end of an extent and of a module: the groups 511 and 512.
+    run.step(Step(1, 40, orders(4094), 4, 0)).unwrap();
+    run.step(Step(1, 46, orders(0), 1, 0)).unwrap();
+    assert_eq!(run.world.dma[0], 8);
+    // The last free block serves the records 262,143 and none after it: 6/16.
+    run.step(Step(1, 34, orders(262_143), 16, 0)).unwrap();
+    run.step(Step(1, 46, orders(0), 1, 0)).unwrap();
+    assert_eq!(run.world.dma[0], 0);
+    // What is read or refused at once makes no group.
+    run.step(Step(1, 33, orders(5), 16, 0)).unwrap();
+    run.step(Step(1, 33, orders(262_143), 16, 0)).unwrap();
+    run.step(Step(1, 34, orders(128), 16, 0)).unwrap();
+}
+
+/// What a 34 of sixteen records answers that does eleven and then finds no free block.
+const STOPPED: u32 = 2 + 256 * 16 * 11;
+
+/// Two blocks are free; the 34 from record 5 on is made, but not noted.
+fn stopped() -> Run {
+    let mut run = Run::new(empty_image(4));
+    run.step(Step(1, 22, orders(0), 1, 0)).unwrap();
+    let (a, h) = run.world.ask(1, 34, orders(5)).count(16).go();
+    assert_eq!(a + 256 * h, STOPPED);
+    run
+}
+
+/// A keeper that takes it for this.
+fn noted_as(count: u32, answer: u32) -> Result<(), String> {
+    let mut run = stopped();
+    run.history.note(&Noted {
+        function: 34,
+        process: 1,
+        count,
+        fcb: &orders(5).0,
+        answer,
+    });
+    run.check()
+}
+
+#[test]
+fn a_run_that_was_stopped_counts_its_records() {
+    noted_as(16, STOPPED).unwrap();
+}
+
+#[test]
+fn a_keeper_that_counts_the_refused_record_is_seen() {
+    let fault = noted_as(16, STOPPED + 256 * 16).unwrap_err();
+    assert!(fault.contains("has no block"));
+}
+
+#[test]
+fn a_keeper_that_counts_the_whole_run_is_seen() {
+    assert!(noted_as(16, 0).unwrap_err().contains("has no block"));
+}
+
+#[test]
+fn a_keeper_that_forgets_the_records_done_is_seen() {
+    assert!(noted_as(16, 2).unwrap_err().contains("does not count it"));
+}
+
+#[test]
+fn a_keeper_that_takes_the_first_record_for_the_run_is_seen() {
+    assert!(noted_as(1, 0).unwrap_err().contains("does not count it"));
+}
+
+#[test]
 fn groups_at_the_start_count() {
     let mut image = empty_image(4);
     let entry = Entry::named("OLD").block(3, 2);
@@ -193,7 +266,7 @@ fn blocks_and_groups_that_disagree_are_seen() {
 #[test]
 fn a_made_up_figure_is_seen() {
     let run = underway();
-    let mut dma = [0; 256];
+    let mut dma = [0; 2048];
     dma[0] = 8;
     run.history.check_free_space(&dma, &run.world.image).unwrap();
     for byte in 0..3 {

@@ -13,7 +13,7 @@ fn start_record() -> Vec<u8> {
 fn call_record(function: u8, process: u8, count: u8) -> Vec<u8> {
     let mut record = vec![0x4D, 0x43, function, process, count];
     record.extend(Fcb::named("FILE.DAT").unlocked().0);
-    record.extend([0; 256]);
+    record.extend([0; 2048]);
     record
 }
 
@@ -91,7 +91,7 @@ fn every_cut() {
         let (printed, out) = run(Some(&empty_image(3)), &input[..length]);
         let (calls, rest) = match length {
             0..21 => (0, None),
-            _ => ((length - 21) / 297, Some((length - 21) % 297)),
+            _ => ((length - 21) / 2089, Some((length - 21) % 2089)),
         };
         let last = match rest {
             None => "bad record 0\n".to_string(),
@@ -103,9 +103,55 @@ fn every_cut() {
     }
 }
 
+/// A call record with this count and first record, and a DMA whose records have bytes 1 to 16.
+fn run_record(function: u8, count: u8, record: u32) -> Vec<u8> {
+    let mut bytes = vec![0x4D, 0x43, function, 1, count];
+    bytes.extend(Fcb::named("FILE.DAT").unlocked().record(record).0);
+    bytes.extend((1..=16).flat_map(|byte| [byte; 128]));
+    bytes
+}
+
+#[test]
+fn a_run_that_stops_is_printed_with_its_records_done() {
+    // One block is free: records 5 to 7 get it, 8 gets none. Then 5 to 7 can be read, 8 cannot.
+    let input = [
+        start_record(),
+        call_record(22, 1, 1),
+        run_record(34, 16, 5),
+        run_record(33, 16, 5),
+        run_record(33, 3, 5),
+    ]
+    .concat();
+    let (printed, out) = run(Some(&empty_image(3)), &input);
+    let lines = "0 1 22 0 0\n1 1 34 2 48\n2 1 33 1 48\n3 1 33 0 0\n";
+    assert_eq!(printed, format!("{HEADER}{lines}end 4\n"));
+    let out = out.unwrap();
+    assert_eq!(out[15..18], [8, 2, 0]);
+    for (record, byte) in [(5, 1), (6, 2), (7, 3)] {
+        let at = 2048 + 128 * record;
+        assert_eq!(out[at..at + 128], [byte; 128]);
+    }
+    assert_eq!(out[2048..2048 + 5 * 128], [0xE5; 5 * 128]);
+}
+
+#[test]
+fn records_of_the_old_length_are_no_records() {
+    // Eight of them make one of the new length and a rest that is cut.
+    for (number, lines) in [
+        (1, "bad record 1\n"),
+        (7, "bad record 1\n"),
+        (8, "0 1 46 0 0\nbad record 2\n"),
+    ] {
+        let calls = call_record(46, 1, 1)[..297].repeat(number);
+        let (printed, out) = run(Some(&empty_image(3)), &[start_record(), calls].concat());
+        assert_eq!(printed, format!("{HEADER}{lines}"), "{number} records");
+        assert_eq!(out, None);
+    }
+}
+
 #[test]
 fn bad_marks() {
-    for (at, wanted) in [(0, 0), (1, 0), (21, 1), (22, 1), (21 + 297, 2), (22 + 297, 2)] {
+    for (at, wanted) in [(0, 0), (1, 0), (21, 1), (22, 1), (21 + 2089, 2), (22 + 2089, 2)] {
         let mut input = two_calls();
         input[at] ^= 0x10;
         let (printed, out) = run(Some(&empty_image(3)), &input);

@@ -349,5 +349,5 @@ fn rename_keeps_the_high_bits_of_each_entry() {
         .with(16, 77);
     assert_eq!(world.ask(0, 23, fcb).fill(3).go(), OK);
     assert!(world.list == wanted.list && world.image == wanted.image);
-    assert!(world.fcb == fcb.0 && world.dma == [3; 256]);
+    assert!(world.fcb == fcb.0 && world.dma == [3; 2048]);
 }

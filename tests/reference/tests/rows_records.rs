@@ -78,7 +78,7 @@ fn read_copies_the_record_whatever_the_count_and_the_locks() {
     for (record, byte) in [(0, 1), (6, 7), (7, 8), (16, 9), (23, 16), (4096, 17), (4103, 24)] {
         assert_eq!(world.ask(0, 33, file().record(record)).fill(0xCC).go(), OK);
         assert_eq!(world.dma[..128], [byte; 128]);
-        assert_eq!(world.dma[128..], [0xCC; 128]);
+        assert_eq!(world.dma[128..], [0xCC; 1920]);
     }
     assert!(world.image == before.image && world.list == before.list);
     assert_eq!(world.fcb, file().record(4103).0);
@@ -229,7 +229,7 @@ fn test_and_write_rows() {
     assert_eq!(world.ask(0, 41, file().record(128)).go(), (4, 0));
     assert_eq!(world.ask(0, 41, file().record(8)).go(), (1, 0));
     for at in [0, 1, 64, 127] {
-        let mut dma = [1; 256];
+        let mut dma = [1; 2048];
         dma[at] ^= 0x40;
         assert_eq!(world.ask(0, 41, file()).dma(&dma).go(), (7, 0));
     }
@@ -335,7 +335,7 @@ fn modes_0_and_2_have_no_effect() {
             let wild = fcb.with(33, 255).with(34, 255).with(35, 255);
             assert_eq!(world.ask(0, function, wild).count(16).fill(0xFF).go(), OK);
             assert!(world.list == before.list && world.image == before.image);
-            assert!(world.fcb == wild.0 && world.dma == [0xFF; 256]);
+            assert!(world.fcb == wild.0 && world.dma == [0xFF; 2048]);
         }
     }
 }
@@ -423,7 +423,7 @@ fn free_space() {
     let mut world = World::new(image(6));
     assert_eq!(world.ask(15, 46, Fcb([0xFF; 36])).fill(0xAB).go(), OK);
     assert_eq!(world.dma[..3], [8, 0, 0]);
-    assert_eq!(world.dma[3..], [0xAB; 253]);
+    assert_eq!(world.dma[3..], [0xAB; 2045]);
     assert_eq!(world.fcb, [0xFF; 36]);
 }
 
@@ -438,7 +438,7 @@ fn terminate_takes_all_of_the_callers_items() {
     }
     assert_eq!(world.ask(0, 143, Fcb([0x99; 36])).fill(7).go(), OK);
     assert!(world.list == wanted.list && world.image == wanted.image);
-    assert!(world.fcb == [0x99; 36] && world.dma == [7; 256]);
+    assert!(world.fcb == [0x99; 36] && world.dma == [7; 2048]);
     let left = world.clone();
     assert_eq!(world.ask(0, 143, Fcb([0x99; 36])).go(), OK);
     assert!(world.list == left.list);

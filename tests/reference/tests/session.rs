@@ -90,7 +90,7 @@ fn s0_to_s13() {
     assert_eq!(session.call(2, 34, 16, 1), (2, 0), "S7");
 
     assert_eq!(session.call(1, 46, 0, 1), OK, "S8");
-    assert_eq!(session.world.dma, [0; 256]);
+    assert_eq!(session.world.dma, [0; 2048]);
 
     let list = session.world.list.clone();
     assert_eq!(session.call(1, 42, 0, 1), OK, "S9");
@@ -127,7 +127,7 @@ fn s0_to_s6_printed() {
     for (function, process, record, id) in calls {
         input.extend([0x4D, 0x43, function, process, 1]);
         input.extend(orders(record).0);
-        let mut dma = [0; 256];
+        let mut dma = [0; 2048];
         dma[0] = id;
         input.extend(dma);
     }

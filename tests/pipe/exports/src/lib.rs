@@ -1,4 +1,4 @@
-//! The reference behind the engine's four C symbols, to try `pipe.c` and the feature `linked` with.
+//! The reference behind the engine's five C symbols, to try `pipe.c` and the feature `linked` with.
 
 use std::slice::{from_raw_parts, from_raw_parts_mut};
 
@@ -38,6 +38,34 @@ pub unsafe extern "C" fn mpm_call(
     image_len: usize,
 ) -> u32 {
     reference::call(
+        function,
+        process,
+        count,
+        lent_mut(fcb, fcb_len),
+        lent_mut(dma, dma_len),
+        lent_mut(list, list_len),
+        lent_mut(image, image_len),
+    )
+}
+
+/// # Safety
+/// The four buffers must be good for their lengths and separate.
+#[no_mangle]
+#[allow(clippy::too_many_arguments)]
+pub unsafe extern "C" fn mpm_singly(
+    function: u32,
+    process: u32,
+    count: u32,
+    fcb: *mut u8,
+    fcb_len: usize,
+    dma: *mut u8,
+    dma_len: usize,
+    list: *mut u8,
+    list_len: usize,
+    image: *mut u8,
+    image_len: usize,
+) -> u32 {
+    reference::call_singly(
         function,
         process,
         count,

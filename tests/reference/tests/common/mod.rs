@@ -2,6 +2,7 @@
 #![allow(dead_code)]
 
 use reference::build::{empty_image, Fcb};
+use reference::calls::DMA_LENGTH;
 
 pub type Answer = (u32, u32);
 pub const OK: Answer = (0, 0);
@@ -63,7 +64,7 @@ impl World {
             process,
             count: 1,
             fcb: fcb.0.to_vec(),
-            dma: vec![0; 256],
+            dma: vec![0; DMA_LENGTH],
         }
     }
 
@@ -112,7 +113,15 @@ impl Call<'_> {
         self
     }
 
-    /// Does the call. A refusal must leave all four buffers unchanged.
+    /// Each record of the DMA has a byte of its own, one more than that of the record before.
+    pub fn rising(mut self, first: u8) -> Self {
+        for (byte, record) in (first..).zip(self.dma.chunks_mut(128)) {
+            record.fill(byte);
+        }
+        self
+    }
+
+    /// Does the call. A refusal must leave all four buffers unchanged, unless records were done.
     pub fn go(self) -> Answer {
         let Call {
             world,
@@ -135,7 +144,8 @@ impl Call<'_> {
             &mut world.image,
         );
         let answer = split(word);
-        if answer != OK {
+        let records_done = answer.1 / 16;
+        if answer != OK && records_done == 0 {
             assert!(
                 *world == before,
                 "refusal {answer:?} of {function} changed a buffer"
@@ -145,9 +155,9 @@ impl Call<'_> {
     }
 }
 
-/// A DMA whose first record is `tested` and whose second is `written`.
+/// A DMA whose first record is `tested` and whose others are `written`.
 pub fn two_records(tested: &[u8], written: u8) -> Vec<u8> {
     let mut dma = tested.to_vec();
-    dma.resize(256, written);
+    dma.resize(DMA_LENGTH, written);
     dma
 }

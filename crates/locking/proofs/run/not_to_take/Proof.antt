@@ -9,7 +9,7 @@ unfolding rowsTake
 not-to-take-spec =
     tie.close
     (tie.spec
-    -- any-others-requires src/run.rt:115:8
+    -- any-others-requires
     (λ c κs. search needs)
     -- returns src/run.rt:116:9
     (λ c. search codes depth 8 fits 20000)

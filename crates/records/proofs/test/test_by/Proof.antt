@@ -10,7 +10,7 @@ pub test-by-spec : {M : Type 1} → statement M
 test-by-spec =
     tie.close
     (tie.spec
-    -- look-up-requires src/test.rt:54:9
+    -- entry-of-requires src/test.rt:54:9
     (λ c κs. search needs)
     -- may-write-requires src/test.rt:55:9
     (λ c κs. search needs)
@@ -18,7 +18,7 @@ test-by-spec =
     (λ c. search needs)
     -- returns src/test.rt:57:9
     (λ c. search test-refused)
-    -- entry-of-requires src/test.rt:60:9
+    -- entry-of-requires-2
     (λ c κs. search needs)
     -- not-there-requires src/test.rt:61:9
     (λ c κs. search needs)
@@ -29,13 +29,13 @@ test-by-spec =
     -- spot-at-requires src/test.rt:65:9
     (λ c κs. search needs)
     -- mul-any-differs src/test.rt:67:34
-    (λ c. let h = there-within highest _ (c .before .before .before .before .before .before .before .before .before .before .before .before .before .before .before .before .before .pre .image-sound) _ _ _ _ _ (c .before .before .before .before .before .before .entry-of .ensures .0) (c .before .spot-at .ensures) (c .before .before .before .before .not-there .ensures) (c .before .before .before .if2 .left) in search needs)
+    (λ c. let h = there-within highest _ (c .before .before .before .before .before .before .before .before .before .before .before .before .before .before .before .before .before .pre .image-sound) _ _ _ _ _ (c .before .before .before .before .before .before .entry-of2 .ensures .0) (c .before .spot-at .ensures) (c .before .before .before .before .not-there .ensures) (c .before .before .before .if2 .left) in search needs)
     -- mul-any-differs-2 src/test.rt:67:49
     (λ c. search needs)
     -- add-any-differs src/test.rt:67:34
-    (λ c. let h = there-within highest _ (c .before .before .before .before .before .before .before .before .before .before .before .before .before .before .before .before .before .pre .image-sound) _ _ _ _ _ (c .before .before .before .before .before .before .entry-of .ensures .0) (c .before .spot-at .ensures) (c .before .before .before .before .not-there .ensures) (c .before .before .before .if2 .left) in search needs)
+    (λ c. let h = there-within highest _ (c .before .before .before .before .before .before .before .before .before .before .before .before .before .before .before .before .before .pre .image-sound) _ _ _ _ _ (c .before .before .before .before .before .before .entry-of2 .ensures .0) (c .before .spot-at .ensures) (c .before .before .before .before .not-there .ensures) (c .before .before .before .if2 .left) in search needs)
     -- any-differs-requires src/test.rt:67:8
-    (λ c κs. let h = there-within highest _ (c .before .before .before .before .before .before .before .before .before .before .before .before .before .before .before .before .before .pre .image-sound) _ _ _ _ _ (c .before .before .before .before .before .before .entry-of .ensures .0) (c .before .spot-at .ensures) (c .before .before .before .before .not-there .ensures) (c .before .before .before .if2 .left) in search needs)
+    (λ c κs. let h = there-within highest _ (c .before .before .before .before .before .before .before .before .before .before .before .before .before .before .before .before .before .pre .image-sound) _ _ _ _ _ (c .before .before .before .before .before .before .entry-of2 .ensures .0) (c .before .spot-at .ensures) (c .before .before .before .before .not-there .ensures) (c .before .before .before .if2 .left) in search needs)
     -- same-length-3 src/test.rt:68:9
     (λ c. search needs)
     -- returns-3 src/test.rt:68:9
@@ -47,7 +47,7 @@ test-by-spec =
     -- part-write-record-end src/test.rt:70:55
     (λ c. search needs)
     -- write-record-requires src/test.rt:70:5
-    (λ c κs. let h = there-within highest _ (c .before .before .before .before .before .before .before .before .before .before .before .before .before .before .before .before .before .before .before .before .before .pre .image-sound) _ _ _ _ _ (c .before .before .before .before .before .before .before .before .before .before .entry-of .ensures .0) (c .before .before .before .before .before .spot-at .ensures) (c .before .before .before .before .before .before .before .before .not-there .ensures) (c .before .before .before .before .before .before .before .if2 .left) in let n = may-number _ _ _ _ _ _ _ _ (c .before .before .before .before .before .before .before .before .before .before .before .before .before .before .before .look-up .ensures .0) (c .before .before .before .before .before .before .before .before .before .before .before .before .before .may-write .ensures) (c .before .before .before .before .before .before .before .before .before .before .before .before .if1 .left) in search needs)
+    (λ c κs. let h = there-within highest _ (c .before .before .before .before .before .before .before .before .before .before .before .before .before .before .before .before .before .before .before .before .before .pre .image-sound) _ _ _ _ _ (c .before .before .before .before .before .before .before .before .before .before .entry-of2 .ensures .0) (c .before .before .before .before .before .spot-at .ensures) (c .before .before .before .before .before .before .before .before .not-there .ensures) (c .before .before .before .before .before .before .before .if2 .left) in let n = may-number _ _ _ _ _ _ _ _ (c .before .before .before .before .before .before .before .before .before .before .before .before .before .may-write .ensures) (c .before .before .before .before .before .before .before .before .before .before .before .before .if1 .left) in search needs)
     -- same-length-4 src/test.rt:40:1
     (λ c. search needs)
     -- returns-4 src/test.rt:40:1

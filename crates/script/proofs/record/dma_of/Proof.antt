@@ -13,6 +13,6 @@ dma-of-spec =
     -- dma-in-requires
     (λ c κs. search needs)
     -- put-bytes-requires
-    (λ c κs. part-fits (c .before .before .before .args .s .now) _ 41 256 297 (c .dma-in .ensures) (search needs) (omega arith))
+    (λ c κs. part-fits (c .before .before .before .args .s .now) _ 41 2048 2089 (c .dma-in .ensures) (search needs) (omega arith))
     -- returns
-    (λ c. part-copied (c .before .before .before .before .before .args .s .now) _ _ _ 41 256 297 (c .before .put-bytes .ensures) (c .before .before .dma-in .ensures) (search needs) (omega arith) (search needs)))
+    (λ c. part-copied (c .before .before .before .before .before .args .s .now) _ _ _ 41 2048 2089 (c .before .put-bytes .ensures) (c .before .before .dma-in .ensures) (search needs) (omega arith) (search needs)))

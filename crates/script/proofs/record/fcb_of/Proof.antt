@@ -13,6 +13,6 @@ fcb-of-spec =
     -- fcb-in-requires
     (λ c κs. search needs)
     -- put-bytes-requires
-    (λ c κs. part-fits (c .before .before .before .args .s .now) _ 5 36 297 (c .fcb-in .ensures) (search needs) (omega arith))
+    (λ c κs. part-fits (c .before .before .before .args .s .now) _ 5 36 2089 (c .fcb-in .ensures) (search needs) (omega arith))
     -- returns
-    (λ c. part-copied (c .before .before .before .before .before .args .s .now) _ _ _ 5 36 297 (c .before .put-bytes .ensures) (c .before .before .fcb-in .ensures) (search needs) (omega arith) (search needs)))
+    (λ c. part-copied (c .before .before .before .before .before .args .s .now) _ _ _ 5 36 2089 (c .before .put-bytes .ensures) (c .before .before .fcb-in .ensures) (search needs) (omega arith) (search needs)))

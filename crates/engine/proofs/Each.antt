@@ -1,0 +1,143 @@
+-- The plain engine: single calls one after another. Assumes nothing.
+use Prim.Native.Nat.{ℕ, suc, _+_, _-_, _*_, _≤_, _<_}
+use mathlib.Core.Path.{_≡_, refl, sym, ap, _∙_}
+use mathlib.Core.Bool.{Bool, true, false, not}
+use mathlib.Core.List.{List}
+use mathlib.Core.Logic.{⊎-elim}
+use native.Mathlib.Numerals.{add-one}
+use native.Mathlib.Omega.{arith}
+use lib.ListN.{length, take, drop}
+use Rattle.words.specs.Bytes.{part, put}
+use Rattle.words.specs.Tables.{firstOf, anyRow}
+use Rattle.words.proofs.Tests.{either}
+use Rattle.words.proofs.Bytes.{put-whole}
+use Rattle.words.proofs.Tables.{zero-none}
+use Rattle.words.proofs.Sets.{not-yes, not-no}
+use Rattle.rules.specs.Serves.{Buffers, Outcome, Did, buffers, outcome}
+use Rattle.rules.specs.Asks.{recordOf}
+use Rattle.rules.specs.Codes.{rowsAll}
+use Rattle.rules.specs.Call.{rowsCall, call}
+use Rattle.rules.specs.Several.{servesRun, threeOf, fcbAt, dmaAt, single, backAt, run, several, singly, callSingly}
+use Rattle.rules.proofs.Tables.{nonzero-all, refused, accepted-zero, answer-is}
+use Rattle.rules.proofs.Passed.{Passed, passed}
+use Rattle.rules.proofs.Ends.{did-as, did-none}
+use Rattle.rules.proofs.Singles.{run-chosen, done-within}
+use Rattle.rules.proofs.Several.{codeAt, several-none, several-more, several-stops, several-stays, singly-plain, singly-refused, singly-told}
+use Rattle.engine.specs.Calls.{callBy, DidSingle}
+
+-- ---- its FCB and its DMA
+
+pub fcb-made : (fcb zero a v own : List ℕ) (r i : ℕ) → length fcb ≡ 36 → length zero ≡ 36 → r ≡ recordOf fcb → a ≡ put 0 fcb zero → v ≡ threeOf (r + i) → own ≡ put 33 v a → own ≡ fcbAt i fcb
+unfolding fcbAt
+fcb-made fcb zero a v own r i n m hr ha hv h =
+    h ∙ ap (λ (x : List ℕ). put 33 x a) (hv ∙ ap (λ (x : ℕ). threeOf (x + i)) hr)
+    ∙ ap (λ (x : List ℕ). put 33 (threeOf (recordOf fcb + i)) x) (ha ∙ put-whole fcb zero (n ∙ sym m))
+
+pub dma-made : (dma zero a own : List ℕ) (i : ℕ) → length dma ≡ 2048 → length zero ≡ 2048 → a ≡ put 0 dma zero → own ≡ put 0 (take (128 * i + 128 - 128 * i) (drop (128 * i) dma)) a → own ≡ dmaAt i dma
+unfolding dmaAt
+dma-made dma zero a own i n m ha h =
+    let k : 128 * i + 128 - 128 * i ≡ 128 = omega arith in
+    h ∙ ap (λ (x : ℕ). put 0 (take x (drop (128 * i) dma)) a) k ∙ ap (λ (x : List ℕ). put 0 (part (128 * i) 128 dma) x) (ha ∙ put-whole dma zero (n ∙ sym m))
+
+-- ---- the single call
+
+module _ (n p i : ℕ) (b : Buffers) (fcb dma : List ℕ) (hf : fcb ≡ fcbAt i (b .fcb)) (hd : dma ≡ dmaAt i (b .dma)) (code : ℕ) (fcb′ dma′ list′ image′ : List ℕ) (d : Did (callBy false n p 1 (buffers fcb dma (b .list) (b .image))) code fcb′ dma′ list′ image′) where
+  as-single : Did (call n p 1 (single i b)) code fcb′ dma′ list′ image′
+  unfolding callBy single
+  as-single = did-as _ _ code fcb′ dma′ list′ image′ (ap (λ (x : List ℕ). call n p 1 (buffers x dma (b .list) (b .image))) hf ∙ ap (λ (x : List ℕ). call n p 1 (buffers (fcbAt i (b .fcb)) x (b .list) (b .image))) hd) d
+
+  still : (code ≡ 0 → ⊥) → call n p 1 (single i b) .left ≡ single i b
+  still z =
+      ⊎-elim (λ (h : anyRow (rowsCall n p 1 (single i b)) ≡ true). ap (λ (o : Outcome). o .left) (refused n p 1 (single i b) h))
+      (λ (h : anyRow (rowsCall n p 1 (single i b)) ≡ false). absurd (z (as-single .gives ∙ accepted-zero n p 1 (single i b) h))) (either (anyRow (rowsCall n p 1 (single i b))))
+
+  -- refused
+  pub one-refused : (code ≡ 0 → ⊥) → DidSingle n p i b code (b .dma) list′ image′
+  unfolding single
+  one-refused z = record {
+    gives = as-single .gives;
+    done = λ y. absurd (z y);
+    kept = λ y. λ j. record {
+      fcb = b .fcb;
+      dma = b .dma;
+      list = (as-single .leaves-list ∙ ap (λ (x : Buffers). x .list) (still z)) j;
+      image = (as-single .leaves-image ∙ ap (λ (x : Buffers). x .image) (still z)) j;
+    };
+  }
+
+  -- done
+  pub one-done : (left : List ℕ) → code ≡ 0 → left ≡ put (128 * i) (take (128 - 0) (drop 0 dma′)) (b .dma) → DidSingle n p i b 0 left list′ image′
+  unfolding backAt
+  one-done left z h = record {
+    gives = sym z ∙ as-single .gives;
+    done = λ y. λ j. record {
+      fcb = b .fcb;
+      dma = (h ∙ ap (λ (x : List ℕ). put (128 * i) (take 128 x) (b .dma)) (as-single .leaves-dma)) j;
+      list = as-single .leaves-list j;
+      image = as-single .leaves-image j;
+    };
+    kept = λ y. absurd (y refl);
+  }
+
+-- ---- one after another
+
+pub each-none : (n p : ℕ) (b : Buffers) → several n p 0 b ≡ run 0 0 b
+each-none n p b = several-none n p b
+
+module _ (n p c i : ℕ) (b : Buffers) (fcb₁ dma₁ list₁ image₁ : List ℕ) (h : several n p i b ≡ run 0 i (buffers fcb₁ dma₁ list₁ image₁)) where
+  abbrev b′ : Buffers
+  b′ = buffers fcb₁ dma₁ list₁ image₁
+
+  module _ (code : ℕ) (dma list image : List ℕ) (d : DidSingle n p i (buffers fcb₁ dma₁ list₁ image₁) code dma list image) where
+    code-told : code ≡ codeAt n p i b′
+    code-told = d .gives ∙ answer-is n p 1 (single i b′)
+
+    pub each-more : code ≡ 0 → several n p (i + 1) b ≡ run 0 (i + 1) (buffers fcb₁ dma list image)
+    each-more z = rw add-one (several-more n p i b b′ h (sym code-told ∙ z) ∙ ap (λ (x : Buffers). run 0 (suc i) x) (sym (d .done z)))
+
+    -- the next record's number still has three bytes
+    pub each-number : (r : ℕ) → servesRun n ≡ true → length fcb₁ ≡ 36 → r ≡ recordOf fcb₁ → code ≡ 0 → r + (i + 1) < 16777216
+    each-number r s long e z = let k = done-within n p i b′ (run-chosen n s) long (sym code-told ∙ z) in omega arith
+
+    pub each-stops : (code ≡ 0 → ⊥) → i < c → Did (singly (several n p c b)) code fcb₁ dma list image
+    unfolding singly
+    each-stops z l =
+        let y : codeAt n p i b′ ≡ 0 → ⊥ = λ q. z (code-told ∙ q) in
+        let g = several-stays n p (suc i) c b (run (codeAt n p i b′) i b′) (several-stops n p i b b′ h y) y (omega arith) in
+        let k = d .kept z in
+        rw g (record {
+          gives = code-told;
+          leaves-fcb = refl;
+          leaves-dma = ap (λ (x : Buffers). x .dma) k;
+          leaves-list = ap (λ (x : Buffers). x .list) k;
+          leaves-image = ap (λ (x : Buffers). x .image) k;
+        })
+
+  pub each-ends : c ≤ i → i ≤ c → Did (singly (several n p c b)) 0 fcb₁ dma₁ list₁ image₁
+  unfolding singly
+  each-ends l m = let q : c ≡ i = omega arith in rw (q, h) (did-none 0 b′)
+
+-- ---- the call
+
+module _ (n p c : ℕ) (b : Buffers) (r : Bool) (e : r ≡ servesRun n) where
+  -- one that takes no run of records
+  pub singly-other : (a : ℕ) (fcb dma list image : List ℕ) → not r ≡ true → Did (callBy false n p c b) a fcb dma list image → Did (callSingly n p c b) a fcb dma list image
+  unfolding callBy
+  singly-other a fcb dma list image h d = did-as _ _ a fcb dma list image (sym (singly-plain n p c b (not-no r _ e h))) d
+
+  module _ (h : not r ≡ false) (code : ℕ) (k : code ≡ firstOf (rowsAll n p c b)) where
+    -- a general refusal
+    pub singly-stopped : (code ≡ 0 → ⊥) → Did (callSingly n p c b) code (b .fcb) (b .dma) (b .list) (b .image)
+    singly-stopped z =
+        did-as _ _ _ _ _ _ _ (ap (λ (a : ℕ). outcome a b) k ∙ sym (singly-refused n p c b (not-yes r _ e h) (λ q. z (k ∙ q)))) (did-none code b)
+
+    pub singly-went : (a : ℕ) (fcb dma list image : List ℕ) → code ≡ 0 → Did (singly (several n p c b)) a fcb dma list image → Did (callSingly n p c b) a fcb dma list image
+    singly-went a fcb dma list image z d = did-as _ _ a fcb dma list image (sym (singly-told n p c b (not-yes r _ e h) (sym k ∙ z))) d
+
+-- what the general table leaves to the single calls
+module _ (n p c : ℕ) (fcb dma list image : List ℕ) (code : ℕ) (k : code ≡ firstOf (rowsAll n p c (buffers fcb dma list image))) (z : code ≡ 0) where
+  all : Passed p c (buffers fcb dma list image)
+  all = passed n p c _ (zero-none (rowsAll n p c (buffers fcb dma list image)) (nonzero-all n p c (buffers fcb dma list image)) (sym k ∙ z))
+
+  pub goes-each : (length fcb ≡ 36) × (length dma ≡ 2048) × (c ≤ 16)
+  goes-each = (all .ready .fcb-long, all .ready .dma-long, all .run-fits)

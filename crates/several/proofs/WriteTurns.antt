@@ -1,0 +1,360 @@
+-- 34 and 40 record by record: each turn is the single call of its record. Assumes nothing.
+use Prim.Native.Nat.{ℕ, suc, _+_, _-_, _*_, _/_, _≤_, _<_}
+use mathlib.Core.Path.{_≡_, refl, sym, ap, subst, _∙_}
+use mathlib.Core.Bool.{Bool, true, false}
+use mathlib.Core.List.{List, _++_}
+use mathlib.Core.Logic.{⊎-elim}
+use native.Mathlib.Numerals.{add-one}
+use native.Mathlib.Omega.{arith}
+use lib.ListN.{length, take, drop}
+use lib.Seq.{take-length}
+use lib.Dec.{eqb, leb}
+use borrow.Author.Tests.{eq-eqb, ne-eqb, eqb-false, leb-false, ltb-false}
+use Rattle.words.specs.Tests.{_and_, _or_, _if_else_, lowest}
+use Rattle.words.specs.Bytes.{part}
+use Rattle.words.specs.Tables.{Row, firstOf, anyRow, noneZero}
+use Rattle.words.proofs.Tests.{either, equal?, or-fst, or-snd, lowest-holds, lowest-least}
+use Rattle.words.proofs.Tables.{nonzeros, zero-none, first-below, belows}
+use Rattle.words.proofs.Bytes.{part-long}
+use Rattle.rules.specs.declared.file.File.{File}
+use Rattle.rules.specs.declared.list.LockList.{LockList}
+use Rattle.rules.specs.declared.spot.Spot.{Spot}
+use Rattle.rules.specs.declared.routine.Chosen.{Chosen}
+use Rattle.rules.specs.declared.routine.Chosen.the-variants.{Call}
+use Rattle.rules.specs.declared.routine.Routine.{Routine}
+use Rattle.rules.specs.declared.routine.Routine.the-variants.{Write, WriteZeros}
+use Rattle.rules.specs.Serves.{Buffers, Outcome, Did, buffers, outcome, chosen, isUnknown, withImage}
+use Rattle.rules.specs.Drive.{highest, blocks, goodLength, entryOf, lookUp, readOnly, blockIn, freeEntry, freeBlock}
+use Rattle.rules.specs.Locks.{itemAt, unpack, openOf, lockedByOther}
+use Rattle.rules.specs.Asks.{callerFile, recordOf}
+use Rattle.rules.specs.Codes.{rowsMay, rowsRoom, rows34, isOthers}
+use Rattle.rules.specs.Effects.{spotAt, stored, written, does34}
+use Rattle.rules.specs.Call.{Ready, askedBy, rowsOf, effectOf, call}
+use Rattle.rules.specs.Several.{dmaAt, single, backAt, run, several, told}
+use Rattle.rules.proofs.Sound.{SoundImage, sound-of, sound-length, length-long, length-few, length-whole, found-is}
+use Rattle.rules.proofs.SoundList.{unpack-shape, list-sound-of}
+use Rattle.rules.proofs.Passed.{Passed}
+use Rattle.rules.proofs.Ends.{did-as, did-none}
+use Rattle.rules.proofs.Singles.{Runs, isWrite, isZeros, dma-front, dma-still, askedAt, code-single, effect-single}
+use Rattle.rules.proofs.Several.{codeAt, several-none, several-more, stops-told, ends-told}
+use Rattle.soundness.proofs.Passed.{any-append, opened-so}
+use Rattle.soundness.proofs.Taken.{caller-long, own-there}
+use Rattle.soundness.proofs.Blocks.{only, found-below}
+use Rattle.soundness.proofs.Written.{written-entry, written-first}
+use Rattle.soundness.proofs.Kept.{SoundBoth, call-sound}
+use Rattle.records.specs.By.{rowsMayBy, OneDid}
+use Rattle.records.proofs.Writing.{may-by}
+use Rattle.several.specs.So.{Asks, writeNumber, StopsAt, Writing}
+use Rattle.several.proofs.Extents.{known-none, known-more}
+
+-- ---- the record's bytes of the DMA
+
+module _ (i : ℕ) (dma : List ℕ) (h : 128 * i + 128 ≤ length dma) where
+  front-again : take 128 (part (128 * i) 128 dma) ≡ part (128 * i) 128 dma
+  front-again =
+      let n : length (part (128 * i) 128 dma) ≡ 128 = part-long dma (128 * i) 128 h in
+      ap (λ (m : ℕ). take m (part (128 * i) 128 dma)) (sym n) ∙ take-length (part (128 * i) 128 dma)
+
+  -- a record is written from the first 128 bytes alone
+  written-front : (zeros : Bool) (w : Spot) (e₀ : ℕ) (f : File) (r : ℕ) (s : List ℕ) → written zeros w e₀ f r (dmaAt i dma) s ≡ written zeros w e₀ f r (part (128 * i) 128 dma) s
+  unfolding written stored
+  written-front zeros w e₀ f r s = rw (dma-front i dma h, front-again) refl
+
+-- the part that is lent for a record
+pub lent-long : (dma : List ℕ) (i c : ℕ) → i < c → c ≤ 16 → length dma ≡ 2048 → 128 ≤ length (take (128 * i + 128 - 128 * i) (drop (128 * i) dma))
+lent-long dma i c h g n₀ =
+    let k : 128 * i + 128 - 128 * i ≡ 128 = omega arith in
+    let n : length (part (128 * i) 128 dma) ≡ 128 = part-long dma (128 * i) 128 (omega arith) in
+    rw k (omega arith)
+
+-- ---- another's lock
+
+module _ (l : LockList) (p : ℕ) (f : File) (r c i locked : ℕ) (is : locked ≡ lowest (isOthers l p f r) c) (below : i < c) (so : i ≤ locked) where
+  -- the record at distance i is locked by another exactly where it is the first that is
+  locked-here : eqb i locked ≡ lockedByOther l p f (r + i)
+  unfolding isOthers
+  locked-here =
+      ⊎-elim
+      (λ (q : i ≡ locked).
+      let g : lowest (isOthers l p f r) c ≡ i = sym (q ∙ is) in
+      eq-eqb i locked q ∙ sym (subst (λ (k : ℕ). isOthers l p f r k ≡ true) g (lowest-holds (isOthers l p f r) c (omega arith))))
+      (λ (q : i ≡ locked → ⊥). ne-eqb i locked q ∙ sym (lowest-least (isOthers l p f r) c i (let e = is in omega arith)))
+      (equal? i locked)
+
+-- ---- no row of the table applies
+
+record Passes (p : ℕ) (l : LockList) (o : ℕ) (f : File) (e r : ℕ) (s : List ℕ) : Type 0 where
+  is-open : o < 64
+  far : r < 262144
+  free : lockedByOther l p f r ≡ false
+  entry-room : (leb 64 e and leb 64 (freeEntry s)) ≡ false
+  block-room : (eqb (blockIn s e r) 0 and leb (blocks s) (freeBlock s)) ≡ false
+
+module _ (p : ℕ) (l : LockList) (o : ℕ) (f : File) (e₀ e r : ℕ) (s : List ℕ) where
+  real-34 : noneZero (rows34 p l o f e₀ e r s) ≡ true
+  unfolding rows34 rowsMay rowsRoom
+  real-34 = search nonzeros depth 20 fits 20000
+
+  passes-34 : firstOf (rows34 p l o f e₀ e r s) ≡ 0 → Passes p l o f e r s
+  unfolding rows34 rowsMay rowsRoom anyRow
+  passes-34 z =
+      let h = zero-none (rows34 p l o f e₀ e r s) real-34 z in
+      let g = any-append (rowsMay p l o f e₀ r s) (rowsRoom s e r) h in
+      let a = or-snd _ _ (or-snd _ _ (g .0)) in
+      let b : r ≤ 262143 = ltb-false highest r (or-fst _ _ a) in
+      record {
+        is-open = opened-so o (or-fst _ _ (g .0));
+        far = omega arith;
+        free = or-fst _ _ (or-snd _ _ a);
+        entry-room = or-fst _ _ (g .1);
+        block-room = or-fst _ _ (or-snd _ _ (g .1));
+      }
+
+-- the code of one record's write leaves the high four bits of H free
+pub below-34 : (zeros : Bool) (o : ℕ) (stopped locked : Bool) (f : File) (e₀ e r : ℕ) (v s : List ℕ) (code entry : ℕ) (t : List ℕ) → OneDid zeros o stopped locked f e₀ e r v s code entry t → code < 4096
+unfolding rowsMayBy rowsRoom
+below-34 zeros o stopped locked f e₀ e r v s code entry t d =
+    rw (d .gives) (first-below 4096 _ (omega arith) (search belows depth 20 fits 20000))
+
+-- ---- a turn
+
+unfoldable routineOf : Bool → Routine
+routineOf false = Write
+routineOf true = WriteZeros
+
+write-chosen : (zeros : Bool) → chosen (writeNumber zeros) ≡ Call (routineOf zeros)
+unfolding chosen _if_else_ writeNumber routineOf
+write-chosen false = refl
+write-chosen true = refl
+
+write-runs : (zeros : Bool) → Runs (Call (routineOf zeros))
+unfolding routineOf
+write-runs false = isWrite
+write-runs true = isZeros
+
+module _ (zeros : Bool) (p c : ℕ) (f : File) (e₀ o r locked : ℕ) (b : Buffers) (a : Asks (writeNumber zeros) p c f o r b) (i e₁ : ℕ) (s : List ℕ) (w : Writing zeros p f e₀ r locked b i e₁ s) (below : i < c) where
+  abbrev n : ℕ
+  n = writeNumber zeros
+
+  abbrev l : LockList
+  l = unpack (b .list)
+
+  abbrev b′ : Buffers
+  b′ = withImage b s
+
+  abbrev ok : Ready b
+  ok = a .ready
+
+  abbrev q : ℕ
+  q = r + i
+
+  abbrev v : List ℕ
+  v = part (128 * i) 128 (b .dma)
+
+  room : 128 * i + 128 ≤ length (b .dma)
+  room = let k = a .run-fits in let m = ok .dma-long in omega arith
+
+  long : goodLength s ≡ true
+  long = sound-length highest s (w .image-sound)
+
+  again : Ready b′
+  again = record {
+    fcb-long = ok .fcb-long;
+    dma-long = ok .dma-long;
+    list-long = ok .list-long;
+    image-long = length-long s long;
+    image-short = let k = length-whole s long in let m = length-few s long in omega arith;
+    image-sound = w .image-sound;
+    list-sound = w .list-sound;
+  }
+
+  runs : Runs (chosen n)
+  runs = rw (write-chosen zeros) (write-runs zeros)
+
+  known : isUnknown (chosen n) ≡ false
+  unfolding isUnknown
+  known = ap isUnknown (write-chosen zeros)
+
+  -- the single call of this record is 34's table and effect on what was found
+  module _ (e : ℕ) (he : e ≡ entryOf s f (q / 128)) where
+    table : (z : Bool) → firstOf (rowsOf (Call (routineOf z)) (askedAt p i b′) b′) ≡ firstOf (rows34 p l (openOf l p (callerFile p l (b .fcb))) (callerFile p l (b .fcb)) (entryOf s (callerFile p l (b .fcb)) 0) (entryOf s (callerFile p l (b .fcb)) ((recordOf (b .fcb) + i) / 128)) (recordOf (b .fcb) + i) s)
+    unfolding rowsOf askedBy lookUp routineOf
+    table false = refl
+    table true = refl
+
+    rows-found : firstOf (rowsOf (chosen n) (askedAt p i b′) b′) ≡ firstOf (rows34 p l o f e₀ e q s)
+    rows-found =
+        ap (λ (k : Chosen). firstOf (rowsOf k (askedAt p i b′) b′)) (write-chosen zeros)
+        ∙ table zeros
+        ∙ ap (λ (g : File). firstOf (rows34 p l (openOf l p g) g (entryOf s g 0) (entryOf s g ((recordOf (b .fcb) + i) / 128)) (recordOf (b .fcb) + i) s)) (sym (a .file))
+        ∙ ap (λ (m : ℕ). firstOf (rows34 p l (openOf l p f) f (entryOf s f 0) (entryOf s f ((m + i) / 128)) (m + i) s)) (sym (a .number))
+        ∙ ap (λ (m : ℕ). firstOf (rows34 p l m f (entryOf s f 0) (entryOf s f (q / 128)) q s)) (sym (a .place))
+        ∙ ap (λ (m : ℕ). firstOf (rows34 p l o f m (entryOf s f (q / 128)) q s)) (sym (w .first))
+        ∙ ap (λ (m : ℕ). firstOf (rows34 p l o f e₀ m q s)) (sym he)
+
+    effects : (z : Bool) → effectOf (Call (routineOf z)) (askedAt p i b′) (single i b′) ≡ does34 z (callerFile p l (b .fcb)) (entryOf s (callerFile p l (b .fcb)) 0) (entryOf s (callerFile p l (b .fcb)) ((recordOf (b .fcb) + i) / 128)) (recordOf (b .fcb) + i) (single i b′)
+    unfolding effectOf askedBy lookUp routineOf
+    effects false = refl
+    effects true = refl
+
+    effect-found : effectOf (chosen n) (askedAt p i b′) (single i b′) ≡ does34 zeros f e₀ e q (single i b′)
+    effect-found =
+        ap (λ (k : Chosen). effectOf k (askedAt p i b′) (single i b′)) (write-chosen zeros)
+        ∙ effects zeros
+        ∙ ap (λ (g : File). does34 zeros g (entryOf s g 0) (entryOf s g ((recordOf (b .fcb) + i) / 128)) (recordOf (b .fcb) + i) (single i b′)) (sym (a .file))
+        ∙ ap (λ (m : ℕ). does34 zeros f (entryOf s f 0) (entryOf s f ((m + i) / 128)) (m + i) (single i b′)) (sym (a .number))
+        ∙ ap (λ (m : ℕ). does34 zeros f m (entryOf s f (q / 128)) q (single i b′)) (sym (w .first))
+        ∙ ap (λ (m : ℕ). does34 zeros f e₀ m q (single i b′)) (sym he)
+
+    module _ (code : ℕ) (hc : code ≡ firstOf (rows34 p l o f e₀ e q s)) where
+      code-is : codeAt n p i b′ ≡ code
+      code-is = code-single n p i b′ again known (a .process-fits) (a .drive) room runs ∙ rows-found ∙ sym hc
+
+      module _ (z : code ≡ 0) where
+        abbrev t : List ℕ
+        t = written zeros (spotAt s e q) e₀ f q v s
+
+        done : call n p 1 (single i b′) ≡ does34 zeros f e₀ e q (single i b′)
+        done = effect-single n p i b′ again known (a .process-fits) (a .drive) room runs (rows-found ∙ sym hc ∙ z) ∙ effect-found
+
+        front : written zeros (spotAt s e q) e₀ f q (dmaAt i (b .dma)) s ≡ t
+        front = written-front i (b .dma) room zeros (spotAt s e q) e₀ f q s
+
+        turn-writes : several n p (suc i) b ≡ run 0 (suc i) (withImage b t)
+        unfolding backAt single does34
+        turn-writes =
+            several-more n p i b b′ (w .so-far) (code-is ∙ z)
+            ∙ ap (λ (x : Outcome). run 0 (suc i) (backAt i b′ (x .left))) done
+            ∙ ap (λ (d : List ℕ). run 0 (suc i) (buffers (b .fcb) d (b .list) (written zeros (spotAt s e q) e₀ f q (dmaAt i (b .dma)) s))) (dma-still i (b .dma) room)
+            ∙ ap (λ (d : List ℕ). run 0 (suc i) (withImage b d)) front
+
+        both : SoundBoth (b .list) t
+        unfolding single does34
+        both =
+            let k = call-sound n p 1 (single i b′) (record { image-sound = w .image-sound; list-long = ok .list-long; list-sound = w .list-sound }) in
+            let m : SoundBoth (b .list) (written zeros (spotAt s e q) e₀ f q (dmaAt i (b .dma)) s) = subst (λ (y : Outcome). SoundBoth (y .left .list) (y .left .image)) done k in
+            subst (λ (y : List ℕ). SoundBoth (b .list) y) front m
+
+        passes : Passes p l o f e q s
+        passes = passes-34 p l o f e₀ e q s (sym hc ∙ z)
+
+        named : length (f .name) ≡ 11
+        named = rw (a .file) (caller-long p l (b .fcb))
+
+        -- the file is on the image, since the caller has it open
+        there : entryOf s f 0 < 64
+        there =
+            let o₁ : openOf l p f < 64 = (let k = a .place in let m = passes .is-open in omega arith) in
+            let o₂ : openOf l p (callerFile p l (b .fcb)) < 64 = subst (λ (y : File). openOf l p y < 64) (a .file) o₁ in
+            let all : Passed p 1 b′ = record { process-fits = a .process-fits; run-some = omega arith; run-fits = omega arith; ready = again } in
+            subst (λ (y : File). entryOf s y 0 < 64) (sym (a .file)) (own-there s p 1 b′ all (unpack-shape (b .list)) (list-sound-of (b .list) s (w .list-sound)) o₂)
+
+        -- as the laws of writing have it
+        abbrev here : ℕ
+        here = entryOf s f (q / 128)
+
+        abbrev t₀ : List ℕ
+        t₀ = written zeros (spotAt s here q) (entryOf s f 0) f q v s
+
+        same : t ≡ t₀
+        same = ap (λ (y : ℕ). written zeros (spotAt s y q) e₀ f q v s) he ∙ ap (λ (y : ℕ). written zeros (spotAt s here q) y f q v s) (w .first)
+
+        sound₀ : SoundImage highest t₀
+        sound₀ = sound-of highest t₀ (subst (λ (y : List ℕ). SoundBoth (b .list) y) same both .image-sound)
+
+        full : 128 ≤ length v
+        full = let k : length v ≡ 128 = part-long (b .dma) (128 * i) 128 room in omega arith
+
+        room₀ : (leb 64 here and leb 64 (freeEntry s)) ≡ false
+        room₀ = rw he at (passes .entry-room)
+
+        block₀ : (eqb (blockIn s here q) 0 and leb (blocks s) (freeBlock s)) ≡ false
+        block₀ = rw he at (passes .block-room)
+
+        spot-below : spotAt s here q .entry < 64
+        unfolding spotAt _if_else_ _and_
+        spot-below =
+            ⊎-elim (λ (y : leb 64 here ≡ true). rw y (leb-false 64 _ (rw y at room₀)))
+            (λ (y : leb 64 here ≡ false). ⊎-elim
+            (λ (u : eqb (blockIn s here q) 0 ≡ true). rw (y, u) (leb-false 64 here y))
+            (λ (u : eqb (blockIn s here q) 0 ≡ false). rw (y, u) (leb-false 64 here y)) (either (eqb (blockIn s here q) 0)))
+            (either (leb 64 here))
+
+        at-spot : entryOf t₀ f (q / 128) ≡ spotAt s here q .entry
+        at-spot =
+            let is = written-entry zeros s f q v (sound-of highest s (w .image-sound)) named (passes .far) there full room₀ block₀ in
+            let k = found-below t₀ f (q / 128) (spotAt s here q .entry) spot-below is in
+            only t₀ f (q / 128) (entryOf t₀ f (q / 128)) (spotAt s here q .entry) (sound₀ .entries) k spot-below (found-is t₀ f (q / 128) named k) is
+
+        at-first : entryOf t₀ f 0 ≡ entryOf s f 0
+        at-first =
+            let is = written-first zeros s f q v (sound-of highest s (w .image-sound)) named (passes .far) there full room₀ block₀ in
+            let k = found-below t₀ f 0 (entryOf s f 0) there is in
+            only t₀ f 0 (entryOf t₀ f 0) (entryOf s f 0) (sound₀ .entries) k there (found-is t₀ f 0 named k) is
+
+        first-still : e₀ ≡ entryOf t f 0
+        first-still = w .first ∙ sym at-first ∙ ap (λ (y : List ℕ). entryOf y f 0) (sym same)
+
+        entry-now : spotAt s e q .entry ≡ entryOf t f (q / 128)
+        entry-now = ap (λ (y : ℕ). spotAt s y q .entry) he ∙ sym at-spot ∙ ap (λ (y : List ℕ). entryOf y f (q / 128)) (sym same)
+
+-- ---- the loop
+
+pub writing-none : (zeros : Bool) (p c : ℕ) (f : File) (e₀ o r locked : ℕ) (b : Buffers) → Asks (writeNumber zeros) p c f o r b → e₀ ≡ entryOf (b .image) f 0 → Writing zeros p f e₀ r locked b 0 64 (b .image)
+writing-none zeros p c f e₀ o r locked b a h = record {
+  so-far = several-none (writeNumber zeros) p b;
+  long = refl;
+  image-sound = a .ready .image-sound;
+  list-sound = a .ready .list-sound;
+  first = h;
+  unlocked = omega arith;
+  known = known-none (b .image) f r;
+}
+
+module _ (zeros : Bool) (p c : ℕ) (f : File) (e₀ o r mode locked : ℕ) (b : Buffers) (x : StopsAt (unpack (b .list)) p f o r c mode locked) (a : Asks (writeNumber zeros) p c f o r b) (i e₁ : ℕ) (s : List ℕ) (w : Writing zeros p f e₀ r locked b i e₁ s) where
+  module _ (below : i < c) (e : ℕ) (stopped : Bool) (code entry : ℕ) (t : List ℕ) (he : e ≡ entryOf s f ((r + i) / 128)) (hs : stopped ≡ (readOnly s e₀ or eqb mode 2)) (d : OneDid zeros o stopped (eqb i locked) f e₀ e (r + i) (take (128 * i + 128 - 128 * i) (drop (128 * i) (b .dma))) s code entry t) where
+    locked-so : eqb i locked ≡ lockedByOther (unpack (b .list)) p f (r + i)
+    locked-so = locked-here (unpack (b .list)) p f r c i locked (x .locked-is) below (w .unlocked)
+
+    coded : code ≡ firstOf (rows34 p (unpack (b .list)) o f e₀ e (r + i) s)
+    unfolding rows34
+    coded =
+        d .gives ∙ ap (λ (m : List Row). firstOf (m ++ rowsRoom s e (r + i)))
+        (may-by p (unpack (b .list)) o f e₀ (r + i) s stopped (eqb i locked) (hs ∙ ap (λ (m : ℕ). readOnly s e₀ or eqb m 2) (x .mode-is)) locked-so)
+
+    -- one more
+    pub writing-more : code ≡ 0 → length t ≡ length s → Writing zeros p f e₀ r locked b (i + 1) entry t
+    writing-more z n =
+        let k : 128 * i + 128 - 128 * i ≡ 128 = omega arith in
+        let g : t ≡ written zeros (spotAt s e (r + i)) e₀ f (r + i) (part (128 * i) 128 (b .dma)) s = d .wrote z ∙ ap (λ (m : ℕ). written zeros (spotAt s e (r + i)) e₀ f (r + i) (take m (drop (128 * i) (b .dma))) s) k in
+        let y = subst (λ (m : List ℕ). SoundBoth (b .list) m) (sym g) (both zeros p c f e₀ o r locked b a i e₁ s w below e he code coded z) in
+        let not-here : i ≡ locked → ⊥ = eqb-false i locked (locked-so ∙ passes zeros p c f e₀ o r locked b a i e₁ s w below e he code coded z .free) in
+        let u = w .unlocked in
+        record {
+          so-far = rw add-one (turn-writes zeros p c f e₀ o r locked b a i e₁ s w below e he code coded z ∙ ap (λ (m : List ℕ). run 0 (suc i) (withImage b m)) (sym g));
+          long = n ∙ w .long;
+          image-sound = y .image-sound;
+          list-sound = y .list-sound;
+          first = first-still zeros p c f e₀ o r locked b a i e₁ s w below e he code coded z ∙ ap (λ (m : List ℕ). entryOf m f 0) (sym g);
+          unlocked = omega arith;
+          known = known-more t f r i entry (d .at z ∙ entry-now zeros p c f e₀ o r locked b a i e₁ s w below e he code coded z ∙ ap (λ (m : List ℕ). entryOf m f ((r + i) / 128)) (sym g)) (d .within);
+        }
+
+    -- the first refusal stops the call
+    pub writing-stops : (answer : ℕ) → (code ≡ 0 → ⊥) → answer ≡ code + 4096 * i → Did (told (several (writeNumber zeros) p c b)) answer (b .fcb) (b .dma) (b .list) t
+    writing-stops answer n ha =
+        let k = code-is zeros p c f e₀ o r locked b a i e₁ s w below e he code coded in
+        let g : told (several (writeNumber zeros) p c b) ≡ outcome answer (withImage b s) = stops-told (writeNumber zeros) p b (withImage b s) i c (w .so-far) (λ z. n (sym k ∙ z)) below ∙ ap (λ (m : ℕ). outcome m (withImage b s)) (ap (λ (m : ℕ). m + 4096 * i) k ∙ sym ha) in
+        rw (d .kept n) (did-as _ _ answer _ _ _ _ (sym g) (did-none answer (withImage b s)))
+
+  -- all went well
+  pub writing-ends : c ≤ i → i ≤ c → Did (told (several (writeNumber zeros) p c b)) 0 (b .fcb) (b .dma) (b .list) s
+  writing-ends g h = did-as _ _ 0 _ _ _ _ (sym (ends-told (writeNumber zeros) p b (withImage b s) i c (w .so-far) g h)) (did-none 0 (withImage b s))
+
+-- ---- what the call has found of the list
+
+pub stops-at : (list : List ℕ) (l : LockList) (p : ℕ) (f : File) (o r c mode locked : ℕ) → l ≡ unpack list → mode ≡ itemAt l o .mode → locked ≡ lowest (isOthers l p f r) c → StopsAt (unpack list) p f o r c mode locked
+stops-at list l p f o r c mode locked hl hm hk = record {
+  mode-is = hm ∙ ap (λ (m : LockList). itemAt m o .mode) hl;
+  locked-is = hk ∙ ap (λ (m : LockList). lowest (isOthers m p f r) c) hl;
+}

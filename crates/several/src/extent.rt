@@ -1,0 +1,30 @@
+use drive::find::entry_of;
+use rules::file::File;
+ghost use mathlib.Core.Path.{_≡_};
+ghost use Prim.Native.Nat.{_+_, _*_, _/_, _<_, _≤_};
+ghost use lib.ListN.{length};
+ghost use Rattle.rules.specs.Drive.{entryOf};
+ghost use Rattle.several.specs.So.{Known};
+
+// The entry of the extent with record `r` + `i` of the run: looked up for the first record and where an extent begins, else still `e`.
+pub fn entry_at(image: &[u8], f: File, r: usize, i: usize, e: usize) -> usize
+    requires { ⌜ (2048 ≤ length (now image)) × (i < 16) × (r < 16777216) × Known (now image) f r i e ⌝ }
+    ensures { λ d. ⌜ (d ≡ entryOf (now (image .entry)) f ((r + i) / 128)) × (d ≤ 64) ⌝ }
+{
+    let at = r + i;
+    if i == 0 {
+        return entry_of(image, f, at / 128);
+    }
+    if at % 128 == 0 {
+        return entry_of(image, f, at / 128);
+    }
+    e
+}
+
+// A refusal after `i` records: the high four bits of H tell how many.
+pub fn after(code: u32, i: usize) -> u32
+    requires { ⌜ (code < 4096) × (i < 16) ⌝ }
+    ensures { λ a. ⌜ a ≡ code + 4096 * i ⌝ }
+{
+    code + 4096 * (i as u32)
+}
