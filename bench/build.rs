@@ -1,4 +1,5 @@
-//! Links the objects that MPM_OBJECTS names, parted by colons: the engine, the plain version, the stack probe.
+//! Links the objects that MPM_OBJECTS names, parted by colons: the engine, the plain version, the stack probe, and
+//! with the feature `before` an earlier engine and this one once more.
 
 fn main() {
     println!("cargo:rerun-if-env-changed=MPM_OBJECTS");

@@ -4,22 +4,53 @@
 # figures.md, rows.csv, plot.svg, several.csv and several.svg to target/bench and prints the summary.
 # --docs: puts the figures into docs/PERFORMANCE.md, the plots and all rows beside it.
 # run.sh --agree: times nothing, only compares what the three and the engine's single calls answer and leave.
+# run.sh --before ARCHIVE [ROUNDS]: times the engine of the archive, which native.sh has made at an earlier commit, and
+# this tree's, taking turns in one run: the image check alone and the calls, with their stack. First the two have to
+# answer and leave the same. Writes before.md and, with every call, before.csv to target/bench and prints the former.
 set -euo pipefail
 here=$(cd "$(dirname "${BASH_SOURCE[0]}")" && pwd -P)
 # shellcheck source=../host/kit.sh
 . "$here/../host/kit.sh"
 work=$root/target/bench
 docs=$root/docs/PERFORMANCE.md
+objects=$native:$work/plain.o:$work/stack.o
 
-build() {
+build() { # CARGO'S WORDS..
     make_native
     mkdir -p "$work"
     "$own/toolchain/bin/clang" --target="$(uname -m)-unknown-linux-gnu" --no-default-config -nostdinc \
         -isystem "$root/host/libc" -I "$root/include" -std=c99 -O3 -fPIC "${warnings[@]}" \
         -c "$here/plain.c" -o "$work/plain.o"
     "${CC:-cc}" -std=c99 -O2 -fPIC "${warnings[@]}" -c "$here/stack.c" -o "$work/stack.o"
-    MPM_ARCHIVE=$native MPM_OBJECTS=$native:$work/plain.o:$work/stack.o \
-        cargo build --quiet --release --offline -j2 --manifest-path "$here/Cargo.toml" --target-dir "$work/cargo"
+    MPM_ARCHIVE=$native MPM_OBJECTS=$objects \
+        cargo build --quiet --release --offline -j2 --manifest-path "$here/Cargo.toml" --target-dir "$work/cargo" "$@"
+}
+
+# make_object ARCHIVE NAME: an archive's engine as the object NAME.o, whose functions begin with NAME_ instead of mpm_ and
+# which shows nothing else. Each function is put at a multiple of 64: the same code lying otherwise to the processor's
+# lines can take a tenth more.
+make_object() {
+    local name words=()
+    for name in call check look singly start; do words+=(--redefine-sym "mpm_$name=$2_$name"); done
+    mkdir -p "$work"
+    ld -r --whole-archive "$1" -o "$work/whole.o"
+    objcopy --wildcard --keep-global-symbol 'mpm_*' --set-section-alignment '.text*=64' "$work/whole.o"
+    objcopy "${words[@]}" "$work/whole.o" "$work/$2.o"
+}
+
+# The archive is read before this tree's own is made: it may be that one, as an earlier commit has left it.
+compare() { # ARCHIVE [ROUNDS]
+    if [ ! -f "${1:-}" ]; then
+        echo "use: run.sh --before ARCHIVE [ROUNDS], where ARCHIVE is a file" >&2
+        exit 2
+    fi
+    make_object "$1" before
+    shift
+    make_native
+    make_object "$native" now
+    objects+=:$work/before.o:$work/now.o
+    build --features before
+    exec "$work/cargo/release/bench" --before "$work" "$@"
 }
 
 processor() { sed -n 's/^model name[^:]*: //p' /proc/cpuinfo | head -n 1; }
@@ -45,6 +76,7 @@ put_into_docs() {
     cp "$work/several.svg" "$work/several.csv" "$root/docs"
 }
 
+if [ "${1:-}" = --before ]; then compare "${@:2}"; fi
 into_docs=
 if [ "${1:-}" = --docs ]; then
     into_docs=yes

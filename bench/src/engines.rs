@@ -5,6 +5,21 @@ use reference::calls::{Buffers, Numbers};
 use reference::engine::{Engine, Reference};
 use reference::linked::Linked;
 
+/// mpm_call and all that have its parameters.
+pub type CCall = unsafe extern "C" fn(
+    u32,
+    u32,
+    u32,
+    *mut u8,
+    usize,
+    *mut u8,
+    usize,
+    *mut u8,
+    usize,
+    *mut u8,
+    usize,
+) -> u32;
+
 extern "C" {
     fn plain_call(
         function: u32,
@@ -21,6 +36,11 @@ extern "C" {
     ) -> u32;
 }
 
+/// What is timed: it answers a call on a list and an image.
+pub trait Timed: Copy {
+    fn answer(self, call: &mut Call, list: &mut [u8], image: &mut [u8]) -> u32;
+}
+
 #[derive(Clone, Copy)]
 pub enum Who {
     Engine,
@@ -32,11 +52,11 @@ pub enum Who {
 
 pub const THREE: [Who; 3] = [Who::Engine, Who::Plain, Who::Reference];
 
-impl Who {
-    pub fn answer(self, call: &mut Call, list: &mut [u8], image: &mut [u8]) -> u32 {
+impl Timed for Who {
+    fn answer(self, call: &mut Call, list: &mut [u8], image: &mut [u8]) -> u32 {
         match self {
             Who::Engine => Linked.call(numbers(call), buffers(call, list, image)),
-            Who::Plain => plain(call, list, image),
+            Who::Plain => through(plain_call, call, list, image),
             Who::Reference => Reference::default().call(numbers(call), buffers(call, list, image)),
             Who::Singly => Linked
                 .singly(numbers(call), buffers(call, list, image))
@@ -62,10 +82,10 @@ fn buffers<'a>(call: &'a mut Call, list: &'a mut [u8], image: &'a mut [u8]) -> B
     }
 }
 
-fn plain(call: &mut Call, list: &mut [u8], image: &mut [u8]) -> u32 {
+pub fn through(function: CCall, call: &mut Call, list: &mut [u8], image: &mut [u8]) -> u32 {
     // SAFETY: each pointer comes with the length of the slice it is taken from, and the slices are separate.
     unsafe {
-        plain_call(
+        function(
             call.function,
             call.process,
             call.count,

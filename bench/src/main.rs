@@ -1,7 +1,11 @@
 //! Times the engine, its plain C version and the reference on the same books in one run.
 //! bench FOLDER [ROUNDS]: writes table.md, rows.csv, plot.svg, several.csv and several.svg to the folder.
 //! bench --agree: times nothing, only compares what the three and the engine's single calls answer and leave.
+//! bench --before FOLDER [ROUNDS], with the feature `before`: times an earlier engine and this one instead, and writes
+//! before.md and before.csv to the folder.
 
+#[cfg(feature = "before")]
+mod before;
 mod books;
 mod curves;
 mod engines;
@@ -20,12 +24,11 @@ fn main() -> ExitCode {
     let words: Vec<String> = std::env::args().skip(1).collect();
     let done = match words.iter().map(String::as_str).collect::<Vec<_>>()[..] {
         ["--agree"] => agree(),
+        ["--before", folder] => compare_into(folder, ROUNDS),
+        ["--before", folder, rounds] => number(rounds).and_then(|rounds| compare_into(folder, rounds)),
         [folder] => measure_into(folder, ROUNDS),
-        [folder, rounds] => match rounds.parse() {
-            Ok(rounds @ 1..) => measure_into(folder, rounds),
-            _ => Err("ROUNDS is a number from 1 on".to_string()),
-        },
-        _ => Err("use: bench FOLDER [ROUNDS], or bench --agree".to_string()),
+        [folder, rounds] => number(rounds).and_then(|rounds| measure_into(folder, rounds)),
+        _ => Err("use: bench [--before] FOLDER [ROUNDS], or bench --agree".to_string()),
     };
     match done {
         Ok(text) => {
@@ -36,6 +39,13 @@ fn main() -> ExitCode {
             eprintln!("bench: {text}");
             ExitCode::from(2)
         }
+    }
+}
+
+fn number(rounds: &str) -> Result<usize, String> {
+    match rounds.parse() {
+        Ok(rounds @ 1..) => Ok(rounds),
+        _ => Err("ROUNDS is a number from 1 on".to_string()),
     }
 }
 
@@ -91,6 +101,16 @@ fn measure_into(folder: &str, rounds: usize) -> Result<String, String> {
     let summary = report::summary(&rows, &several, &checks) + &report::goals(&rows, &several);
     write(Path::new(folder), &rows, &several, &summary).map_err(|error| format!("{folder}: {error}"))?;
     Ok(summary)
+}
+
+#[cfg(feature = "before")]
+fn compare_into(folder: &str, rounds: usize) -> Result<String, String> {
+    before::compare_into(folder, rounds)
+}
+
+#[cfg(not(feature = "before"))]
+fn compare_into(_: &str, _: usize) -> Result<String, String> {
+    Err("built without an earlier engine".to_string())
 }
 
 fn write(folder: &Path, rows: &[Row], several: &[Several], summary: &str) -> std::io::Result<()> {

@@ -1,7 +1,7 @@
 //! Times a call of each function, on many books of a kind, by each of the three; then calls for several records.
 
 use crate::books::{self, Book, Call, Kind, COUNTS};
-use crate::engines::{Who, THREE};
+use crate::engines::{Timed, Who, THREE};
 use reference::engine::Engine;
 use reference::linked::Linked;
 use reference::random::Random;
@@ -43,7 +43,7 @@ pub fn row(kind: Kind, blocks: usize, function: u32, rounds: usize) -> Row {
         function,
         answer: agreed_answer(&books, &calls),
         ns: times(&books, std::slice::from_ref(&calls), THREE, rounds)[0],
-        stack: stack(&books[0], &calls[0]),
+        stack: stack_of_call(Who::Engine, &books[0], &calls[0]),
     }
 }
 
@@ -59,7 +59,7 @@ pub fn several(kind: Kind, blocks: usize, function: u32, rounds: usize) -> Sever
         blocks,
         function,
         ns: ns.try_into().expect("a time for each count"),
-        stack: stack(&books[0], &calls[COUNTS.len() - 1][0]),
+        stack: stack_of_call(Who::Engine, &books[0], &calls[COUNTS.len() - 1][0]),
     }
 }
 
@@ -68,13 +68,17 @@ pub fn image_check(kind: Kind, blocks: usize, rounds: usize) -> f64 {
     let mut books = all_books(kind, blocks);
     let mut least = f64::INFINITY;
     for _ in 0..rounds {
-        let began = Instant::now();
-        for book in &mut books {
-            std::hint::black_box(Linked.check(&mut book.image));
-        }
-        least = least.min(began.elapsed().as_nanos() as f64 / BOOKS as f64);
+        least = least.min(check_round(|image| Linked.check(image), &mut books));
     }
     least
+}
+
+pub fn check_round(check: impl Fn(&mut [u8]) -> u32, books: &mut [Book]) -> f64 {
+    let began = Instant::now();
+    for book in books {
+        std::hint::black_box(check(&mut book.image));
+    }
+    began.elapsed().as_nanos() as f64 / BOOKS as f64
 }
 
 /// A panic where one of the three, or the engine's single calls, do otherwise than the others.
@@ -93,17 +97,21 @@ pub fn agree_on_runs(kind: Kind, blocks: usize) {
 
 fn cases(kind: Kind, blocks: usize, function: u32) -> (Vec<Book>, Vec<Call>) {
     let books = all_books(kind, blocks);
-    let call = |book| books::call(function, kind, book);
-    let calls = books.iter().map(call).collect();
+    let calls = calls(&books, kind, function);
     (books, calls)
 }
 
-fn runs(books: &[Book], kind: Kind, (function, first, count): (u32, u32, u32)) -> Vec<Call> {
+pub fn calls(books: &[Book], kind: Kind, function: u32) -> Vec<Call> {
+    let call = |book| books::call(function, kind, book);
+    books.iter().map(call).collect()
+}
+
+pub fn runs(books: &[Book], kind: Kind, (function, first, count): (u32, u32, u32)) -> Vec<Call> {
     let run = |book| books::run(function, first, count, kind, book);
     books.iter().map(run).collect()
 }
 
-fn all_books(kind: Kind, blocks: usize) -> Vec<Book> {
+pub fn all_books(kind: Kind, blocks: usize) -> Vec<Book> {
     (0..BOOKS as u64).map(|seed| book(kind, blocks, seed)).collect()
 }
 
@@ -122,12 +130,15 @@ fn agreed_answer(books: &[Book], calls: &[Call]) -> u32 {
     answers[0]
 }
 
+/// The answer to a call, and what it leaves: FCB, DMA, list and image.
+pub fn outcome(who: impl Timed, book: &Book, call: &Call) -> (u32, [Vec<u8>; 4]) {
+    let (mut book, mut call) = (book.clone(), call.clone());
+    let answer = who.answer(&mut call, &mut book.list, &mut book.image);
+    (answer, [call.fcb, call.dma, book.list, book.image])
+}
+
 fn same_outcome(book: &Book, call: &Call) -> u32 {
-    let outcome = |who: Who| {
-        let (mut book, mut call) = (book.clone(), call.clone());
-        let answer = who.answer(&mut call, &mut book.list, &mut book.image);
-        (answer, (call.fcb, call.dma, book.list, book.image))
-    };
+    let outcome = |who: Who| outcome(who, book, call);
     let engine = outcome(Who::Engine);
     for who in [Who::Plain, Who::Reference] {
         assert!(outcome(who) == engine, "the three agree");
@@ -153,7 +164,7 @@ fn times(books: &[Book], sets: &[Vec<Call>], timed: [Who; 3], rounds: usize) -> 
     quickest
 }
 
-fn round(who: Who, calls: &[Call], books: &[Book], used: &mut [Book]) -> f64 {
+pub fn round(who: impl Timed, calls: &[Call], books: &[Book], used: &mut [Book]) -> f64 {
     let mut calls = calls.to_vec();
     for (used, book) in used.iter_mut().zip(books) {
         restore(used, book);
@@ -176,20 +187,27 @@ extern "C" {
 }
 
 thread_local! {
-    static ON_STACK: std::cell::RefCell<Option<(Call, Book)>> = const { std::cell::RefCell::new(None) };
+    static ON_STACK: std::cell::RefCell<Option<Box<dyn FnMut()>>> = const { std::cell::RefCell::new(None) };
 }
 
-extern "C" fn call_once() {
+extern "C" fn run_held() {
     ON_STACK.with_borrow_mut(|held| {
-        if let Some((call, book)) = held {
-            Who::Engine.answer(call, &mut book.list, &mut book.image);
+        if let Some(job) = held {
+            job();
         }
     });
 }
 
-/// The stack that the engine takes for the call, with that of the few lines that make it.
-fn stack(book: &Book, call: &Call) -> usize {
-    ON_STACK.with_borrow_mut(|held| *held = Some((call.clone(), book.clone())));
+/// The stack that the job takes, with that of the few lines that run it.
+pub fn stack(job: impl FnMut() + 'static) -> usize {
+    ON_STACK.with_borrow_mut(|held| *held = Some(Box::new(job)));
     // SAFETY: the function is run once, on this thread, before stack_of returns.
-    unsafe { stack_of(call_once) }
+    unsafe { stack_of(run_held) }
+}
+
+pub fn stack_of_call(who: impl Timed + 'static, book: &Book, call: &Call) -> usize {
+    let (mut book, mut call) = (book.clone(), call.clone());
+    stack(move || {
+        who.answer(&mut call, &mut book.list, &mut book.image);
+    })
 }

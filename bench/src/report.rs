@@ -84,7 +84,7 @@ pub fn goals(rows: &[Row], several: &[Several]) -> String {
     .concat()
 }
 
-fn goal(name: &str, measured: &[(String, f64)], limit: f64) -> String {
+pub fn goal(name: &str, measured: &[(String, f64)], limit: f64) -> String {
     let highest = measured.iter().map(|(_, value)| *value).fold(0.0, f64::max);
     let misses = measured.iter().filter(|(_, value)| *value > limit);
     let misses: Vec<String> = misses

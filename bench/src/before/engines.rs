@@ -1,0 +1,71 @@
+//! The engine of an earlier commit and that of this tree, called in one way.
+
+use crate::books::Call;
+use crate::engines::{through, CCall, Timed};
+
+type CCheck = unsafe extern "C" fn(*const u8, usize) -> u32;
+
+macro_rules! declare {
+    (calls: $($call:ident)*; checks: $($check:ident)*) => {
+        extern "C" {
+            $(fn $call(
+                function: u32,
+                process: u32,
+                count: u32,
+                fcb: *mut u8,
+                fcb_len: usize,
+                dma: *mut u8,
+                dma_len: usize,
+                list: *mut u8,
+                list_len: usize,
+                image: *mut u8,
+                image_len: usize,
+            ) -> u32;)*
+            $(fn $check(image: *const u8, image_len: usize) -> u32;)*
+        }
+    };
+}
+
+declare!(calls: before_call before_singly now_call now_singly; checks: before_check now_check);
+
+#[derive(Clone, Copy)]
+pub struct Version {
+    call: CCall,
+    singly: CCall,
+    check: CCheck,
+}
+
+pub const BEFORE: Version = Version {
+    call: before_call,
+    singly: before_singly,
+    check: before_check,
+};
+
+pub const NOW: Version = Version {
+    call: now_call,
+    singly: now_singly,
+    check: now_check,
+};
+
+pub const BOTH: [Version; 2] = [BEFORE, NOW];
+
+impl Timed for Version {
+    fn answer(self, call: &mut Call, list: &mut [u8], image: &mut [u8]) -> u32 {
+        through(self.call, call, list, image)
+    }
+}
+
+impl Version {
+    pub fn check(self, image: &[u8]) -> u32 {
+        // SAFETY: the pointer comes with the length of the slice it is taken from.
+        unsafe { (self.check)(image.as_ptr(), image.len()) }
+    }
+
+    /// Its plain side, as an engine.
+    pub fn plain_side(self) -> Version {
+        Version {
+            call: self.singly,
+            ..self
+        }
+    }
+}
