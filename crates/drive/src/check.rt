@@ -6,6 +6,8 @@ use crate::entry::map_number;
 use crate::find::any_entry;
 use crate::name::legal_name;
 use rules::answer::ImageAnswer;
+use words::bits::is_set;
+use words::bits::set;
 ghost use mathlib.Core.Path.{_≡_};
 ghost use Prim.Native.Nat.{_/_, _<_, _≤_};
 ghost use lib.ListN.{length};
@@ -92,8 +94,8 @@ fn all_in_range(image: &[u8], e: usize) -> bool
 }
 
 // Marks the block numbers of entry `e` and refuses a second mark.
-fn mark_entry(image: &[u8], e: usize, seen: &mut [bool; 256]) -> bool
-    requires { ⌜ (e < 64) × (2048 ≤ length (now image)) × Marks (now image) e 0 (now seen) ⌝ }
+fn mark_entry(image: &[u8], e: usize, seen: &mut [u8]) -> bool
+    requires { ⌜ (e < 64) × (2048 ≤ length (now image)) × Marks 1 (now image) e 0 (now seen) ⌝ }
     ensures { λ r. ⌜ Marked (now (image .entry)) e r (now (seen .exit)) ⌝ }
 {
     let mut k = 0;
@@ -101,10 +103,10 @@ fn mark_entry(image: &[u8], e: usize, seen: &mut [bool; 256]) -> bool
         let b = map_number(image, e, k);
         k += 1;
         if b != 0 {
-            if seen[b] {
+            if is_set(seen, b) {
                 return false;
             }
-            seen[b] = true;
+            set(seen, b);
         }
     }
     true
@@ -121,8 +123,8 @@ fn is_repeat(image: &[u8], e: usize) -> bool
 }
 
 // Entry `e` is empty or as it should be, the blocks seen before it being marked.
-fn good_entry(image: &[u8], e: usize, top: usize, seen: &mut [bool; 256]) -> bool
-    requires { ⌜ (e < 64) × (2048 ≤ length (now image)) × Marks (now image) e 0 (now seen) ⌝ }
+fn good_entry(image: &[u8], e: usize, top: usize, seen: &mut [u8]) -> bool
+    requires { ⌜ (e < 64) × (2048 ≤ length (now image)) × Marks 1 (now image) e 0 (now seen) ⌝ }
     ensures { λ r. ⌜ Judged top (now (image .entry)) e r (now (seen .exit)) ⌝ }
 {
     if is_empty(image, e) {
@@ -144,7 +146,7 @@ fn good_entries(image: &[u8], top: usize) -> bool
     requires { ⌜ 2048 ≤ length (now image) ⌝ }
     ensures { λ r. ⌜ r ≡ all (goodEntry top (now (image .entry))) 64 ⌝ }
 {
-    let mut seen = [false; 256];
+    let mut seen = [0u8; 32];
     let mut e = 0;
     while e < 64 {
         if !good_entry(image, e, top, &mut seen) {

@@ -1,16 +1,18 @@
 use crate::entry::is_empty;
 use crate::entry::map_number;
-use rules::tests::one_if;
+use words::bits::clear_count;
+use words::bits::lowest_clear;
+use words::bits::set;
 ghost use mathlib.Core.Path.{_≡_};
 ghost use Prim.Native.Nat.{_+_, _<_, _≤_};
 ghost use lib.ListN.{length};
 ghost use Rattle.rules.specs.Drive.{blocks, freeBlock, freeBlocks};
-ghost use Rattle.drive.specs.Marks.{Marks};
+ghost use Rattle.drive.specs.Marks.{InUse};
 
 // Marks the blocks that entry `e` names.
-fn note_entry(image: &[u8], e: usize, used: &mut [bool; 256])
-    requires { ⌜ (e < 64) × (2048 ≤ length (now image)) × Marks (now image) e 0 (now used) ⌝ }
-    ensures { λ _. ⌜ Marks (now (image .entry)) (e + 1) 0 (now (used .exit)) ⌝ }
+fn note_entry(image: &[u8], e: usize, used: &mut [u8])
+    requires { ⌜ (e < 64) × (2048 ≤ length (now image)) × InUse (now image) e 0 (now used) ⌝ }
+    ensures { λ _. ⌜ InUse (now (image .entry)) (e + 1) 0 (now (used .exit)) ⌝ }
 {
     if is_empty(image, e) {
         return;
@@ -18,17 +20,21 @@ fn note_entry(image: &[u8], e: usize, used: &mut [bool; 256])
     let mut k = 0;
     while k < 16 {
         let b = map_number(image, e, k);
-        used[b] = true;
         k += 1;
+        if b != 0 {
+            set(used, b);
+        }
     }
 }
 
-// Marks each block in use.
-fn used_blocks(image: &[u8]) -> [bool; 256]
+// Marks each block in use, blocks 0 and 1 being the directory's.
+fn used_blocks(image: &[u8]) -> [u8; 32]
     requires { ⌜ 2048 ≤ length (now image) ⌝ }
-    ensures { λ r. ⌜ Marks (now (image .entry)) 64 0 r ⌝ }
+    ensures { λ r. ⌜ InUse (now (image .entry)) 64 0 r ⌝ }
 {
-    let mut used = [false; 256];
+    let mut used = [0u8; 32];
+    set(&mut used, 0);
+    set(&mut used, 1);
     let mut e = 0;
     while e < 64 {
         note_entry(image, e, &mut used);
@@ -43,15 +49,7 @@ pub fn free_block(image: &[u8]) -> usize
     ensures { λ r. ⌜ (r ≡ freeBlock (now (image .entry))) × (r ≤ blocks (now (image .entry))) ⌝ }
 {
     let used = used_blocks(image);
-    let n = image.len() / 1024;
-    let mut b = 2;
-    while b < n {
-        if !used[b] {
-            return b;
-        }
-        b += 1;
-    }
-    b
+    lowest_clear(&used, image.len() / 1024)
 }
 
 // How many blocks are free.
@@ -60,12 +58,5 @@ pub fn free_blocks(image: &[u8]) -> usize
     ensures { λ r. ⌜ (r ≡ freeBlocks (now (image .entry))) × (r ≤ blocks (now (image .entry))) ⌝ }
 {
     let used = used_blocks(image);
-    let n = image.len() / 1024;
-    let mut free = 0;
-    let mut block = 2;
-    while block < n {
-        free += one_if(!used[block]);
-        block += 1;
-    }
-    free
+    clear_count(&used, image.len() / 1024)
 }

@@ -5,3 +5,4 @@ pub mod Tables
 pub mod Counts
 pub mod Sets
 pub mod Items
+pub mod Bitwise

@@ -14,6 +14,7 @@ use Rattle.words.specs.Tests.{_and_, _or_, _if_else_, all, any, lowest, 
 use Rattle.words.specs.Lists.{tab}
 use Rattle.words.specs.Tables.{Row, _when_, firstOf, noneZero, onlyIf}
 use Rattle.words.proofs.Tests.{and-false, all-none, all-more, all-fails, any-none, any-skip, any-found, lowest-none, lowest-found, lowest-below, either}
+use Rattle.words.proofs.Counts.{count-yes, count-not}
 use Rattle.words.proofs.Tables.{first-then, first-stays}
 use Rattle.words.proofs.Lists.{filled, filled-turn, filled-all, turns-none, turns-more, turns-ends}
 
@@ -89,6 +90,13 @@ count-none f = refl
 pub count-more : (f : ℕ → Bool) (i k x : ℕ) (t : Bool) → k ≡ count f i → t ≡ f i → x ≡ (1 if t else 0) → k + x ≡ count f (i + 1)
 unfolding count
 count-more f i k x t h e g = let q : x ≡ (1 if f i else 0) = g ∙ ap (λ (u : Bool). 1 if u else 0) e in rw (add-one, h, q)
+
+-- the same where the code counts in one arm only
+pub count-adds : (f : ℕ → Bool) (i k : ℕ) → k ≡ count f i → f i ≡ true → k + 1 ≡ count f (i + 1)
+count-adds f i k h e = rw (add-one i, count-yes f i e, h)
+
+pub count-skips : (f : ℕ → Bool) (i k : ℕ) → k ≡ count f i → f i ≡ false → k ≡ count f (i + 1)
+count-skips f i k h e = rw (add-one i, count-not f i e) h
 
 pub count-ends : (f : ℕ → Bool) (n i k : ℕ) → k ≡ count f i → n ≤ i → i ≤ n → k ≡ count f n
 count-ends f n i k h l g = let q : i ≡ n = omega arith in rw q at h

@@ -1,1 +1,2 @@
-// The vocabulary of the rules and the proofs. There is no code here.
+// The vocabulary of the rules and the proofs, and bits of bytes.
+pub mod bits;

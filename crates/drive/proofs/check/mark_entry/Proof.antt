@@ -1,6 +1,8 @@
+-- `drive::check::mark_entry` meets its contract.
 use Prim.Native.Nat.{_-_, _≤_}
 use mathlib.Core.Path.{_≡_}
 use mathlib.Core.Bool.{true}
+use lib.ListN.{length}
 use Rattle.words.specs.Tests.{all}
 use Rattle.rules.specs.Drive.{isFirst}
 use Rattle.drive.specs.Marks.{Marks}
@@ -9,7 +11,7 @@ use Rattle.drive.proofs.check.mark_entry.Statement.{statement}
 use Rattle.drive.proofs.check.mark_entry.Tie as tie
 
 abbrev Inv-loop : tie.InvT-loop
-Inv-loop image e seen₀ k₀ seen k = (k ≤ 16) × (all (isFirst image e) k ≡ true) × Marks image e k seen
+Inv-loop image e seen₀ k₀ seen k = (k ≤ 16) × (length seen ≡ length seen₀) × (all (isFirst image e) k ≡ true) × Marks 1 image e k seen
 
 abbrev μ-loop : tie.MeasureT-loop
 μ-loop image e seen₀ k₀ seen k = 16 - k
@@ -18,25 +20,29 @@ pub mark-entry-spec : {M : Type 1} → statement M
 mark-entry-spec =
     tie.close
     (tie.spec Inv-loop μ-loop
-    -- loop-holds src/check.rt:93:5
+    -- loop-holds
     (λ c. search marking depth 6 fits 20000)
-    -- map-number-requires src/check.rt:94:13
+    -- map-number-requires
     (λ c κs. search marking depth 6 fits 20000)
-    -- add-k src/check.rt:95:9
+    -- add-k
     (λ c. search marking depth 6 fits 20000)
-    -- element-copy-out-if2 src/check.rt:97:16
+    -- is-set-requires
+    (λ c κs. search marking depth 6 fits 20000)
+    -- same-length
     (λ c. search marking depth 6 fits 20000)
-    -- returns src/check.rt:98:17
+    -- returns
     (λ c. search marking depth 6 fits 20000)
-    -- element-write-seen src/check.rt:100:13
+    -- set-requires
+    (λ c κs. search marking depth 6 fits 20000)
+    -- loop-less
     (λ c. search marking depth 6 fits 20000)
-    -- loop-less src/check.rt:93:5
+    -- loop-again
     (λ c. search marking depth 6 fits 20000)
-    -- loop-again src/check.rt:93:5
+    -- loop-less-2
     (λ c. search marking depth 6 fits 20000)
-    -- loop-less-2 src/check.rt:93:5
+    -- loop-again-2
     (λ c. search marking depth 6 fits 20000)
-    -- loop-again-2 src/check.rt:93:5
+    -- same-length-2
     (λ c. search marking depth 6 fits 20000)
-    -- returns-2 src/check.rt:88:1
+    -- returns-2
     (λ c. search marking depth 6 fits 20000))

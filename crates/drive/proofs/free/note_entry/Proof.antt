@@ -1,11 +1,14 @@
+-- `drive::free::note_entry` meets its contract.
 use Prim.Native.Nat.{_-_, _≤_}
-use Rattle.drive.specs.Marks.{Marks}
+use mathlib.Core.Path.{_≡_}
+use lib.ListN.{length}
+use Rattle.drive.specs.Marks.{InUse}
 use Rattle.drive.proofs.Marks.{noting}
 use Rattle.drive.proofs.free.note_entry.Statement.{statement}
 use Rattle.drive.proofs.free.note_entry.Tie as tie
 
 abbrev Inv-loop : tie.InvT-loop
-Inv-loop image e used₀ k₀ used k = (k ≤ 16) × Marks image e k used
+Inv-loop image e used₀ k₀ used k = (k ≤ 16) × (length used ≡ length used₀) × InUse image e k used
 
 abbrev μ-loop : tie.MeasureT-loop
 μ-loop image e used₀ k₀ used k = 16 - k
@@ -14,21 +17,27 @@ pub note-entry-spec : {M : Type 1} → statement M
 note-entry-spec =
     tie.close
     (tie.spec Inv-loop μ-loop
-    -- is-empty-requires src/free.rt:15:8
+    -- is-empty-requires
     (λ c κs. search noting depth 6 fits 20000)
-    -- returns src/free.rt:16:9
+    -- returns
     (λ c. search noting depth 6 fits 20000)
-    -- loop-holds src/free.rt:19:5
+    -- loop-holds
     (λ c. search noting depth 6 fits 20000)
-    -- map-number-requires src/free.rt:20:13
+    -- map-number-requires
     (λ c κs. search noting depth 6 fits 20000)
-    -- element-write-used src/free.rt:21:9
+    -- add-k
     (λ c. search noting depth 6 fits 20000)
-    -- add-k src/free.rt:22:9
+    -- set-requires
+    (λ c κs. search noting depth 6 fits 20000)
+    -- loop-less
     (λ c. search noting depth 6 fits 20000)
-    -- loop-less src/free.rt:19:5
+    -- loop-again
     (λ c. search noting depth 6 fits 20000)
-    -- loop-again src/free.rt:19:5
+    -- loop-less-2
     (λ c. search noting depth 6 fits 20000)
-    -- returns-2 src/free.rt:11:1
+    -- loop-again-2
+    (λ c. search noting depth 6 fits 20000)
+    -- same-length
+    (λ c. search noting depth 6 fits 20000)
+    -- returns-2
     (λ c. search noting depth 6 fits 20000))
