@@ -1,28 +1,43 @@
 -- Laws of the marks. Assumes nothing.
-use Prim.Native.Nat.{ℕ, _+_, _*_, _≤_, _<_}
+use Prim.Native.Nat.{ℕ, _+_, _*_, _/_, _≤_, _<_}
 use mathlib.Core.Path.{_≡_, refl, sym, ap, _∙_}
 use mathlib.Core.List.{List}
 use mathlib.Core.Bool.{Bool, true, false, not, true≢false}
 use mathlib.Core.Logic.{⊎-elim}
 use native.Mathlib.Numerals.{add-one}
 use native.Mathlib.Omega.{arith}
-use lib.Dec.{leb}
-use lib.ListN.{length, replicate}
+use lib.Dec.{eqb, leb, ltb}
+use lib.ListN.{length, replicate, length-replicate}
 use borrow.Author.Needs.{needs}
-use borrow.Author.Tests.{eq-eqb, ne-eqb, leb-true, leb-false, not-false}
+use borrow.Author.Tests.{eq-eqb, ne-eqb, leb-true, leb-false, ltb-true, not-false}
 use Rattle.words.specs.Tests.{_and_, _or_, all, any, lowest, count}
 use Rattle.words.specs.Bits.{isSet, isClear, withBit}
-use Rattle.words.proofs.Tests.{either, equal?, all-none, all-more, any-skip, any-here, lowest-ext}
+use Rattle.words.proofs.Tests.{either, equal?, and-snd, or-so, all-none, all-more, all-at, any-skip, any-here, lowest-ext}
 use Rattle.words.proofs.Counts.{count-ext}
-use Rattle.words.proofs.Sets.{all-stops, all-ends, is-no, or-first, and-first, and-then, or-then, answers, not-answer}
+use Rattle.words.proofs.Sets.{all-stops, all-ends, all-stops-as, all-ends-as, is-no, or-first, and-first, and-then, or-then, answers, not-answer}
 use Rattle.words.proofs.Bitwise.{length-bit, set-here, set-there, set-stays, set-none}
-use Rattle.rules.specs.Drive.{blocks, isEmpty, mapNumber, holds, names, namedBefore, isFirst, goodEntry, isUsed, isFree, freeBlock, freeBlocks}
+use Rattle.rules.specs.declared.kind.Kind.{Kind}
+use Rattle.rules.specs.declared.kind.Kind.the-variants.{Small, Large}
+use Rattle.rules.specs.Kinds.{most, entries, numbers}
+use Rattle.rules.specs.Drive.{blocks, inRange, isEmpty, mapNumber, holds, names, namedBefore, isFirst, goodEntry, isUsed, isFree, freeBlock, freeBlocks}
+use Rattle.rules.proofs.Sizes.{most-some}
 use Rattle.drive.specs.Marks.{Marks, Marked, Judged, InUse}
 
--- 32 bytes of zeros
-pub marks-none : (s : List ℕ) → Marks 1 s 0 0 (replicate 32 0)
+-- ---- zeros
+
+zeros : (kind : Kind) (low : ℕ) (s : List ℕ) (n : ℕ) → 8 * n ≡ most kind → Marks kind low s 0 0 (replicate n 0)
 unfolding namedBefore any _or_
-marks-none s = record { long = refl; mark = λ x p l. set-none 32 x l }
+zeros kind low s n h = record { long = rw (length-replicate {A = ℕ} n 0) h; mark = λ x p l. set-none n x (omega arith) }
+
+pub small-none : (low : ℕ) (s : List ℕ) → Marks Small low s 0 0 (replicate 32 0)
+unfolding most
+small-none low s = zeros Small low s 32 refl
+
+pub large-none : (low : ℕ) (s : List ℕ) → Marks Large low s 0 0 (replicate 512 0)
+unfolding most
+large-none low s = zeros Large low s 512 refl
+
+-- ---- one number
 
 or-more : (x y z : Bool) → y ≡ z → (x or y) ≡ (x or z)
 or-more x y z e = rw e
@@ -32,58 +47,74 @@ unfolding _or_
 or-here true y e = refl
 or-here false y e = sym e
 
--- ---- one number
-
-module _ (low : ℕ) (s : List ℕ) (e k : ℕ) (seen : List ℕ) (b : ℕ) (m : Marks low s e k seen) (is : b ≡ mapNumber s e k) where
-  other : (x : ℕ) → (x ≡ b → ⊥) → namedBefore s x e k ≡ namedBefore s x e (k + 1)
+module _ (kind : Kind) (low : ℕ) (s : List ℕ) (e k : ℕ) (seen : List ℕ) (b : ℕ) (m : Marks kind low s e k seen) (is : b ≡ mapNumber kind s e k) where
+  other : (x : ℕ) → (x ≡ b → ⊥) → namedBefore kind s x e k ≡ namedBefore kind s x e (k + 1)
   unfolding namedBefore holds
-  other x q = or-more _ _ _ (sym (any-skip (holds s x e) k (ne-eqb _ _ (λ z. q (sym z ∙ sym is)))))
+  other x q = or-more _ _ _ (sym (any-skip (holds kind s x e) k (ne-eqb _ _ (λ z. q (sym z ∙ sym is)))))
 
-  -- it has no mark
-  below : b < low → Marks low s e (k + 1) seen
+  -- it has no mark: it is below the lowest block that has one, or past all of them
+  below : b < low → Marks kind low s e (k + 1) seen
   below z = record { long = m .long; mark = λ x p l. m .mark x p l ∙ other x (λ q. omega arith) }
 
+  past : most kind ≤ b → Marks kind low s e (k + 1) seen
+  past z = record { long = m .long; mark = λ x p l. m .mark x p l ∙ other x (λ q. omega arith) }
+
   -- its mark is set
-  pub marks-set : (t : List ℕ) → t ≡ withBit b seen → b < 256 → Marks low s e (k + 1) t
+  pub marks-set : (t : List ℕ) → t ≡ withBit b seen → b < most kind → Marks kind low s e (k + 1) t
   unfolding namedBefore holds
   marks-set t h f = rw h (record {
-    long = length-bit seen b ∙ m .long;
+    long = rw (length-bit seen b) (m .long);
     mark = λ x p l.
         ⊎-elim
-        (λ (q : x ≡ b). rw q (set-here seen b (omega (arith, m .long)) ∙ or-here _ _ (any-here (holds s b e) k (eq-eqb _ _ (sym is)))))
+        (λ (q : x ≡ b). rw q (set-here seen b (omega (arith, m .long)) ∙ or-here _ _ (any-here (holds kind s b e) k (eq-eqb _ _ (sym is)))))
         (λ (q : x ≡ b → ⊥). set-there seen b x q (omega (arith, m .long)) ∙ m .mark x p l ∙ other x q) (equal? x b);
   })
 
-module _ (s : List ℕ) (e k : ℕ) (seen : List ℕ) (b : ℕ) (m : Marks 1 s e k seen) (is : b ≡ mapNumber s e k) where
+module _ (kind : Kind) (s : List ℕ) (e k : ℕ) (seen : List ℕ) (b : ℕ) (m : Marks kind 1 s e k seen) (is : b ≡ mapNumber kind s e k) where
   -- no block
-  pub marks-skip : b ≡ 0 → Marks 1 s e (k + 1) seen
-  marks-skip z = below 1 s e k seen b m is (omega arith)
+  pub marks-skip : b ≡ 0 → Marks kind 1 s e (k + 1) seen
+  marks-skip z = below kind 1 s e k seen b m is (omega arith)
 
   -- it is the first of its kind or not by its mark
-  pub first-zero : b ≡ 0 → isFirst s e k ≡ true
+  pub first-zero : b ≡ 0 → isFirst kind s e k ≡ true
   unfolding isFirst _or_
   first-zero z = rw (← is, z)
 
-  by-mark : (b ≡ 0 → ⊥) → b < 256 → (t : Bool) → isSet seen b ≡ t → isFirst s e k ≡ not t
+  by-mark : (b ≡ 0 → ⊥) → b < most kind → (t : Bool) → isSet seen b ≡ t → isFirst kind s e k ≡ not t
   unfolding isFirst _or_
   by-mark z f t h = rw (← is, ne-eqb _ _ z, ← m .mark b (omega arith) f, h)
 
-  pub first-unmarked : (b ≡ 0 → ⊥) → b < 256 → (t : Bool) → t ≡ isSet seen b → t ≡ false → isFirst s e k ≡ true
+  pub first-unmarked : (b ≡ 0 → ⊥) → b < most kind → (t : Bool) → t ≡ isSet seen b → t ≡ false → isFirst kind s e k ≡ true
   first-unmarked z f t h q = by-mark z f false (sym h ∙ q)
 
-  pub first-marked : (b ≡ 0 → ⊥) → b < 256 → (t : Bool) → t ≡ isSet seen b → t ≡ true → isFirst s e k ≡ false
+  pub first-marked : (b ≡ 0 → ⊥) → b < most kind → (t : Bool) → t ≡ isSet seen b → t ≡ true → isFirst kind s e k ≡ false
   first-marked z f t h q = by-mark z f true (sym h ∙ q)
 
-pub marks-long : (low : ℕ) (s : List ℕ) (e k : ℕ) (seen : List ℕ) (b : ℕ) → Marks low s e k seen → b < 256 → b < 8 * length seen
-marks-long low s e k seen b m l = omega (arith, m .long)
+pub marks-long : (kind : Kind) (low : ℕ) (s : List ℕ) (e k : ℕ) (seen : List ℕ) (b : ℕ) → Marks kind low s e k seen → b < most kind → b < 8 * length seen
+marks-long kind low s e k seen b m l = omega (arith, m .long)
+
+-- a number in range has a mark
+pub range-fits : (kind : Kind) (s : List ℕ) (e k m b : ℕ) → all (inRange kind s e) (numbers kind) ≡ true → m ≡ numbers kind → k < m → b ≡ mapNumber kind s e k → (b ≡ 0 → ⊥) → blocks kind s ≤ most kind → b < most kind
+unfolding inRange
+range-fits kind s e k m b h q l is z f =
+    let r = or-so _ _ (all-at (inRange kind s e) (numbers kind) k h (omega arith)) (ne-eqb _ _ (λ w. z (is ∙ w))) in
+    let u : mapNumber kind s e k < blocks kind s = ltb-true _ _ (and-snd _ _ r) in
+    omega arith
+
+-- it is in range by what the callees answered
+pub range-as : (kind : Kind) (r : Bool) (s : List ℕ) (e k b n : ℕ) → b ≡ mapNumber kind s e k → n ≡ blocks kind s → r ≡ (eqb b 0 or (leb 2 b and ltb b n)) → r ≡ inRange kind s e k
+unfolding inRange
+range-as kind r s e k b n p q h = rw (← p, ← q) h
 
 -- the ends of the marking of an entry
-pub marked-twice : (s : List ℕ) (e k : ℕ) (seen : List ℕ) → k < 16 → isFirst s e k ≡ false → Marked s e false seen
-marked-twice s e k seen l h = record { first = all-stops (isFirst s e) 16 k l h; marks = λ q. absurd (true≢false (sym q)) }
+module _ (kind : Kind) (s : List ℕ) (e k m : ℕ) (seen : List ℕ) (is : m ≡ numbers kind) where
+  pub marked-twice : k < m → isFirst kind s e k ≡ false → Marked kind s e false seen
+  marked-twice l h = record { first = all-stops (isFirst kind s e) (numbers kind) k (omega arith) h; marks = λ q. absurd (true≢false (sym q)) }
 
-pub marked-all : (s : List ℕ) (e k : ℕ) (seen : List ℕ) → all (isFirst s e) k ≡ true → 16 ≤ k → k ≤ 16 → Marks 1 s e k seen → Marked s e true seen
-marked-all s e k seen h g l m =
-    let q : k ≡ 16 = omega arith in record { first = all-ends (isFirst s e) 16 k h g l; marks = λ z. rw q at m }
+  pub marked-all : all (isFirst kind s e) k ≡ true → m ≤ k → k ≤ m → Marks kind 1 s e k seen → Marked kind s e true seen
+  marked-all h g l n =
+      let q : k ≡ numbers kind = omega arith in
+      record { first = all-ends (isFirst kind s e) (numbers kind) k h (omega arith) (omega arith); marks = λ z. rw q at n }
 
 -- ---- one entry
 
@@ -96,121 +127,155 @@ unfolding _or_
 or-off true y e = refl
 or-off false y e = e
 
-next-entry : (s : List ℕ) (x e : ℕ) → namedBefore s x (e + 1) 0 ≡ any (names s x) (e + 1)
+to-next : (kind : Kind) (s : List ℕ) (x e : ℕ) → namedBefore kind s x e 0 ≡ any (names kind s x) e
 unfolding namedBefore
-next-entry s x e = or-off _ _ (any-empty (holds s x (e + 1)))
+to-next kind s x e = or-off _ _ (any-empty (holds kind s x e))
 
-marks-empty : (low : ℕ) (s : List ℕ) (e : ℕ) (seen : List ℕ) (r : Bool) → Marks low s e 0 seen → r ≡ isEmpty s e → r ≡ true → Marks low s (e + 1) 0 seen
-unfolding namedBefore names _and_
-marks-empty low s e seen r m h t = record {
+marks-empty : (kind : Kind) (low : ℕ) (s : List ℕ) (e : ℕ) (seen : List ℕ) (r : Bool) → Marks kind low s e 0 seen → r ≡ isEmpty s e → r ≡ true → Marks kind low s (e + 1) 0 seen
+unfolding names _and_
+marks-empty kind low s e seen r m h t = record {
   long = m .long;
   mark = λ x p l.
-      m .mark x p l ∙ or-off _ _ (any-empty (holds s x e))
-      ∙ sym (any-skip (names s x) e (let q : isEmpty s e ≡ true = sym h ∙ t in rw q)) ∙ sym (next-entry s x e);
+      m .mark x p l ∙ to-next kind s x e
+      ∙ sym (any-skip (names kind s x) e (let q : isEmpty s e ≡ true = sym h ∙ t in rw q)) ∙ sym (to-next kind s x (e + 1));
 }
 
-names-as : (s : List ℕ) (x e : ℕ) → isEmpty s e ≡ false → names s x e ≡ any (holds s x e) 16
+names-as : (kind : Kind) (s : List ℕ) (x e : ℕ) → isEmpty s e ≡ false → names kind s x e ≡ any (holds kind s x e) (numbers kind)
 unfolding names _and_
-names-as s x e u = rw u
+names-as kind s x e u = rw u
 
 any-as : (f : ℕ → Bool) (e : ℕ) (t : Bool) → f e ≡ t → (any f e or t) ≡ any f (e + 1)
 unfolding any
 any-as f e t h = rw (add-one, h)
 
-marks-used : (low : ℕ) (s : List ℕ) (e k : ℕ) (seen : List ℕ) → Marks low s e k seen → 16 ≤ k → k ≤ 16 → isEmpty s e ≡ false → Marks low s (e + 1) 0 seen
+marks-used : (kind : Kind) (low : ℕ) (s : List ℕ) (e k : ℕ) (seen : List ℕ) → Marks kind low s e k seen → k ≡ numbers kind → isEmpty s e ≡ false → Marks kind low s (e + 1) 0 seen
 unfolding namedBefore
-marks-used low s e k seen m g h u =
-    let q : k ≡ 16 = omega arith in
-    record {
-      long = m .long;
-      mark = λ x p l.
-          m .mark x p l ∙ ap (λ (j : ℕ). any (names s x) e or any (holds s x e) j) q
-          ∙ any-as (names s x) e (any (holds s x e) 16) (names-as s x e u) ∙ sym (next-entry s x e);
-    }
+marks-used kind low s e k seen m q u = record {
+  long = m .long;
+  mark = λ x p l.
+      m .mark x p l ∙ ap (λ (j : ℕ). any (names kind s x) e or any (holds kind s x e) j) q
+      ∙ any-as (names kind s x) e (any (holds kind s x e) (numbers kind)) (names-as kind s x e u) ∙ sym (to-next kind s x (e + 1));
+}
 
 -- ---- the ends of judging an entry
 
-module _ (top : ℕ) (s : List ℕ) (e : ℕ) (seen : List ℕ) where
-  pub judged-empty : (r : Bool) → Marks 1 s e 0 seen → r ≡ isEmpty s e → r ≡ true → Judged top s e true seen
+module _ (kind : Kind) (top : ℕ) (s : List ℕ) (e : ℕ) (seen : List ℕ) where
+  pub judged-empty : (r : Bool) → Marks kind 1 s e 0 seen → r ≡ isEmpty s e → r ≡ true → Judged kind top s e true seen
   unfolding goodEntry
-  judged-empty r m h t = record { good = or-first _ _ (sym h ∙ t); marks = λ q. marks-empty 1 s e seen r m h t }
+  judged-empty r m h t = record { good = or-first _ _ (sym h ∙ t); marks = λ q. marks-empty kind 1 s e seen r m h t }
 
-  pub judged-bad : false ≡ goodEntry top s e → Judged top s e false seen
+  pub judged-bad : false ≡ goodEntry kind top s e → Judged kind top s e false seen
   judged-bad h = record { good = h; marks = λ q. absurd (true≢false (sym q)) }
 
-  pub judged-last : (r m t : Bool) → r ≡ isEmpty s e → r ≡ false → Marked s e m seen → not m ≡ false → not t ≡ goodEntry top s e → Judged top s e (not t) seen
-  judged-last r m t h u k n g = record { good = g; marks = λ q. marks-used 1 s e 16 seen (k .marks (not-false m n)) (omega arith) (omega arith) (sym h ∙ u) }
+  pub judged-last : (r m t : Bool) → r ≡ isEmpty s e → r ≡ false → Marked kind s e m seen → not m ≡ false → not t ≡ goodEntry kind top s e → Judged kind top s e (not t) seen
+  judged-last r m t h u k n g = record { good = g; marks = λ q. marks-used kind 1 s e (numbers kind) seen (k .marks (not-false m n)) refl (sym h ∙ u) }
 
-  pub judged-marks : (r : Bool) → Judged top s e r seen → not r ≡ false → Marks 1 s (e + 1) 0 seen
+  pub judged-marks : (r : Bool) → Judged kind top s e r seen → not r ≡ false → Marks kind 1 s (e + 1) 0 seen
   judged-marks r j n = j .marks (not-false r n)
 
 -- ---- the blocks in use
 
 -- the directory's alone
-pub used-none : (s t u : List ℕ) → t ≡ withBit 0 (replicate 32 0) → u ≡ withBit 1 t → InUse s 0 0 u
-unfolding namedBefore any _or_
-used-none s t u h g =
-    let z : length t ≡ 32 = ap length h ∙ length-bit (replicate 32 0) 0 in
-    let y : isSet t 0 ≡ true = rw h (set-here (replicate 32 0) 0 (omega arith)) in
+pub used-none : (kind : Kind) (s v t u : List ℕ) → Marks kind 2 s 0 0 v → t ≡ withBit 0 v → u ≡ withBit 1 t → InUse kind s 0 0 u
+used-none kind s v t u m h g =
+    let some = most-some kind in
+    let o : length t ≡ length v = ap length h ∙ length-bit v 0 in
+    let y : isSet t 0 ≡ true = rw h (set-here v 0 (omega (arith, m .long))) in
     rw g (record {
       directory = λ x l.
-          ⊎-elim (λ (q : x ≡ 1). rw q (set-here t 1 (omega arith)))
-          (λ (q : x ≡ 1 → ⊥). let o : x ≡ 0 = omega arith in rw o (set-stays t 1 0 (omega arith) y)) (equal? x 1);
+          ⊎-elim (λ (q : x ≡ 1). rw q (set-here t 1 (omega (arith, m .long))))
+          (λ (q : x ≡ 1 → ⊥). let z : x ≡ 0 = omega arith in rw z (set-stays t 1 0 (omega (arith, m .long)) y)) (equal? x 1);
       named = record {
-        long = length-bit t 1 ∙ z;
+        long = rw (length-bit t 1, o) (m .long);
         mark = λ x p l.
-            set-there t 1 x (λ q. omega arith) (omega arith)
-            ∙ ap (λ (v : List ℕ). isSet v x) h
-            ∙ set-there (replicate 32 0) 0 x (λ q. omega arith) (omega arith) ∙ set-none 32 x l;
+            set-there t 1 x (λ q. omega arith) (omega (arith, m .long))
+            ∙ ap (λ (w : List ℕ). isSet w x) h
+            ∙ set-there v 0 x (λ q. omega arith) (omega (arith, m .long)) ∙ m .mark x p l;
       };
     })
 
-module _ (s : List ℕ) (e k : ℕ) (used : List ℕ) (u : InUse s e k used) where
-  pub used-set : (b : ℕ) (t : List ℕ) → b ≡ mapNumber s e k → t ≡ withBit b used → b < 256 → InUse s e (k + 1) t
+pub none-long : (kind : Kind) (s v : List ℕ) (b : ℕ) → Marks kind 2 s 0 0 v → b < 2 → b < 8 * length v
+none-long kind s v b m l = let some = most-some kind in omega (arith, m .long)
+
+pub next-long : (kind : Kind) (s v t : List ℕ) (a b : ℕ) → Marks kind 2 s 0 0 v → t ≡ withBit a v → b < 2 → b < 8 * length t
+next-long kind s v t a b m h l = rw (h, length-bit v a) (none-long kind s v b m l)
+
+module _ (kind : Kind) (s : List ℕ) (e k : ℕ) (used : List ℕ) (u : InUse kind s e k used) where
+  pub used-set : (b : ℕ) (t : List ℕ) → b ≡ mapNumber kind s e k → t ≡ withBit b used → b / 8 < length used → InUse kind s e (k + 1) t
   used-set b t is h f = record {
-    directory = λ x l. rw h (set-stays used b x (omega (arith, u .named .long)) (u .directory x l));
-    named = marks-set 2 s e k used b (u .named) is t h f;
+    directory = λ x l. rw h (set-stays used b x (omega arith) (u .directory x l));
+    named = marks-set kind 2 s e k used b (u .named) is t h (omega (arith, u .named .long));
   }
 
-  pub used-skip : (b : ℕ) → b ≡ mapNumber s e k → b ≡ 0 → InUse s e (k + 1) used
-  used-skip b is z = record { directory = u .directory; named = below 2 s e k used b (u .named) is (omega arith) }
+  pub used-past : (b : ℕ) → b ≡ mapNumber kind s e k → length used ≤ b / 8 → InUse kind s e (k + 1) used
+  used-past b is z = record { directory = u .directory; named = past kind 2 s e k used b (u .named) is (omega (arith, u .named .long)) }
 
-  pub used-full : 16 ≤ k → k ≤ 16 → isEmpty s e ≡ false → InUse s (e + 1) 0 used
-  used-full g h q = record { directory = u .directory; named = marks-used 2 s e k used (u .named) g h q }
+  pub used-full : (m : ℕ) → m ≡ numbers kind → m ≤ k → k ≤ m → isEmpty s e ≡ false → InUse kind s (e + 1) 0 used
+  used-full m is g h q = record { directory = u .directory; named = marks-used kind 2 s e k used (u .named) (omega arith) q }
 
-  pub used-long : (b : ℕ) → b < 256 → b < 8 * length used
-  used-long b l = marks-long 2 s e k used b (u .named) l
+pub used-long : (used : List ℕ) (b : ℕ) → b / 8 < length used → b < 8 * length used
+used-long used b l = omega arith
 
-pub used-empty : (s : List ℕ) (e : ℕ) (used : List ℕ) (r : Bool) → InUse s e 0 used → r ≡ isEmpty s e → r ≡ true → InUse s (e + 1) 0 used
-used-empty s e used r u h t = record { directory = u .directory; named = marks-empty 2 s e used r (u .named) h t }
+pub used-empty : (kind : Kind) (s : List ℕ) (e : ℕ) (used : List ℕ) (r : Bool) → InUse kind s e 0 used → r ≡ isEmpty s e → r ≡ true → InUse kind s (e + 1) 0 used
+used-empty kind s e used r u h t = record { directory = u .directory; named = marks-empty kind 2 s e used r (u .named) h t }
 
-pub used-end : (s : List ℕ) (e : ℕ) (used : List ℕ) → InUse s e 0 used → 64 ≤ e → e ≤ 64 → InUse s 64 0 used
-used-end s e used u g h = let q : e ≡ 64 = omega arith in rw q at u
+pub used-end : (kind : Kind) (s : List ℕ) (e n : ℕ) (used : List ℕ) → InUse kind s e 0 used → n ≡ entries kind → n ≤ e → e ≤ n → InUse kind s (entries kind) 0 used
+used-end kind s e n used u is g h = let q : e ≡ entries kind = omega arith in rw q at u
 
 -- a clear bit is a free block
-module _ (s used : List ℕ) (u : InUse s 64 0 used) where
-  clear-free : (b : ℕ) → b < 256 → isClear used b ≡ isFree s b
+module _ (kind : Kind) (s used : List ℕ) (u : InUse kind s (entries kind) 0 used) where
+  clear-free : (b : ℕ) → b < most kind → isClear used b ≡ isFree kind s b
   unfolding isClear isFree _and_ isUsed
   clear-free b l =
       ⊎-elim
       (λ (h : leb 2 b ≡ true).
-      let k : isSet used b ≡ any (names s b) 64 = u .named .mark b (leb-true _ _ h) l ∙ next-entry s b 63 in rw (h, k))
+      let k : isSet used b ≡ any (names kind s b) (entries kind) = u .named .mark b (leb-true _ _ h) l ∙ to-next kind s b (entries kind) in
+      rw (h, k))
       (λ (h : leb 2 b ≡ false). rw (h, u .directory b (leb-false _ _ h))) (either (leb 2 b))
 
-  pub lowest-free : (r : ℕ) → length s ≤ 262144 → r ≡ lowest (isClear used) (blocks s) → r ≡ freeBlock s
-  unfolding freeBlock
-  lowest-free r l h = h ∙ lowest-ext (isClear used) (isFree s) (blocks s) (λ i k. clear-free i (omega arith))
+  module _ (n : ℕ) (is : n ≡ blocks kind s) (few : blocks kind s ≤ most kind) where
+    pub lowest-free : (r : ℕ) → r ≡ lowest (isClear used) n → r ≡ freeBlock kind s
+    unfolding freeBlock
+    lowest-free r h = rw is at h ∙ lowest-ext (isClear used) (isFree kind s) (blocks kind s) (λ i k. clear-free i (omega arith))
 
-  pub count-free : (r : ℕ) → length s ≤ 262144 → r ≡ count (isClear used) (blocks s) → r ≡ freeBlocks s
-  unfolding freeBlocks
-  count-free r l h = h ∙ count-ext (isClear used) (isFree s) (blocks s) (λ i k. clear-free i (omega arith))
+    pub count-free : (r : ℕ) → r ≡ count (isClear used) n → r ≡ freeBlocks kind s
+    unfolding freeBlocks
+    count-free r h = rw is at h ∙ count-ext (isClear used) (isFree kind s) (blocks kind s) (λ i k. clear-free i (omega arith))
 
-pub ruleset marking = (needs, all-none, all-more, marks-skip, marks-set, marks-long, marked-twice, marked-all, first-zero, first-unmarked, first-marked)
+    pub free-room : n ≤ 8 * length used
+    free-room = omega (arith, u .named .long)
 
-pub ruleset noting = (needs, is-no, used-none, used-empty, used-skip, used-set, used-full, used-long, used-end)
+-- ---- what a match on the kind asks of the routine of one kind, and its answer
 
-pub ruleset freeing = (needs, lowest-free, count-free)
+module _ (kind one : Kind) (s : List ℕ) (q : kind ≡ one) where
+  pub one-long : 32 * entries kind ≤ length s → 32 * entries one ≤ length s
+  one-long h = rw q at h
+
+  pub one-few : blocks kind s ≤ most kind → blocks one s ≤ most one
+  one-few h = rw q at h
+
+  pub one-good : (r : Bool) (top : ℕ) → r ≡ all (goodEntry one top s) (entries one) → r ≡ all (goodEntry kind top s) (entries kind)
+  one-good r top h = rw q h
+
+  pub one-lowest : (r : ℕ) → r ≡ freeBlock one s → r ≡ freeBlock kind s
+  one-lowest r h = rw q h
+
+  pub one-count : (r : ℕ) → r ≡ freeBlocks one s → r ≡ freeBlocks kind s
+  one-count r h = rw q h
+
+  pub one-fits : (r : ℕ) → r ≤ blocks one s → r ≤ blocks kind s
+  one-fits r h = rw q h
+
+pub ruleset one-kind = (one-long, one-few, one-good, one-lowest, one-count, one-fits)
+
+pub ruleset marking = (needs, all-none, all-more, marks-skip, marks-set, range-fits, marks-long, marked-twice, marked-all, first-zero, first-unmarked, first-marked)
+
+pub ruleset noting = (needs, is-no, none-long, next-long, used-none, used-set, used-past, used-full, used-long, used-empty, used-end)
+
+pub ruleset freeing = (needs, small-none, large-none, lowest-free, count-free, free-room)
 
 pub ruleset judging = (judged-empty, judged-bad, judged-last, and-first, and-then, or-first, or-then, not-answer, answers)
 
-pub ruleset entering = (needs, answers, all-none, all-more, all-stops, all-ends, marks-none, judged-marks)
+pub ruleset entering = (needs, answers, all-none, all-more, all-stops-as, all-ends-as, judged-marks)
+
+pub ruleset ranging = (needs, answers, all-none, all-more, all-stops-as, all-ends-as, range-as)

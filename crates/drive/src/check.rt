@@ -1,32 +1,43 @@
-use crate::byte::wide;
-use crate::entry::extent_at;
-use crate::entry::file_at;
-use crate::entry::is_empty;
-use crate::entry::map_number;
-use crate::find::any_entry;
-use crate::name::legal_name;
+use directory::byte::wide;
+use directory::entry::extent_at;
+use directory::entry::file_at;
+use directory::entry::is_empty;
+use directory::entry::map_number;
+use directory::find::any_entry;
+use directory::name::legal_name;
+use directory::place::blocks_in;
 use rules::answer::ImageAnswer;
+use rules::kind::Kind;
+use rules::kind::block_size;
+use rules::kind::entries;
+use rules::kind::fewest;
+use rules::kind::most;
+use rules::kind::numbers;
 use words::bits::is_set;
 use words::bits::set;
 ghost use mathlib.Core.Path.{_≡_};
-ghost use Prim.Native.Nat.{_/_, _<_, _≤_};
+ghost use mathlib.Core.Bool.{true};
+ghost use Prim.Native.Nat.{_+_, _*_, _/_, _<_, _≤_};
 ghost use lib.ListN.{length};
-ghost use Rattle.words.specs.Tests.{_and_, _or_, all, any};
 ghost use lib.Dec.{leb, ltb, eqb};
-ghost use Rattle.rules.specs.Drive.{goodLength, blocks, goodUser, goodNumbers, goodFields, inRange, isFirst, isRepeat, fileAt, isEntry, goodEntry, isBegun, soundDirectory, soundImage, imageCheck};
+ghost use Rattle.words.specs.Tests.{_and_, _or_, all, any};
+ghost use Rattle.rules.specs.declared.kind.Kind.the-variants.{Small, Large};
+ghost use Rattle.rules.specs.Kinds.{entries, numbers, most};
+ghost use Rattle.rules.specs.Drive.{goodLength, blocks, goodNumbers, goodFields, inRange, isRepeat, fileAt, isEntry, goodEntry, isBegun, soundDirectory, soundImage, imageCheck};
 ghost use Rattle.drive.specs.Marks.{Marks, Marked, Judged};
 
-// 1,024 times n bytes, n from 3 to 256.
-fn good_length(image: &[u8]) -> bool
-    ensures { λ r. ⌜ r ≡ goodLength (now (image .entry)) ⌝ }
+// A length that the kind of drive has.
+fn good_length(kind: Kind, image: &[u8]) -> bool
+    ensures { λ r. ⌜ r ≡ goodLength kind (now (image .entry)) ⌝ }
 {
-    if image.len() % 1024 != 0 {
+    if image.len() % block_size(kind) != 0 {
         return false;
     }
-    if image.len() / 1024 < 3 {
+    let n = blocks_in(kind, image);
+    if n < fewest(kind) {
         return false;
     }
-    image.len() / 1024 <= 256
+    n <= most(kind)
 }
 
 // A module is at most that of the highest record.
@@ -38,7 +49,7 @@ fn module_fits(number: u8, top: usize) -> bool
 
 // Ex to 31, the module to that of the highest record, the record count to 128.
 fn good_numbers(image: &[u8], e: usize, top: usize) -> bool
-    requires { ⌜ (e < 64) × (2048 ≤ length (now image)) ⌝ }
+    requires { ⌜ 32 * e + 32 ≤ length (now image) ⌝ }
     ensures { λ r. ⌜ r ≡ goodNumbers top (now (image .entry)) e ⌝ }
 {
     if 31 < image[32 * e + 12] {
@@ -52,7 +63,7 @@ fn good_numbers(image: &[u8], e: usize, top: usize) -> bool
 
 // The user, the name, then ex, module and count of entry `e`.
 fn good_fields(image: &[u8], e: usize, top: usize) -> bool
-    requires { ⌜ (e < 64) × (2048 ≤ length (now image)) ⌝ }
+    requires { ⌜ 32 * e + 32 ≤ length (now image) ⌝ }
     ensures { λ r. ⌜ r ≡ goodFields top (now (image .entry)) e ⌝ }
 {
     if 15 < image[32 * e] {
@@ -65,7 +76,7 @@ fn good_fields(image: &[u8], e: usize, top: usize) -> bool
 }
 
 // A block number is 0 or 2 to n - 1.
-fn in_range(b: u8, n: usize) -> bool
+fn in_range(b: usize, n: usize) -> bool
     ensures { λ r. ⌜ r ≡ (eqb b 0 or (leb 2 b and ltb b n)) ⌝ }
 {
     if b == 0 {
@@ -74,18 +85,19 @@ fn in_range(b: u8, n: usize) -> bool
     if b < 2 {
         return false;
     }
-    wide(b) < n
+    b < n
 }
 
 // All block numbers of entry `e` are in range.
-fn all_in_range(image: &[u8], e: usize) -> bool
-    requires { ⌜ (e < 64) × (2048 ≤ length (now image)) ⌝ }
-    ensures { λ r. ⌜ r ≡ all (inRange (now (image .entry)) e) 16 ⌝ }
+fn all_in_range(kind: Kind, image: &[u8], e: usize) -> bool
+    requires { ⌜ 32 * e + 32 ≤ length (now image) ⌝ }
+    ensures { λ r. ⌜ r ≡ all (inRange kind (now (image .entry)) e) (numbers kind) ⌝ }
 {
-    let n = image.len() / 1024;
+    let n = blocks_in(kind, image);
+    let m = numbers(kind);
     let mut k = 0;
-    while k < 16 {
-        if !in_range(image[32 * e + (16 + k)], n) {
+    while k < m {
+        if !in_range(map_number(kind, image, e, k), n) {
             return false;
         }
         k += 1;
@@ -93,14 +105,15 @@ fn all_in_range(image: &[u8], e: usize) -> bool
     true
 }
 
-// Marks the block numbers of entry `e` and refuses a second mark.
-fn mark_entry(image: &[u8], e: usize, seen: &mut [u8]) -> bool
-    requires { ⌜ (e < 64) × (2048 ≤ length (now image)) × Marks 1 (now image) e 0 (now seen) ⌝ }
-    ensures { λ r. ⌜ Marked (now (image .entry)) e r (now (seen .exit)) ⌝ }
+// Marks the block numbers of entry `e`, all in range, and refuses a second mark.
+fn mark_entry(kind: Kind, image: &[u8], e: usize, seen: &mut [u8]) -> bool
+    requires { ⌜ (32 * e + 32 ≤ length (now image)) × (blocks kind (now image) ≤ most kind) × (all (inRange kind (now image) e) (numbers kind) ≡ true) × Marks kind 1 (now image) e 0 (now seen) ⌝ }
+    ensures { λ r. ⌜ Marked kind (now (image .entry)) e r (now (seen .exit)) ⌝ }
 {
+    let m = numbers(kind);
     let mut k = 0;
-    while k < 16 {
-        let b = map_number(image, e, k);
+    while k < m {
+        let b = map_number(kind, image, e, k);
         k += 1;
         if b != 0 {
             if is_set(seen, b) {
@@ -114,7 +127,7 @@ fn mark_entry(image: &[u8], e: usize, seen: &mut [u8]) -> bool
 
 // An entry before `e` has its file and extent.
 fn is_repeat(image: &[u8], e: usize) -> bool
-    requires { ⌜ (e < 64) × (2048 ≤ length (now image)) ⌝ }
+    requires { ⌜ 32 * e + 32 ≤ length (now image) ⌝ }
     ensures { λ r. ⌜ r ≡ isRepeat (now (image .entry)) e ⌝ }
 {
     let f = file_at(image, e);
@@ -123,9 +136,9 @@ fn is_repeat(image: &[u8], e: usize) -> bool
 }
 
 // Entry `e` is empty or as it should be, the blocks seen before it being marked.
-fn good_entry(image: &[u8], e: usize, top: usize, seen: &mut [u8]) -> bool
-    requires { ⌜ (e < 64) × (2048 ≤ length (now image)) × Marks 1 (now image) e 0 (now seen) ⌝ }
-    ensures { λ r. ⌜ Judged top (now (image .entry)) e r (now (seen .exit)) ⌝ }
+fn good_entry(kind: Kind, image: &[u8], e: usize, top: usize, seen: &mut [u8]) -> bool
+    requires { ⌜ (32 * e + 32 ≤ length (now image)) × (blocks kind (now image) ≤ most kind) × Marks kind 1 (now image) e 0 (now seen) ⌝ }
+    ensures { λ r. ⌜ Judged kind top (now (image .entry)) e r (now (seen .exit)) ⌝ }
 {
     if is_empty(image, e) {
         return true;
@@ -133,23 +146,24 @@ fn good_entry(image: &[u8], e: usize, top: usize, seen: &mut [u8]) -> bool
     if !good_fields(image, e, top) {
         return false;
     }
-    if !all_in_range(image, e) {
+    if !all_in_range(kind, image, e) {
         return false;
     }
-    if !mark_entry(image, e, seen) {
+    if !mark_entry(kind, image, e, seen) {
         return false;
     }
     !is_repeat(image, e)
 }
 
-fn good_entries(image: &[u8], top: usize) -> bool
-    requires { ⌜ 2048 ≤ length (now image) ⌝ }
-    ensures { λ r. ⌜ r ≡ all (goodEntry top (now (image .entry))) 64 ⌝ }
+// Every entry is, none having a mark yet.
+fn judge_all(kind: Kind, image: &[u8], top: usize, seen: &mut [u8]) -> bool
+    requires { ⌜ (32 * entries kind ≤ length (now image)) × (blocks kind (now image) ≤ most kind) × Marks kind 1 (now image) 0 0 (now seen) ⌝ }
+    ensures { λ r. ⌜ r ≡ all (goodEntry kind top (now (image .entry))) (entries kind) ⌝ }
 {
-    let mut seen = [0u8; 32];
+    let n = entries(kind);
     let mut e = 0;
-    while e < 64 {
-        if !good_entry(image, e, top, &mut seen) {
+    while e < n {
+        if !good_entry(kind, image, e, top, &mut *seen) {
             return false;
         }
         e += 1;
@@ -157,19 +171,46 @@ fn good_entries(image: &[u8], top: usize) -> bool
     true
 }
 
-// The file of entry `e` has an extent 0.
-fn has_first(image: &[u8], e: usize) -> bool
-    requires { ⌜ (e < 64) × (2048 ≤ length (now image)) ⌝ }
-    ensures { λ r. ⌜ r ≡ any (isEntry (now (image .entry)) (fileAt (now (image .entry)) e) 0) 64 ⌝ }
+// The marks of the first kind are 32 bytes, those of the second 512.
+fn small_entries(image: &[u8], top: usize) -> bool
+    requires { ⌜ (32 * entries Small ≤ length (now image)) × (blocks Small (now image) ≤ most Small) ⌝ }
+    ensures { λ r. ⌜ r ≡ all (goodEntry Small top (now (image .entry))) (entries Small) ⌝ }
+{
+    let mut seen = [0u8; 32];
+    judge_all(Kind::Small, image, top, &mut seen)
+}
+
+fn large_entries(image: &[u8], top: usize) -> bool
+    requires { ⌜ (32 * entries Large ≤ length (now image)) × (blocks Large (now image) ≤ most Large) ⌝ }
+    ensures { λ r. ⌜ r ≡ all (goodEntry Large top (now (image .entry))) (entries Large) ⌝ }
+{
+    let mut seen = [0u8; 512];
+    judge_all(Kind::Large, image, top, &mut seen)
+}
+
+fn good_entries(kind: Kind, image: &[u8], top: usize) -> bool
+    requires { ⌜ (32 * entries kind ≤ length (now image)) × (blocks kind (now image) ≤ most kind) ⌝ }
+    ensures { λ r. ⌜ r ≡ all (goodEntry kind top (now (image .entry))) (entries kind) ⌝ }
+{
+    match kind {
+        Kind::Small => small_entries(image, top),
+        Kind::Large => large_entries(image, top),
+    }
+}
+
+// The file of entry `e` has an extent 0 in one of `n` entries.
+fn has_first(image: &[u8], e: usize, n: usize) -> bool
+    requires { ⌜ (32 * e + 32 ≤ length (now image)) × (32 * n ≤ length (now image)) ⌝ }
+    ensures { λ r. ⌜ r ≡ any (isEntry (now (image .entry)) (fileAt (now (image .entry)) e) 0) n ⌝ }
 {
     let f = file_at(image, e);
-    any_entry(image, f, 0, 64)
+    any_entry(image, f, 0, n)
 }
 
 // The same of an entry that may be empty; one that is extent 0 itself needs no search.
-fn is_begun(image: &[u8], e: usize) -> bool
-    requires { ⌜ (e < 64) × (2048 ≤ length (now image)) ⌝ }
-    ensures { λ r. ⌜ r ≡ isBegun (now (image .entry)) e ⌝ }
+fn is_begun(kind: Kind, image: &[u8], e: usize) -> bool
+    requires { ⌜ (e < entries kind) × (32 * entries kind ≤ length (now image)) ⌝ }
+    ensures { λ r. ⌜ r ≡ isBegun kind (now (image .entry)) e ⌝ }
 {
     if is_empty(image, e) {
         return true;
@@ -177,16 +218,17 @@ fn is_begun(image: &[u8], e: usize) -> bool
     if extent_at(image, e) == 0 {
         return true;
     }
-    has_first(image, e)
+    has_first(image, e, entries(kind))
 }
 
-fn all_begun(image: &[u8]) -> bool
-    requires { ⌜ 2048 ≤ length (now image) ⌝ }
-    ensures { λ r. ⌜ r ≡ all (isBegun (now (image .entry))) 64 ⌝ }
+fn all_begun(kind: Kind, image: &[u8]) -> bool
+    requires { ⌜ 32 * entries kind ≤ length (now image) ⌝ }
+    ensures { λ r. ⌜ r ≡ all (isBegun kind (now (image .entry))) (entries kind) ⌝ }
 {
+    let n = entries(kind);
     let mut e = 0;
-    while e < 64 {
-        if !is_begun(image, e) {
+    while e < n {
+        if !is_begun(kind, image, e) {
             return false;
         }
         e += 1;
@@ -194,35 +236,35 @@ fn all_begun(image: &[u8]) -> bool
     true
 }
 
-fn sound_directory(image: &[u8], top: usize) -> bool
-    requires { ⌜ 2048 ≤ length (now image) ⌝ }
-    ensures { λ r. ⌜ r ≡ soundDirectory top (now (image .entry)) ⌝ }
+fn sound_directory(kind: Kind, image: &[u8], top: usize) -> bool
+    requires { ⌜ (32 * entries kind ≤ length (now image)) × (blocks kind (now image) ≤ most kind) ⌝ }
+    ensures { λ r. ⌜ r ≡ soundDirectory kind top (now (image .entry)) ⌝ }
 {
-    if !good_entries(image, top) {
+    if !good_entries(kind, image, top) {
         return false;
     }
-    all_begun(image)
+    all_begun(kind, image)
 }
 
 // The image check, to a highest record.
-pub fn image_check(image: &[u8], top: usize) -> ImageAnswer
-    ensures { λ r. ⌜ r ≡ imageCheck top (now (image .entry)) ⌝ }
+pub fn image_check(kind: Kind, image: &[u8], top: usize) -> ImageAnswer
+    ensures { λ r. ⌜ r ≡ imageCheck kind top (now (image .entry)) ⌝ }
 {
-    if !good_length(image) {
+    if !good_length(kind, image) {
         return ImageAnswer::WrongLength;
     }
-    if !sound_directory(image, top) {
+    if !sound_directory(kind, image, top) {
         return ImageAnswer::UnsoundDirectory;
     }
     ImageAnswer::Sound
 }
 
 // The image is sound.
-pub fn sound_image(image: &[u8], top: usize) -> bool
-    ensures { λ r. ⌜ r ≡ soundImage top (now (image .entry)) ⌝ }
+pub fn sound_image(kind: Kind, image: &[u8], top: usize) -> bool
+    ensures { λ r. ⌜ r ≡ soundImage kind top (now (image .entry)) ⌝ }
 {
-    if !good_length(image) {
+    if !good_length(kind, image) {
         return false;
     }
-    sound_directory(image, top)
+    sound_directory(kind, image, top)
 }

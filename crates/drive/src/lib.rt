@@ -1,8 +1,4 @@
-// The image: names, entries, the image check, finding, free blocks, Look. Nothing here changes it.
-pub mod byte;
+// The image check, free blocks, Look. Nothing here changes the image.
 pub mod check;
-pub mod entry;
-pub mod find;
 pub mod free;
 pub mod look;
-pub mod name;

@@ -24,6 +24,7 @@ use Rattle.rules.proofs.Ends.{did-as, did-none}
 use Rattle.rules.proofs.Singles.{run-chosen, done-within}
 use Rattle.rules.proofs.Several.{codeAt, several-none, several-more, several-stops, several-stays, singly-plain, singly-refused, singly-told}
 use Rattle.engine.specs.Calls.{callBy, DidSingle}
+use Rattle.rules.specs.declared.kind.Kind.{Kind}
 
 -- ---- its FCB and its DMA
 
@@ -41,18 +42,18 @@ dma-made dma zero a own i n m ha h =
 
 -- ---- the single call
 
-module _ (n p i : ℕ) (b : Buffers) (fcb dma : List ℕ) (hf : fcb ≡ fcbAt i (b .fcb)) (hd : dma ≡ dmaAt i (b .dma)) (code : ℕ) (fcb′ dma′ list′ image′ : List ℕ) (d : Did (callBy false n p 1 (buffers fcb dma (b .list) (b .image))) code fcb′ dma′ list′ image′) where
-  as-single : Did (call n p 1 (single i b)) code fcb′ dma′ list′ image′
+module _ (kind : Kind) (n p i : ℕ) (b : Buffers) (fcb dma : List ℕ) (hf : fcb ≡ fcbAt i (b .fcb)) (hd : dma ≡ dmaAt i (b .dma)) (code : ℕ) (fcb′ dma′ list′ image′ : List ℕ) (d : Did (callBy kind false n p 1 (buffers fcb dma (b .list) (b .image))) code fcb′ dma′ list′ image′) where
+  as-single : Did (call kind n p 1 (single i b)) code fcb′ dma′ list′ image′
   unfolding callBy single
-  as-single = did-as _ _ code fcb′ dma′ list′ image′ (ap (λ (x : List ℕ). call n p 1 (buffers x dma (b .list) (b .image))) hf ∙ ap (λ (x : List ℕ). call n p 1 (buffers (fcbAt i (b .fcb)) x (b .list) (b .image))) hd) d
+  as-single = did-as _ _ code fcb′ dma′ list′ image′ (ap (λ (x : List ℕ). call kind n p 1 (buffers x dma (b .list) (b .image))) hf ∙ ap (λ (x : List ℕ). call kind n p 1 (buffers (fcbAt i (b .fcb)) x (b .list) (b .image))) hd) d
 
-  still : (code ≡ 0 → ⊥) → call n p 1 (single i b) .left ≡ single i b
+  still : (code ≡ 0 → ⊥) → call kind n p 1 (single i b) .left ≡ single i b
   still z =
-      ⊎-elim (λ (h : anyRow (rowsCall n p 1 (single i b)) ≡ true). ap (λ (o : Outcome). o .left) (refused n p 1 (single i b) h))
-      (λ (h : anyRow (rowsCall n p 1 (single i b)) ≡ false). absurd (z (as-single .gives ∙ accepted-zero n p 1 (single i b) h))) (either (anyRow (rowsCall n p 1 (single i b))))
+      ⊎-elim (λ (h : anyRow (rowsCall kind n p 1 (single i b)) ≡ true). ap (λ (o : Outcome). o .left) (refused kind n p 1 (single i b) h))
+      (λ (h : anyRow (rowsCall kind n p 1 (single i b)) ≡ false). absurd (z (as-single .gives ∙ accepted-zero kind n p 1 (single i b) h))) (either (anyRow (rowsCall kind n p 1 (single i b))))
 
   -- refused
-  pub one-refused : (code ≡ 0 → ⊥) → DidSingle n p i b code (b .dma) list′ image′
+  pub one-refused : (code ≡ 0 → ⊥) → DidSingle kind n p i b code (b .dma) list′ image′
   unfolding single
   one-refused z = record {
     gives = as-single .gives;
@@ -66,7 +67,7 @@ module _ (n p i : ℕ) (b : Buffers) (fcb dma : List ℕ) (hf : fcb ≡ fcbAt i 
   }
 
   -- done
-  pub one-done : (left : List ℕ) → code ≡ 0 → left ≡ put (128 * i) (take (128 - 0) (drop 0 dma′)) (b .dma) → DidSingle n p i b 0 left list′ image′
+  pub one-done : (left : List ℕ) → code ≡ 0 → left ≡ put (128 * i) (take (128 - 0) (drop 0 dma′)) (b .dma) → DidSingle kind n p i b 0 left list′ image′
   unfolding backAt
   one-done left z h = record {
     gives = sym z ∙ as-single .gives;
@@ -81,29 +82,29 @@ module _ (n p i : ℕ) (b : Buffers) (fcb dma : List ℕ) (hf : fcb ≡ fcbAt i 
 
 -- ---- one after another
 
-pub each-none : (n p : ℕ) (b : Buffers) → several n p 0 b ≡ run 0 0 b
-each-none n p b = several-none n p b
+pub each-none : (kind : Kind) (n p : ℕ) (b : Buffers) → several kind n p 0 b ≡ run 0 0 b
+each-none kind n p b = several-none kind n p b
 
-module _ (n p c i : ℕ) (b : Buffers) (fcb₁ dma₁ list₁ image₁ : List ℕ) (h : several n p i b ≡ run 0 i (buffers fcb₁ dma₁ list₁ image₁)) where
+module _ (kind : Kind) (n p c i : ℕ) (b : Buffers) (fcb₁ dma₁ list₁ image₁ : List ℕ) (h : several kind n p i b ≡ run 0 i (buffers fcb₁ dma₁ list₁ image₁)) where
   abbrev b′ : Buffers
   b′ = buffers fcb₁ dma₁ list₁ image₁
 
-  module _ (code : ℕ) (dma list image : List ℕ) (d : DidSingle n p i (buffers fcb₁ dma₁ list₁ image₁) code dma list image) where
-    code-told : code ≡ codeAt n p i b′
-    code-told = d .gives ∙ answer-is n p 1 (single i b′)
+  module _ (code : ℕ) (dma list image : List ℕ) (d : DidSingle kind n p i (buffers fcb₁ dma₁ list₁ image₁) code dma list image) where
+    code-told : code ≡ codeAt kind n p i b′
+    code-told = d .gives ∙ answer-is kind n p 1 (single i b′)
 
-    pub each-more : code ≡ 0 → several n p (i + 1) b ≡ run 0 (i + 1) (buffers fcb₁ dma list image)
-    each-more z = rw add-one (several-more n p i b b′ h (sym code-told ∙ z) ∙ ap (λ (x : Buffers). run 0 (suc i) x) (sym (d .done z)))
+    pub each-more : code ≡ 0 → several kind n p (i + 1) b ≡ run 0 (i + 1) (buffers fcb₁ dma list image)
+    each-more z = rw add-one (several-more kind n p i b b′ h (sym code-told ∙ z) ∙ ap (λ (x : Buffers). run 0 (suc i) x) (sym (d .done z)))
 
     -- the next record's number still has three bytes
     pub each-number : (r : ℕ) → servesRun n ≡ true → length fcb₁ ≡ 36 → r ≡ recordOf fcb₁ → code ≡ 0 → r + (i + 1) < 16777216
-    each-number r s long e z = let k = done-within n p i b′ (run-chosen n s) long (sym code-told ∙ z) in omega arith
+    each-number r s long e z = let k = done-within kind n p i b′ (run-chosen n s) long (sym code-told ∙ z) in omega arith
 
-    pub each-stops : (code ≡ 0 → ⊥) → i < c → Did (singly (several n p c b)) code fcb₁ dma list image
+    pub each-stops : (code ≡ 0 → ⊥) → i < c → Did (singly (several kind n p c b)) code fcb₁ dma list image
     unfolding singly
     each-stops z l =
-        let y : codeAt n p i b′ ≡ 0 → ⊥ = λ q. z (code-told ∙ q) in
-        let g = several-stays n p (suc i) c b (run (codeAt n p i b′) i b′) (several-stops n p i b b′ h y) y (omega arith) in
+        let y : codeAt kind n p i b′ ≡ 0 → ⊥ = λ q. z (code-told ∙ q) in
+        let g = several-stays kind n p (suc i) c b (run (codeAt kind n p i b′) i b′) (several-stops kind n p i b b′ h y) y (omega arith) in
         let k = d .kept z in
         rw g (record {
           gives = code-told;
@@ -113,31 +114,31 @@ module _ (n p c i : ℕ) (b : Buffers) (fcb₁ dma₁ list₁ image₁ : List �
           leaves-image = ap (λ (x : Buffers). x .image) k;
         })
 
-  pub each-ends : c ≤ i → i ≤ c → Did (singly (several n p c b)) 0 fcb₁ dma₁ list₁ image₁
+  pub each-ends : c ≤ i → i ≤ c → Did (singly (several kind n p c b)) 0 fcb₁ dma₁ list₁ image₁
   unfolding singly
   each-ends l m = let q : c ≡ i = omega arith in rw (q, h) (did-none 0 b′)
 
 -- ---- the call
 
-module _ (n p c : ℕ) (b : Buffers) (r : Bool) (e : r ≡ servesRun n) where
+module _ (kind : Kind) (n p c : ℕ) (b : Buffers) (r : Bool) (e : r ≡ servesRun n) where
   -- one that takes no run of records
-  pub singly-other : (a : ℕ) (fcb dma list image : List ℕ) → not r ≡ true → Did (callBy false n p c b) a fcb dma list image → Did (callSingly n p c b) a fcb dma list image
+  pub singly-other : (a : ℕ) (fcb dma list image : List ℕ) → not r ≡ true → Did (callBy kind false n p c b) a fcb dma list image → Did (callSingly kind n p c b) a fcb dma list image
   unfolding callBy
-  singly-other a fcb dma list image h d = did-as _ _ a fcb dma list image (sym (singly-plain n p c b (not-no r _ e h))) d
+  singly-other a fcb dma list image h d = did-as _ _ a fcb dma list image (sym (singly-plain kind n p c b (not-no r _ e h))) d
 
-  module _ (h : not r ≡ false) (code : ℕ) (k : code ≡ firstOf (rowsAll n p c b)) where
+  module _ (h : not r ≡ false) (code : ℕ) (k : code ≡ firstOf (rowsAll kind n p c b)) where
     -- a general refusal
-    pub singly-stopped : (code ≡ 0 → ⊥) → Did (callSingly n p c b) code (b .fcb) (b .dma) (b .list) (b .image)
+    pub singly-stopped : (code ≡ 0 → ⊥) → Did (callSingly kind n p c b) code (b .fcb) (b .dma) (b .list) (b .image)
     singly-stopped z =
-        did-as _ _ _ _ _ _ _ (ap (λ (a : ℕ). outcome a b) k ∙ sym (singly-refused n p c b (not-yes r _ e h) (λ q. z (k ∙ q)))) (did-none code b)
+        did-as _ _ _ _ _ _ _ (ap (λ (a : ℕ). outcome a b) k ∙ sym (singly-refused kind n p c b (not-yes r _ e h) (λ q. z (k ∙ q)))) (did-none code b)
 
-    pub singly-went : (a : ℕ) (fcb dma list image : List ℕ) → code ≡ 0 → Did (singly (several n p c b)) a fcb dma list image → Did (callSingly n p c b) a fcb dma list image
-    singly-went a fcb dma list image z d = did-as _ _ a fcb dma list image (sym (singly-told n p c b (not-yes r _ e h) (sym k ∙ z))) d
+    pub singly-went : (a : ℕ) (fcb dma list image : List ℕ) → code ≡ 0 → Did (singly (several kind n p c b)) a fcb dma list image → Did (callSingly kind n p c b) a fcb dma list image
+    singly-went a fcb dma list image z d = did-as _ _ a fcb dma list image (sym (singly-told kind n p c b (not-yes r _ e h) (sym k ∙ z))) d
 
 -- what the general table leaves to the single calls
-module _ (n p c : ℕ) (fcb dma list image : List ℕ) (code : ℕ) (k : code ≡ firstOf (rowsAll n p c (buffers fcb dma list image))) (z : code ≡ 0) where
-  all : Passed p c (buffers fcb dma list image)
-  all = passed n p c _ (zero-none (rowsAll n p c (buffers fcb dma list image)) (nonzero-all n p c (buffers fcb dma list image)) (sym k ∙ z))
+module _ (kind : Kind) (n p c : ℕ) (fcb dma list image : List ℕ) (code : ℕ) (k : code ≡ firstOf (rowsAll kind n p c (buffers fcb dma list image))) (z : code ≡ 0) where
+  all : Passed kind p c (buffers fcb dma list image)
+  all = passed kind n p c _ (zero-none (rowsAll kind n p c (buffers fcb dma list image)) (nonzero-all kind n p c (buffers fcb dma list image)) (sym k ∙ z))
 
   pub goes-each : (length fcb ≡ 36) × (length dma ≡ 2048) × (c ≤ 16)
   goes-each = (all .ready .fcb-long, all .ready .dma-long, all .run-fits)

@@ -1,5 +1,5 @@
 -- What passing the refusals that all calls share says. Assumes nothing.
-use Prim.Native.Nat.{ℕ, _≤_, _<_}
+use Prim.Native.Nat.{ℕ, _*_, _≤_, _<_}
 use mathlib.Core.Path.{_≡_, refl, sym, ap, _∙_}
 use mathlib.Core.Bool.{Bool, true, false, not}
 use mathlib.Core.List.{List}
@@ -13,12 +13,13 @@ use Rattle.words.specs.Tables.{firstOf}
 use Rattle.words.proofs.Tests.{either, equal?}
 use Rattle.words.proofs.Tables.{zero-none}
 use Rattle.words.proofs.Sets.{row-yes, row-no}
+use Rattle.rules.specs.Kinds.{entries}
 use Rattle.rules.specs.declared.routine.Routine.{Routine}
 use Rattle.rules.specs.declared.routine.Routine.the-variants.{Open, Close, Delete, Make, Rename, Read, Write, WriteZeros, TestWrite, Lock, Unlock, FreeSpace, Terminate}
 use Rattle.rules.specs.declared.routine.Chosen.{Chosen}
 use Rattle.rules.specs.declared.routine.Chosen.the-variants.{Call, Unknown}
 use Rattle.rules.specs.Serves.{Buffers, Did, buffers, outcome, functionOf, chosen, isUnknown}
-use Rattle.rules.specs.Drive.{highest, soundImage}
+use Rattle.rules.specs.Drive.{highest, blocks, soundImage}
 use Rattle.rules.specs.Look.{lookAt}
 use Rattle.rules.specs.Codes.{badNumbers, badDrive, rowsInside, rowsAll}
 use Rattle.rules.specs.Call.{served, call}
@@ -26,11 +27,13 @@ use Rattle.rules.specs.Several.{servesRun}
 use Rattle.rules.proofs.Tables.{nonzero-all, call-refused, call-served}
 use Rattle.rules.proofs.Passed.{GoodNumbers, Passed, good-numbers, passed, drive-good}
 use Rattle.rules.proofs.Several.{run-plain, run-refused, run-told}
+use Rattle.rules.proofs.Sizes.{most-fits, begins-below}
 use Rattle.rules.proofs.Sound.{sound-length, length-whole, length-long, length-few}
 use Rattle.rules.proofs.Look.{look-inside, look-sound}
 use Rattle.rules.proofs.Ends.{did-as, did-none}
 use Rattle.engine.specs.Calls.{callBy, servedBy}
 use Rattle.engine.specs.Drives.{readsDrive}
+use Rattle.rules.specs.declared.kind.Kind.{Kind}
 
 -- ---- the chosen routine
 
@@ -92,97 +95,99 @@ module _ (n p c : ℕ) (fcb dma list : List ℕ) (r : Bool) (e : r ≡ badNumber
   pub list-there : length list ≡ 1299
   list-there = numbers .list-long
 
-  module _ (image : List ℕ) (code : ℕ) (h : code ≡ firstOf (rowsInside n fcb list image)) where
-    pub all-rows : code ≡ firstOf (rowsAll n p c (buffers fcb dma list image))
+  module _ (kind : Kind) (image : List ℕ) (code : ℕ) (h : code ≡ firstOf (rowsInside kind n fcb list image)) where
+    pub all-rows : code ≡ firstOf (rowsAll kind n p c (buffers fcb dma list image))
     unfolding rowsAll rowsInside
     all-rows = row-no code 3583 _ _ (sym e ∙ t) h
 
     -- no row applies
-    pub all-passed : code ≡ 0 → (Passed p c (buffers fcb dma list image)) × (badDrive n fcb ≡ false)
+    pub all-passed : code ≡ 0 → (Passed kind p c (buffers fcb dma list image)) × (badDrive n fcb ≡ false)
     all-passed z =
-        let q = zero-none (rowsAll n p c (buffers fcb dma list image)) (nonzero-all n p c (buffers fcb dma list image)) (sym all-rows ∙ z) in
-        (passed n p c (buffers fcb dma list image) q, drive-good n p c (buffers fcb dma list image) q)
+        let q = zero-none (rowsAll kind n p c (buffers fcb dma list image)) (nonzero-all kind n p c (buffers fcb dma list image)) (sym all-rows ∙ z) in
+        (passed kind n p c (buffers fcb dma list image) q, drive-good kind n p c (buffers fcb dma list image) q)
 
 -- after `if !sound_image(..) { return .. }`
-module _ (r : Bool) (s : List ℕ) (e : r ≡ soundImage highest s) (t : not r ≡ false) where
-  pub image-there : soundImage highest s ≡ true
+module _ (kind : Kind) (r : Bool) (s : List ℕ) (e : r ≡ soundImage kind highest s) (t : not r ≡ false) where
+  pub image-there : soundImage kind highest s ≡ true
   image-there = sym e ∙ not-false r t
 
-  pub image-enough : 2048 ≤ length s
-  image-enough = let k = length-long s (sound-length highest s image-there) in omega arith
+  pub image-enough : 32 * entries kind ≤ length s
+  image-enough = let k = length-long kind s (sound-length kind highest s image-there) in omega arith
 
 -- ---- the ends of the general table, and of a call by the fast path and by the plain engine
 
-module _ (n p c : ℕ) (b : Buffers) where
+module _ (kind : Kind) (n p c : ℕ) (b : Buffers) where
   -- an unknown function
-  pub code-unknown : (r : Chosen) → r ≡ chosen n → r ≡ Unknown → 3583 ≡ firstOf (rowsAll n p c b)
+  pub code-unknown : (r : Chosen) → r ≡ chosen n → r ≡ Unknown → 3583 ≡ firstOf (rowsAll kind n p c b)
   unfolding rowsAll badNumbers isUnknown firstOf _or_ _if_else_
   code-unknown r g u = let h : chosen n ≡ Unknown = sym g ∙ u in rw h
 
   -- bad numbers
-  pub code-bad : (r : Bool) → r ≡ badNumbers n p c (b .fcb) (b .dma) (b .list) → r ≡ true → 3583 ≡ firstOf (rowsAll n p c b)
+  pub code-bad : (r : Bool) → r ≡ badNumbers n p c (b .fcb) (b .dma) (b .list) → r ≡ true → 3583 ≡ firstOf (rowsAll kind n p c b)
   unfolding rowsAll
   code-bad r e t = row-yes 3583 3583 _ _ (sym e ∙ t) refl
 
-module _ (z : Bool) (n p c : ℕ) (b : Buffers) where
-  by-refused : (firstOf (rowsAll n p c b) ≡ 0 → ⊥) → callBy z n p c b ≡ outcome (firstOf (rowsAll n p c b)) b
+module _ (kind : Kind) (z : Bool) (n p c : ℕ) (b : Buffers) where
+  by-refused : (firstOf (rowsAll kind n p c b) ≡ 0 → ⊥) → callBy kind z n p c b ≡ outcome (firstOf (rowsAll kind n p c b)) b
   unfolding callBy
   by-refused h = each z
     where
-      each : (y : Bool) → callBy y n p c b ≡ outcome (firstOf (rowsAll n p c b)) b
-      each false = call-refused n p c b h
+      each : (y : Bool) → callBy kind y n p c b ≡ outcome (firstOf (rowsAll kind n p c b)) b
+      each false = call-refused kind n p c b h
       each true =
-          ⊎-elim (λ (q : servesRun n ≡ true). run-refused n p c b q h)
-          (λ (q : servesRun n ≡ false). run-plain n p c b q ∙ call-refused n p c b h) (either (servesRun n))
+          ⊎-elim (λ (q : servesRun n ≡ true). run-refused kind n p c b q h)
+          (λ (q : servesRun n ≡ false). run-plain kind n p c b q ∙ call-refused kind n p c b h) (either (servesRun n))
 
-  by-served : (k : Routine) → chosen n ≡ Call k → firstOf (rowsAll n p c b) ≡ 0 → callBy z n p c b ≡ servedBy z n k p c b
+  by-served : (k : Routine) → chosen n ≡ Call k → firstOf (rowsAll kind n p c b) ≡ 0 → callBy kind z n p c b ≡ servedBy kind z n k p c b
   unfolding callBy servedBy _if_else_
   by-served k g h = each z
     where
-      plain : call n p c b ≡ served (Call k) p c b
-      plain = call-served n p c b h ∙ ap (λ (m : Chosen). served m p c b) g
+      plain : call kind n p c b ≡ served kind (Call k) p c b
+      plain = call-served kind n p c b h ∙ ap (λ (m : Chosen). served kind m p c b) g
 
-      each : (y : Bool) → callBy y n p c b ≡ servedBy y n k p c b
+      each : (y : Bool) → callBy kind y n p c b ≡ servedBy kind y n k p c b
       each false = plain
       each true =
-          ⊎-elim (λ (q : servesRun n ≡ true). rw q (run-told n p c b q h))
-          (λ (q : servesRun n ≡ false). rw q (run-plain n p c b q ∙ plain)) (either (servesRun n))
+          ⊎-elim (λ (q : servesRun n ≡ true). rw q (run-told kind n p c b q h))
+          (λ (q : servesRun n ≡ false). rw q (run-plain kind n p c b q ∙ plain)) (either (servesRun n))
 
-  refused : (code : ℕ) → code ≡ firstOf (rowsAll n p c b) → (code ≡ 0 → ⊥) → Did (callBy z n p c b) code (b .fcb) (b .dma) (b .list) (b .image)
+  refused : (code : ℕ) → code ≡ firstOf (rowsAll kind n p c b) → (code ≡ 0 → ⊥) → Did (callBy kind z n p c b) code (b .fcb) (b .dma) (b .list) (b .image)
   refused code e t =
       did-as _ _ _ _ _ _ _ (ap (λ (a : ℕ). outcome a b) e ∙ sym (by-refused (λ q. t (e ∙ q)))) (did-none code b)
 
-  pub ends-unknown : (r : Chosen) → r ≡ chosen n → r ≡ Unknown → Did (callBy z n p c b) 3583 (b .fcb) (b .dma) (b .list) (b .image)
-  ends-unknown r g u = refused 3583 (code-unknown n p c b r g u) (λ q. omega arith)
+  pub ends-unknown : (r : Chosen) → r ≡ chosen n → r ≡ Unknown → Did (callBy kind z n p c b) 3583 (b .fcb) (b .dma) (b .list) (b .image)
+  ends-unknown r g u = refused 3583 (code-unknown kind n p c b r g u) (λ q. omega arith)
 
   module _ (r : Bool) (e : r ≡ badNumbers n p c (b .fcb) (b .dma) (b .list)) where
-    pub ends-bad : r ≡ true → Did (callBy z n p c b) 3583 (b .fcb) (b .dma) (b .list) (b .image)
-    ends-bad t = refused 3583 (code-bad n p c b r e t) (λ q. omega arith)
+    pub ends-bad : r ≡ true → Did (callBy kind z n p c b) 3583 (b .fcb) (b .dma) (b .list) (b .image)
+    ends-bad t = refused 3583 (code-bad kind n p c b r e t) (λ q. omega arith)
 
-    module _ (t : r ≡ false) (code : ℕ) (h : code ≡ firstOf (rowsInside n (b .fcb) (b .list) (b .image))) where
-      table : code ≡ firstOf (rowsAll n p c b)
-      table = all-rows n p c (b .fcb) (b .dma) (b .list) r e t (b .image) code h
+    module _ (t : r ≡ false) (code : ℕ) (h : code ≡ firstOf (rowsInside kind n (b .fcb) (b .list) (b .image))) where
+      table : code ≡ firstOf (rowsAll kind n p c b)
+      table = all-rows n p c (b .fcb) (b .dma) (b .list) r e t kind (b .image) code h
 
       -- another general refusal
-      pub ends-refused : (code ≡ 0 → ⊥) → Did (callBy z n p c b) code (b .fcb) (b .dma) (b .list) (b .image)
+      pub ends-refused : (code ≡ 0 → ⊥) → Did (callBy kind z n p c b) code (b .fcb) (b .dma) (b .list) (b .image)
       ends-refused = refused code table
 
       -- the call is served
-      pub ends-served : (q : Chosen) (k : Routine) (a : ℕ) (fcb dma list image : List ℕ) → code ≡ 0 → q ≡ chosen n → Did (servedBy z n k p c b) a fcb dma list image → q ≡ Call k → Did (callBy z n p c b) a fcb dma list image
+      pub ends-served : (q : Chosen) (k : Routine) (a : ℕ) (fcb dma list image : List ℕ) → code ≡ 0 → q ≡ chosen n → Did (servedBy kind z n k p c b) a fcb dma list image → q ≡ Call k → Did (callBy kind z n p c b) a fcb dma list image
       ends-served q k a fcb dma list image y g d m =
           did-as _ _ a fcb dma list image (sym (by-served k (sym g ∙ m) (sym table ∙ y))) d
 
 -- ---- Look's number
 
-pub look-small : (at u : ℕ) (name : List ℕ) (q : ℕ) (s : List ℕ) → at ≡ lookAt highest u name q s → at < 4294967296
-look-small at u name q s e =
+pub look-small : (kind : Kind) (at u : ℕ) (name : List ℕ) (q : ℕ) (s : List ℕ) → at ≡ lookAt kind highest u name q s → at < 4294967296
+look-small kind at u name q s e =
     ⊎-elim
     (λ (z : at ≡ 0). omega arith)
     (λ (z : at ≡ 0 → ⊥).
-    let n : lookAt highest u name q s ≡ 0 → ⊥ = λ y. z (e ∙ y) in
-    let h = look-sound highest u name q s n in
-    let i = look-inside highest u name q s n .1 in
-    let w = length-whole s (sound-length highest s h) in
-    let f = length-few s (sound-length highest s h) in
+    let n : lookAt kind highest u name q s ≡ 0 → ⊥ = λ y. z (e ∙ y) in
+    let h = look-sound kind highest u name q s n in
+    let i = look-inside kind highest u name q s n .1 in
+    let w = length-whole kind s (sound-length kind highest s h) in
+    let f = length-few kind s (sound-length kind highest s h) in
+    let m = most-fits kind in
+    let k = begins-below kind (blocks kind s) (omega arith) in
     omega arith)
     (equal? at 0)

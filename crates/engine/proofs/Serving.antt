@@ -15,49 +15,50 @@ use Rattle.rules.specs.Several.{servesRun, several, told}
 use Rattle.rules.proofs.Ends.{did-as}
 use Rattle.engine.specs.Calls.{servedBy}
 use Rattle.engine.specs.Drives.{usesCount}
+use Rattle.rules.specs.declared.kind.Kind.{Kind}
 
 -- a call that does not use count is the same for every count
-any-count : (k : Routine) (p c d : ℕ) (b : Buffers) → usesCount k ≡ false → served (Call k) p c b ≡ served (Call k) p d b
+any-count : (kind : Kind) (k : Routine) (p c d : ℕ) (b : Buffers) → usesCount k ≡ false → served kind (Call k) p c b ≡ served kind (Call k) p d b
 unfolding served asked askedBy rowsOf effectOf usesCount
-any-count Open p c d b h = refl
-any-count Close p c d b h = refl
-any-count Delete p c d b h = refl
-any-count Make p c d b h = refl
-any-count Rename p c d b h = refl
-any-count Read p c d b h = refl
-any-count Write p c d b h = refl
-any-count WriteZeros p c d b h = refl
-any-count TestWrite p c d b h = refl
-any-count Lock p c d b h = absurd (true≢false h)
-any-count Unlock p c d b h = absurd (true≢false h)
-any-count FreeSpace p c d b h = refl
-any-count Terminate p c d b h = refl
+any-count kind Open p c d b h = refl
+any-count kind Close p c d b h = refl
+any-count kind Delete p c d b h = refl
+any-count kind Make p c d b h = refl
+any-count kind Rename p c d b h = refl
+any-count kind Read p c d b h = refl
+any-count kind Write p c d b h = refl
+any-count kind WriteZeros p c d b h = refl
+any-count kind TestWrite p c d b h = refl
+any-count kind Lock p c d b h = absurd (true≢false h)
+any-count kind Unlock p c d b h = absurd (true≢false h)
+any-count kind FreeSpace p c d b h = refl
+any-count kind Terminate p c d b h = refl
 
 -- in the arm for routine j
-module _ (j k : Routine) (p c : ℕ) (b : Buffers) (a : ℕ) (fcb dma list image : List ℕ) (e : k ≡ j) where
-  pub serve-any : usesCount j ≡ false → Did (served (Call j) p 1 b) a fcb dma list image → Did (served (Call k) p c b) a fcb dma list image
+module _ (kind : Kind) (j k : Routine) (p c : ℕ) (b : Buffers) (a : ℕ) (fcb dma list image : List ℕ) (e : k ≡ j) where
+  pub serve-any : usesCount j ≡ false → Did (served kind (Call j) p 1 b) a fcb dma list image → Did (served kind (Call k) p c b) a fcb dma list image
   serve-any h d =
       did-as _ _ a fcb dma list image
-      (any-count j p 1 c b h ∙ ap (λ (r : Routine). served (Call r) p c b) (sym e)) d
+      (any-count kind j p 1 c b h ∙ ap (λ (r : Routine). served kind (Call r) p c b) (sym e)) d
 
-  pub serve-run : Did (served (Call j) p c b) a fcb dma list image → Did (served (Call k) p c b) a fcb dma list image
-  serve-run d = did-as _ _ a fcb dma list image (ap (λ (r : Routine). served (Call r) p c b) (sym e)) d
+  pub serve-run : Did (served kind (Call j) p c b) a fcb dma list image → Did (served kind (Call k) p c b) a fcb dma list image
+  serve-run d = did-as _ _ a fcb dma list image (ap (λ (r : Routine). served kind (Call r) p c b) (sym e)) d
 
 -- ---- with several records to a call, or with one
 
-module _ (z : Bool) (n p c : ℕ) (k : Routine) (b : Buffers) (a : ℕ) (fcb dma list image : List ℕ) where
+module _ (kind : Kind) (z : Bool) (n p c : ℕ) (k : Routine) (b : Buffers) (a : ℕ) (fcb dma list image : List ℕ) where
   -- one record
-  pub by-one : not z ≡ true → Did (served (Call k) p c b) a fcb dma list image → Did (servedBy z n k p c b) a fcb dma list image
+  pub by-one : not z ≡ true → Did (served kind (Call k) p c b) a fcb dma list image → Did (servedBy kind z n k p c b) a fcb dma list image
   unfolding servedBy
   by-one h d = let q : z ≡ false = not-true z h in rw q d
 
   -- a call that takes no run of records
-  pub by-none : not z ≡ false → (n ≡ 33 → ⊥) → (n ≡ 34 → ⊥) → (n ≡ 40 → ⊥) → Did (served (Call k) p c b) a fcb dma list image → Did (servedBy z n k p c b) a fcb dma list image
+  pub by-none : not z ≡ false → (n ≡ 33 → ⊥) → (n ≡ 34 → ⊥) → (n ≡ 40 → ⊥) → Did (served kind (Call k) p c b) a fcb dma list image → Did (servedBy kind z n k p c b) a fcb dma list image
   unfolding servedBy servesRun _or_ _if_else_
   by-none h x y w d = let q : z ≡ true = not-false z h in rw (q, ne-eqb n 33 x, ne-eqb n 34 y, ne-eqb n 40 w) d
 
   -- one that does, of that number
-  pub by-run : (m : ℕ) → not z ≡ false → n ≡ m → servesRun m ≡ true → Did (told (several m p c b)) a fcb dma list image → Did (servedBy z n k p c b) a fcb dma list image
+  pub by-run : (m : ℕ) → not z ≡ false → n ≡ m → servesRun m ≡ true → Did (told (several kind m p c b)) a fcb dma list image → Did (servedBy kind z n k p c b) a fcb dma list image
   unfolding servedBy _if_else_
   by-run m h e s d = let q : z ≡ true = not-false z h in rw (q, e, s) d
 

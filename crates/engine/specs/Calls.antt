@@ -9,19 +9,20 @@ use Rattle.rules.specs.declared.routine.Chosen.the-variants.{Call}
 use Rattle.rules.specs.Serves.{Buffers, Outcome, buffers}
 use Rattle.rules.specs.Call.{served, call}
 use Rattle.rules.specs.Several.{servesRun, single, backAt, several, told, callRun}
+use Rattle.rules.specs.declared.kind.Kind.{Kind}
 
 -- with several records to a call, and with one
-unfoldable pub callBy : Bool → ℕ → ℕ → ℕ → Buffers → Outcome
-callBy true = callRun
-callBy false = call
+unfoldable pub callBy : Kind → Bool → ℕ → ℕ → ℕ → Buffers → Outcome
+callBy kind true = callRun kind
+callBy kind false = call kind
 
 -- once the general table lets it pass
-unfoldable pub servedBy : Bool → ℕ → Routine → ℕ → ℕ → Buffers → Outcome
-servedBy true n k p c b = told (several n p c b) if servesRun n else served (Call k) p c b
-servedBy false n k p c b = served (Call k) p c b
+unfoldable pub servedBy : Kind → Bool → ℕ → Routine → ℕ → ℕ → Buffers → Outcome
+servedBy kind true n k p c b = told (several kind n p c b) if servesRun n else served kind (Call k) p c b
+servedBy kind false n k p c b = served kind (Call k) p c b
 
 -- the single call for the record at distance i: its answer, and what is left where it is accepted and where not
-pub record DidSingle (n p i : ℕ) (b : Buffers) (answer : ℕ) (dma list image : List ℕ) : Type 0 where
-  pub gives : answer ≡ call n p 1 (single i b) .answer
-  pub done : answer ≡ 0 → buffers (b .fcb) dma list image ≡ backAt i b (call n p 1 (single i b) .left)
+pub record DidSingle (kind : Kind) (n p i : ℕ) (b : Buffers) (answer : ℕ) (dma list image : List ℕ) : Type 0 where
+  pub gives : answer ≡ call kind n p 1 (single i b) .answer
+  pub done : answer ≡ 0 → buffers (b .fcb) dma list image ≡ backAt i b (call kind n p 1 (single i b) .left)
   pub kept : (answer ≡ 0 → ⊥) → buffers (b .fcb) dma list image ≡ b

@@ -3,6 +3,7 @@ use crate::refuse::bad_numbers;
 use crate::refuse::refusal;
 use crate::serve::serve_by;
 use locklist::unpack::unpack;
+use rules::kind::Kind;
 use rules::routine::Chosen;
 ghost use mathlib.Core.Path.{_≡_};
 ghost use Rattle.words.specs.Tables.{firstOf};
@@ -12,6 +13,7 @@ ghost use Rattle.engine.specs.Calls.{callBy};
 
 // A call on the buffers: the general refusals, then the routine. `several`: count serves 33, 34 and 40 too; else they take one record.
 pub fn answer(
+    kind: Kind,
     several: bool,
     function: u32,
     process: u32,
@@ -21,7 +23,7 @@ pub fn answer(
     list: &mut [u8],
     image: &mut [u8],
 ) -> u32
-    ensures { λ r. ⌜ Did (callBy several function process count (buffers (now (fcb .entry)) (now (dma .entry)) (now (list .entry)) (now (image .entry)))) r (now (fcb .exit)) (now (dma .exit)) (now (list .exit)) (now (image .exit)) ⌝ }
+    ensures { λ r. ⌜ Did (callBy kind several function process count (buffers (now (fcb .entry)) (now (dma .entry)) (now (list .entry)) (now (image .entry)))) r (now (fcb .exit)) (now (dma .exit)) (now (list .exit)) (now (image .exit)) ⌝ }
 {
     let chosen = routine_of(function);
     let Chosen::Call(routine) = chosen else {
@@ -31,11 +33,12 @@ pub fn answer(
         return 3583;
     }
     let l = unpack(&*list);
-    let code = refusal(function, routine, l, &*fcb, &*list, &*image);
+    let code = refusal(kind, function, routine, l, &*fcb, &*list, &*image);
     if code != 0 {
         return code;
     }
     serve_by(
+        kind,
         several,
         function,
         routine,
@@ -51,6 +54,7 @@ pub fn answer(
 
 // The code of the first general refusal, or 0.
 pub fn general_refusal(
+    kind: Kind,
     function: u32,
     process: u32,
     count: u32,
@@ -59,7 +63,7 @@ pub fn general_refusal(
     list: &[u8],
     image: &[u8],
 ) -> u32
-    ensures { λ c. ⌜ c ≡ firstOf (rowsAll function process count (buffers (now (fcb .entry)) (now (dma .entry)) (now (list .entry)) (now (image .entry)))) ⌝ }
+    ensures { λ c. ⌜ c ≡ firstOf (rowsAll kind function process count (buffers (now (fcb .entry)) (now (dma .entry)) (now (list .entry)) (now (image .entry)))) ⌝ }
 {
     let chosen = routine_of(function);
     let Chosen::Call(routine) = chosen else {
@@ -68,5 +72,5 @@ pub fn general_refusal(
     if bad_numbers(function, routine, process, count, fcb, dma, list) {
         return 3583;
     }
-    refusal(function, routine, unpack(list), fcb, list, image)
+    refusal(kind, function, routine, unpack(list), fcb, list, image)
 }

@@ -10,8 +10,10 @@ use drive::check::image_check;
 use drive::look::look_at;
 use locklist::start::start;
 use rules::answer::image_number;
+use rules::kind::Kind;
 use singly::answer_singly;
 ghost use mathlib.Core.Path.{_≡_};
+ghost use Rattle.rules.specs.declared.kind.Kind.the-variants.{Small};
 ghost use Rattle.rules.specs.Serves.{Did, buffers};
 ghost use Rattle.rules.specs.Drive.{highest, imageCheck, imageNumber};
 ghost use Rattle.rules.specs.Locks.{start};
@@ -30,9 +32,19 @@ pub extern "C" fn mpm_call(
     list: &mut [u8],
     image: &mut [u8],
 ) -> u32
-    ensures { λ r. ⌜ Did (callRun function process count (buffers (now (fcb .entry)) (now (dma .entry)) (now (list .entry)) (now (image .entry)))) r (now (fcb .exit)) (now (dma .exit)) (now (list .exit)) (now (image .exit)) ⌝ }
+    ensures { λ r. ⌜ Did (callRun Small function process count (buffers (now (fcb .entry)) (now (dma .entry)) (now (list .entry)) (now (image .entry)))) r (now (fcb .exit)) (now (dma .exit)) (now (list .exit)) (now (image .exit)) ⌝ }
 {
-    answer(true, function, process, count, fcb, dma, list, image)
+    answer(
+        Kind::Small,
+        true,
+        function,
+        process,
+        count,
+        fcb,
+        dma,
+        list,
+        image,
+    )
 }
 
 // The same call by the plain engine: 33, 34 and 40 as single calls one after another, the answer that of the last.
@@ -46,9 +58,9 @@ pub extern "C" fn mpm_singly(
     list: &mut [u8],
     image: &mut [u8],
 ) -> u32
-    ensures { λ r. ⌜ Did (callSingly function process count (buffers (now (fcb .entry)) (now (dma .entry)) (now (list .entry)) (now (image .entry)))) r (now (fcb .exit)) (now (dma .exit)) (now (list .exit)) (now (image .exit)) ⌝ }
+    ensures { λ r. ⌜ Did (callSingly Small function process count (buffers (now (fcb .entry)) (now (dma .entry)) (now (list .entry)) (now (image .entry)))) r (now (fcb .exit)) (now (dma .exit)) (now (list .exit)) (now (image .exit)) ⌝ }
 {
-    answer_singly(function, process, count, fcb, dma, list, image)
+    answer_singly(Kind::Small, function, process, count, fcb, dma, list, image)
 }
 
 // Start: a fresh list from three numbers and sixteen users, or 255/13 and the list unchanged.
@@ -68,15 +80,15 @@ pub extern "C" fn mpm_start(
 // The image check: 0 sound, 1 wrong length, 2 unsound directory.
 #[no_mangle]
 pub extern "C" fn mpm_check(image: &[u8]) -> u32
-    ensures { λ r. ⌜ r ≡ imageNumber (imageCheck highest (now (image .entry))) ⌝ }
+    ensures { λ r. ⌜ r ≡ imageNumber (imageCheck Small highest (now (image .entry))) ⌝ }
 {
-    image_number(image_check(image, 262143))
+    image_number(image_check(Kind::Small, image, 262143))
 }
 
 // Look: where the record's 128 bytes begin in the image, or 0 where there are none to show.
 #[no_mangle]
 pub extern "C" fn mpm_look(user: u32, name: &[u8], number: u32, image: &[u8]) -> u32
-    ensures { λ r. ⌜ r ≡ lookAt highest user (now (name .entry)) number (now (image .entry)) ⌝ }
+    ensures { λ r. ⌜ r ≡ lookAt Small highest user (now (name .entry)) number (now (image .entry)) ⌝ }
 {
-    look_at(user, name, number, image) as u32
+    look_at(Kind::Small, user, name, number, image) as u32
 }

@@ -1,5 +1,6 @@
 use drive::check::sound_image;
 use listcheck::check::sound_list;
+use rules::kind::Kind;
 use rules::list::LockList;
 use rules::routine::Routine;
 ghost use mathlib.Core.Path.{_≡_};
@@ -77,6 +78,7 @@ fn bad_drive(function: u32, routine: Routine, fcb: &[u8]) -> bool
 
 // The code of the first refusal that all calls share once the numbers are good, or 0; `l` is the list, unpacked.
 pub fn refusal(
+    kind: Kind,
     function: u32,
     routine: Routine,
     l: LockList,
@@ -85,12 +87,12 @@ pub fn refusal(
     image: &[u8],
 ) -> u32
     requires { ⌜ (chosen function ≡ Call routine) × (l ≡ unpack (now list)) × (length (now fcb) ≡ 36) × (length (now list) ≡ 1299) ⌝ }
-    ensures { λ c. ⌜ c ≡ firstOf (rowsInside function (now (fcb .entry)) (now (list .entry)) (now (image .entry))) ⌝ }
+    ensures { λ c. ⌜ c ≡ firstOf (rowsInside kind function (now (fcb .entry)) (now (list .entry)) (now (image .entry))) ⌝ }
 {
-    if !sound_image(image, 262143) {
+    if !sound_image(kind, image, 262143) {
         return 511;
     }
-    if !sound_list(l, list, image) {
+    if !sound_list(kind, l, list, image) {
         return 3327;
     }
     if bad_drive(function, routine, fcb) {

@@ -2,9 +2,10 @@ use crate::answer::answer;
 use crate::answer::general_refusal;
 use locklist::ask::record_of;
 use rules::bytes::put_bytes;
+use rules::kind::Kind;
 ghost use mathlib.Core.Path.{_≡_};
 ghost use mathlib.Core.Bool.{true, false};
-ghost use Prim.Native.Nat.{_+_, _*_, _<_, _≤_};
+ghost use Prim.Native.Nat.{_+_, _*_, _≤_, _<_};
 ghost use lib.ListN.{length};
 ghost use Rattle.rules.specs.Serves.{Did, buffers};
 ghost use Rattle.rules.specs.Asks.{recordOf};
@@ -63,6 +64,7 @@ fn dma_at(dma: &[u8], i: u32) -> [u8; 2048]
 
 // The single call for the record at distance `i`; what it leaves in front of its DMA goes to the record's place.
 fn call_one(
+    kind: Kind,
     function: u32,
     process: u32,
     r: u32,
@@ -73,11 +75,12 @@ fn call_one(
     image: &mut [u8],
 ) -> u32
     requires { ⌜ (length (now fcb) ≡ 36) × (length (now dma) ≡ 2048) × (i < 16) × (r ≡ recordOf (now fcb)) × (r + i < 16777216) ⌝ }
-    ensures { λ c. ⌜ DidSingle function process i (buffers (now (fcb .entry)) (now (dma .entry)) (now (list .entry)) (now (image .entry))) c (now (dma .exit)) (now (list .exit)) (now (image .exit)) ⌝ }
+    ensures { λ c. ⌜ DidSingle kind function process i (buffers (now (fcb .entry)) (now (dma .entry)) (now (list .entry)) (now (image .entry))) c (now (dma .exit)) (now (list .exit)) (now (image .exit)) ⌝ }
 {
     let mut own_fcb = fcb_at(fcb, r, i);
     let mut own_dma = dma_at(&*dma, i);
     let code = answer(
+        kind,
         false,
         function,
         process,
@@ -96,6 +99,7 @@ fn call_one(
 
 // Single calls one after another, to the first refusal.
 fn call_each(
+    kind: Kind,
     function: u32,
     process: u32,
     count: u32,
@@ -105,12 +109,12 @@ fn call_each(
     image: &mut [u8],
 ) -> u32
     requires { ⌜ (servesRun function ≡ true) × (length (now fcb) ≡ 36) × (length (now dma) ≡ 2048) × (count ≤ 16) ⌝ }
-    ensures { λ c. ⌜ Did (singly (several function process count (buffers (now (fcb .entry)) (now (dma .entry)) (now (list .entry)) (now (image .entry))))) c (now (fcb .entry)) (now (dma .exit)) (now (list .exit)) (now (image .exit)) ⌝ }
+    ensures { λ c. ⌜ Did (singly (several kind function process count (buffers (now (fcb .entry)) (now (dma .entry)) (now (list .entry)) (now (image .entry))))) c (now (fcb .entry)) (now (dma .exit)) (now (list .exit)) (now (image .exit)) ⌝ }
 {
     let r = record_of(fcb);
     let mut i = 0;
     while i < count {
-        let code = call_one(function, process, r, i, fcb, dma, list, image);
+        let code = call_one(kind, function, process, r, i, fcb, dma, list, image);
         if code != 0 {
             return code;
         }
@@ -121,6 +125,7 @@ fn call_each(
 
 // A call by the plain engine.
 pub fn answer_singly(
+    kind: Kind,
     function: u32,
     process: u32,
     count: u32,
@@ -129,14 +134,23 @@ pub fn answer_singly(
     list: &mut [u8],
     image: &mut [u8],
 ) -> u32
-    ensures { λ r. ⌜ Did (callSingly function process count (buffers (now (fcb .entry)) (now (dma .entry)) (now (list .entry)) (now (image .entry)))) r (now (fcb .exit)) (now (dma .exit)) (now (list .exit)) (now (image .exit)) ⌝ }
+    ensures { λ r. ⌜ Did (callSingly kind function process count (buffers (now (fcb .entry)) (now (dma .entry)) (now (list .entry)) (now (image .entry)))) r (now (fcb .exit)) (now (dma .exit)) (now (list .exit)) (now (image .exit)) ⌝ }
 {
     if !serves_run(function) {
-        return answer(false, function, process, count, fcb, dma, list, image);
+        return answer(kind, false, function, process, count, fcb, dma, list, image);
     }
-    let code = general_refusal(function, process, count, &*fcb, &*dma, &*list, &*image);
+    let code = general_refusal(
+        kind,
+        function,
+        process,
+        count,
+        &*fcb,
+        &*dma,
+        &*list,
+        &*image,
+    );
     if code != 0 {
         return code;
     }
-    call_each(function, process, count, &*fcb, dma, list, image)
+    call_each(kind, function, process, count, &*fcb, dma, list, image)
 }

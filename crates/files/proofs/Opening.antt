@@ -24,6 +24,7 @@ use Rattle.rules.specs.declared.routine.Routine.the-variants.{Open, Close}
 use Rattle.rules.specs.Codes.{rows15, rows16}
 use Rattle.rules.specs.Effects.{fcbMapped, fcbOpened, opened, closed, does15, does16}
 use Rattle.files.specs.By.{by15}
+use Rattle.rules.specs.declared.kind.Kind.{Kind}
 
 -- the FCB's two steps
 pub fcb-mapped : (s : List ℕ) (e : ℕ) (fcb mid out : List ℕ) → mid ≡ put 12 (0 ∷ 0 ∷ 0 ∷ []) fcb → out ≡ put 15 (take (32 * e + 15 + 17 - (32 * e + 15)) (drop (32 * e + 15) s)) mid → out ≡ fcbMapped s e fcb
@@ -39,65 +40,65 @@ place-fits l at h c = let k = lowest-within (isEmptyAt l) (l .capacity) in omega
 
 -- ---- the ends of 15
 
-module _ (p : ℕ) (l : LockList) (o : ℕ) (f : File) (b : Buffers) (x : Found) (c : ℕ) (hx : x ≡ lookUp (b .image) f) (hc : c ≡ firstOf (rows15 p l o f x (b .fcb))) where
-  table : c ≡ firstOf (rows15 p l o f (lookUp (b .image) f) (b .fcb))
-  table = hc ∙ ap (λ (y : Found). firstOf (rows15 p l o f y (b .fcb))) hx
+module _ (kind : Kind) (p : ℕ) (l : LockList) (o : ℕ) (f : File) (b : Buffers) (x : Found) (c : ℕ) (hx : x ≡ lookUp kind (b .image) f) (hc : c ≡ firstOf (rows15 kind p l o f x (b .fcb))) where
+  table : c ≡ firstOf (rows15 kind p l o f (lookUp kind (b .image) f) (b .fcb))
+  table = hc ∙ ap (λ (y : Found). firstOf (rows15 kind p l o f y (b .fcb))) hx
 
-  pub open-refused : (c ≡ 0 → ⊥) → Did (by15 p l o f b) c (b .fcb) (b .dma) (b .list) (b .image)
+  pub open-refused : (c ≡ 0 → ⊥) → Did (by15 kind p l o f b) c (b .fcb) (b .dma) (b .list) (b .image)
   unfolding by15
   open-refused n = did-refuse _ b _ c table n
 
   module _ (z : c ≡ 0) (mode : ℕ) (hm : mode ≡ openMode (b .fcb)) (fcb : List ℕ) (at : ℕ) (hf : fcb ≡ fcbOpened (b .image) (x .entry) mode at (b .fcb)) where
-    fcb-left : fcb ≡ fcbOpened (b .image) (lookUp (b .image) f .entry) (openMode (b .fcb)) at (b .fcb)
+    fcb-left : fcb ≡ fcbOpened (b .image) (lookUp kind (b .image) f .entry) (openMode (b .fcb)) at (b .fcb)
     fcb-left =
         hf ∙ ap (λ (y : Found). fcbOpened (b .image) (y .entry) mode at (b .fcb)) hx
-        ∙ ap (λ (m : ℕ). fcbOpened (b .image) (lookUp (b .image) f .entry) m at (b .fcb)) hm
+        ∙ ap (λ (m : ℕ). fcbOpened (b .image) (lookUp kind (b .image) f .entry) m at (b .fcb)) hm
 
     -- open in the same mode
-    pub open-again : at ≡ o → o < 64 → Did (by15 p l o f b) 0 fcb (b .dma) (b .list) (b .image)
+    pub open-again : at ≡ o → o < 64 → Did (by15 kind p l o f b) 0 fcb (b .dma) (b .list) (b .image)
     unfolding by15 does15 isOpened _if_else_
     open-again ha lo =
         did-pass _ b _ c table 0 _ _ _ _ z
         (rw (lt-ltb _ _ lo) (record {
           gives = refl;
-          leaves-fcb = fcb-left ∙ ap (λ (m : ℕ). fcbOpened (b .image) (lookUp (b .image) f .entry) (openMode (b .fcb)) m (b .fcb)) ha;
+          leaves-fcb = fcb-left ∙ ap (λ (m : ℕ). fcbOpened (b .image) (lookUp kind (b .image) f .entry) (openMode (b .fcb)) m (b .fcb)) ha;
           leaves-dma = refl;
           leaves-list = refl;
           leaves-image = refl;
         }))
 
     -- a new item
-    pub open-new : (m : LockList) (list : List ℕ) → 64 ≤ o → at ≡ freePlace l → m ≡ opened p f mode l → list ≡ pack m → Did (by15 p l o f b) 0 fcb (b .dma) list (b .image)
+    pub open-new : (m : LockList) (list : List ℕ) → 64 ≤ o → at ≡ freePlace l → m ≡ opened p f mode l → list ≡ pack m → Did (by15 kind p l o f b) 0 fcb (b .dma) list (b .image)
     unfolding by15 does15 isOpened _if_else_
     open-new m list lo ha hl hp =
         did-pass _ b _ c table 0 _ _ _ _ z
         (rw (le-ltb _ _ lo) (record {
           gives = refl;
-          leaves-fcb = fcb-left ∙ ap (λ (k : ℕ). fcbOpened (b .image) (lookUp (b .image) f .entry) (openMode (b .fcb)) k (b .fcb)) ha;
+          leaves-fcb = fcb-left ∙ ap (λ (k : ℕ). fcbOpened (b .image) (lookUp kind (b .image) f .entry) (openMode (b .fcb)) k (b .fcb)) ha;
           leaves-dma = refl;
           leaves-list = hp ∙ ap pack hl ∙ ap (λ (k : ℕ). pack (opened p f k l)) hm;
           leaves-image = refl;
         }))
 
-pub open-called : (p c : ℕ) (b : Buffers) (l : LockList) (f : File) (o a : ℕ) (fcb dma list image : List ℕ) → l ≡ unpack (b .list) → f ≡ callerFile p l (b .fcb) → o ≡ openOf l p f → Did (by15 p l o f b) a fcb dma list image → Did (served (Call Open) p c b) a fcb dma list image
+pub open-called : (kind : Kind) (p c : ℕ) (b : Buffers) (l : LockList) (f : File) (o a : ℕ) (fcb dma list image : List ℕ) → l ≡ unpack (b .list) → f ≡ callerFile p l (b .fcb) → o ≡ openOf l p f → Did (by15 kind p l o f b) a fcb dma list image → Did (served kind (Call Open) p c b) a fcb dma list image
 unfolding by15 rowsOf effectOf askedBy
-open-called p c b l f o a fcb dma list image hl hf ho d =
-    did-as _ _ a fcb dma list image (served-as (Call Open) p c b l f (recordOf (b .fcb)) hl hf refl) (rw ho at d)
+open-called kind p c b l f o a fcb dma list image hl hf ho d =
+    did-as _ _ a fcb dma list image (served-as kind (Call Open) p c b l f (recordOf (b .fcb)) hl hf refl) (rw ho at d)
 
 -- ---- the ends of 16
 
-module _ (p c : ℕ) (b : Buffers) (l : LockList) (f : File) (o : ℕ) (hl : l ≡ unpack (b .list)) (hf : f ≡ callerFile p l (b .fcb)) (ho : o ≡ openOf l p f) where
-  pub close-refused : 64 ≤ o → Did (served (Call Close) p c b) 1791 (b .fcb) (b .dma) (b .list) (b .image)
+module _ (kind : Kind) (p c : ℕ) (b : Buffers) (l : LockList) (f : File) (o : ℕ) (hl : l ≡ unpack (b .list)) (hf : f ≡ callerFile p l (b .fcb)) (ho : o ≡ openOf l p f) where
+  pub close-refused : 64 ≤ o → Did (served kind (Call Close) p c b) 1791 (b .fcb) (b .dma) (b .list) (b .image)
   unfolding rowsOf effectOf askedBy rows16 isOpened
   close-refused g =
       let k : 64 ≤ openOf l p f = rw ho at g in
-      did-as _ _ _ _ _ _ _ (served-as (Call Close) p c b l f (recordOf (b .fcb)) hl hf refl)
+      did-as _ _ _ _ _ _ _ (served-as kind (Call Close) p c b l f (recordOf (b .fcb)) hl hf refl)
       (did-refuse _ b _ 1791 (row-yes 1791 1791 _ [] (not-of-false _ (le-ltb _ _ k)) refl) (λ y. omega arith))
 
-  pub close-done : (m : LockList) (list : List ℕ) → o < 64 → m ≡ closed p f l → list ≡ pack m → Did (served (Call Close) p c b) 0 (b .fcb) (b .dma) list (b .image)
+  pub close-done : (m : LockList) (list : List ℕ) → o < 64 → m ≡ closed p f l → list ≡ pack m → Did (served kind (Call Close) p c b) 0 (b .fcb) (b .dma) list (b .image)
   unfolding rowsOf effectOf askedBy rows16 isOpened does16
   close-done m list g hm hp =
       let k : openOf l p f < 64 = rw ho at g in
-      did-as _ _ _ _ _ _ _ (served-as (Call Close) p c b l f (recordOf (b .fcb)) hl hf refl)
+      did-as _ _ _ _ _ _ _ (served-as kind (Call Close) p c b l f (recordOf (b .fcb)) hl hf refl)
       (did-pass _ b _ 0 (row-no 0 1791 _ [] (not-of-true _ (lt-ltb _ _ k)) (row-none 0 refl)) 0 _ _ _ _ refl
       (record { gives = refl; leaves-fcb = refl; leaves-dma = refl; leaves-list = hp ∙ ap pack hm; leaves-image = refl }))

@@ -26,27 +26,28 @@ use Rattle.rules.specs.declared.routine.Routine.the-variants.{Delete, Rename}
 use Rattle.rules.specs.Codes.{rows19, rows23}
 use Rattle.rules.specs.Effects.{erased, renamed, does19, does23}
 use Rattle.files.specs.By.{by19, by23}
+use Rattle.rules.specs.declared.kind.Kind.{Kind}
 
 -- ---- the ends of 19
 
-module _ (l : LockList) (f : File) (b : Buffers) (x : Found) (c : ℕ) (hx : x ≡ lookUp (b .image) f) (hc : c ≡ firstOf (rows19 l f x (b .fcb) (b .image))) where
-  table : c ≡ firstOf (rows19 l f (lookUp (b .image) f) (b .fcb) (b .image))
-  table = hc ∙ ap (λ (y : Found). firstOf (rows19 l f y (b .fcb) (b .image))) hx
+module _ (kind : Kind) (l : LockList) (f : File) (b : Buffers) (x : Found) (c : ℕ) (hx : x ≡ lookUp kind (b .image) f) (hc : c ≡ firstOf (rows19 kind l f x (b .fcb) (b .image))) where
+  table : c ≡ firstOf (rows19 kind l f (lookUp kind (b .image) f) (b .fcb) (b .image))
+  table = hc ∙ ap (λ (y : Found). firstOf (rows19 kind l f y (b .fcb) (b .image))) hx
 
-  pub delete-refused : (c ≡ 0 → ⊥) → Did (by19 l f b) c (b .fcb) (b .dma) (b .list) (b .image)
+  pub delete-refused : (c ≡ 0 → ⊥) → Did (by19 kind l f b) c (b .fcb) (b .dma) (b .list) (b .image)
   unfolding by19
   delete-refused n = did-refuse _ b _ c table n
 
-  pub delete-done : (image : List ℕ) → c ≡ 0 → image ≡ erased f (b .image) → Did (by19 l f b) 0 (b .fcb) (b .dma) (b .list) image
+  pub delete-done : (image : List ℕ) → c ≡ 0 → image ≡ erased kind f (b .image) → Did (by19 kind l f b) 0 (b .fcb) (b .dma) (b .list) image
   unfolding by19 does19
   delete-done image z h =
       did-pass _ b _ c table 0 _ _ _ _ z
       (record { gives = refl; leaves-fcb = refl; leaves-dma = refl; leaves-list = refl; leaves-image = h })
 
-pub delete-called : (p c : ℕ) (b : Buffers) (l : LockList) (f : File) (a : ℕ) (fcb dma list image : List ℕ) → l ≡ unpack (b .list) → f ≡ callerFile p l (b .fcb) → Did (by19 l f b) a fcb dma list image → Did (served (Call Delete) p c b) a fcb dma list image
+pub delete-called : (kind : Kind) (p c : ℕ) (b : Buffers) (l : LockList) (f : File) (a : ℕ) (fcb dma list image : List ℕ) → l ≡ unpack (b .list) → f ≡ callerFile p l (b .fcb) → Did (by19 kind l f b) a fcb dma list image → Did (served kind (Call Delete) p c b) a fcb dma list image
 unfolding by19 rowsOf effectOf askedBy
-delete-called p c b l f a fcb dma list image hl hf d =
-    did-as _ _ a fcb dma list image (served-as (Call Delete) p c b l f (recordOf (b .fcb)) hl hf refl) d
+delete-called kind p c b l f a fcb dma list image hl hf d =
+    did-as _ _ a fcb dma list image (served-as kind (Call Delete) p c b l f (recordOf (b .fcb)) hl hf refl) d
 
 -- ---- the ends of 23
 
@@ -58,23 +59,23 @@ name-low p l fcb new h =
     ∙ all-make (isLow (tab (lowFrom fcb 17) 11)) 11
     (λ k m. let e : getD (tab (lowFrom fcb 17) 11) k 0 ≡ lowFrom fcb 17 k = tab-at (lowFrom fcb 17) 11 k 0 m in lt-ltb (getD (tab (lowFrom fcb 17) 11) k 0) 128 (omega (arith, e)))
 
-module _ (l : LockList) (f new : File) (b : Buffers) (x y : Found) (c : ℕ) (hx : x ≡ lookUp (b .image) f) (hy : y ≡ lookUp (b .image) new) (hc : c ≡ firstOf (rows23 l f x y (b .fcb) (b .image))) where
-  renaming : c ≡ firstOf (rows23 l f (lookUp (b .image) f) (lookUp (b .image) new) (b .fcb) (b .image))
+module _ (kind : Kind) (l : LockList) (f new : File) (b : Buffers) (x y : Found) (c : ℕ) (hx : x ≡ lookUp kind (b .image) f) (hy : y ≡ lookUp kind (b .image) new) (hc : c ≡ firstOf (rows23 kind l f x y (b .fcb) (b .image))) where
+  renaming : c ≡ firstOf (rows23 kind l f (lookUp kind (b .image) f) (lookUp kind (b .image) new) (b .fcb) (b .image))
   renaming =
-      hc ∙ ap (λ (v : Found). firstOf (rows23 l f v y (b .fcb) (b .image))) hx
-      ∙ ap (λ (v : Found). firstOf (rows23 l f (lookUp (b .image) f) v (b .fcb) (b .image))) hy
+      hc ∙ ap (λ (v : Found). firstOf (rows23 kind l f v y (b .fcb) (b .image))) hx
+      ∙ ap (λ (v : Found). firstOf (rows23 kind l f (lookUp kind (b .image) f) v (b .fcb) (b .image))) hy
 
-  pub rename-refused : (c ≡ 0 → ⊥) → Did (by23 l f new b) c (b .fcb) (b .dma) (b .list) (b .image)
+  pub rename-refused : (c ≡ 0 → ⊥) → Did (by23 kind l f new b) c (b .fcb) (b .dma) (b .list) (b .image)
   unfolding by23
   rename-refused n = did-refuse _ b _ c renaming n
 
-  pub rename-done : (image : List ℕ) → c ≡ 0 → image ≡ renamed f (new .name) (b .image) → Did (by23 l f new b) 0 (b .fcb) (b .dma) (b .list) image
+  pub rename-done : (image : List ℕ) → c ≡ 0 → image ≡ renamed kind f (new .name) (b .image) → Did (by23 kind l f new b) 0 (b .fcb) (b .dma) (b .list) image
   unfolding by23 does23
   rename-done image z h =
       did-pass _ b _ c renaming 0 _ _ _ _ z
       (record { gives = refl; leaves-fcb = refl; leaves-dma = refl; leaves-list = refl; leaves-image = h })
 
-pub rename-called : (p c : ℕ) (b : Buffers) (l : LockList) (f new : File) (a : ℕ) (fcb dma list image : List ℕ) → l ≡ unpack (b .list) → f ≡ callerFile p l (b .fcb) → new ≡ newFile p l (b .fcb) → Did (by23 l f new b) a fcb dma list image → Did (served (Call Rename) p c b) a fcb dma list image
+pub rename-called : (kind : Kind) (p c : ℕ) (b : Buffers) (l : LockList) (f new : File) (a : ℕ) (fcb dma list image : List ℕ) → l ≡ unpack (b .list) → f ≡ callerFile p l (b .fcb) → new ≡ newFile p l (b .fcb) → Did (by23 kind l f new b) a fcb dma list image → Did (served kind (Call Rename) p c b) a fcb dma list image
 unfolding by23 rowsOf effectOf askedBy
-rename-called p c b l f new a fcb dma list image hl hf hn d =
-    did-as _ _ a fcb dma list image (served-as (Call Rename) p c b l f (recordOf (b .fcb)) hl hf refl) (rw hn at d)
+rename-called kind p c b l f new a fcb dma list image hl hf hn d =
+    did-as _ _ a fcb dma list image (served-as kind (Call Rename) p c b l f (recordOf (b .fcb)) hl hf refl) (rw hn at d)

@@ -7,16 +7,17 @@ use Rattle.rules.specs.Drive.{lookUp}
 use Rattle.rules.specs.Codes.{rows15, rows19, rows22, rows23}
 use Rattle.rules.specs.Effects.{does15, does19, does22, does23}
 use Rattle.rules.specs.Call.{unless}
+use Rattle.rules.specs.declared.kind.Kind.{Kind}
 
-unfoldable pub by15 : ℕ → LockList → ℕ → File → Buffers → Outcome
-by15 p l o f b = unless (rows15 p l o f (lookUp (b .image) f) (b .fcb)) b (does15 p l o f (lookUp (b .image) f) b)
+unfoldable pub by15 : Kind → ℕ → LockList → ℕ → File → Buffers → Outcome
+by15 kind p l o f b = unless (rows15 kind p l o f (lookUp kind (b .image) f) (b .fcb)) b (does15 p l o f (lookUp kind (b .image) f) b)
 
-unfoldable pub by22 : ℕ → LockList → File → Buffers → Outcome
-by22 p l f b = unless (rows22 p l (lookUp (b .image) f) (b .fcb) (b .image)) b (does22 p l f b)
+unfoldable pub by22 : Kind → ℕ → LockList → File → Buffers → Outcome
+by22 kind p l f b = unless (rows22 kind p l (lookUp kind (b .image) f) (b .fcb) (b .image)) b (does22 kind p l f b)
 
-unfoldable pub by19 : LockList → File → Buffers → Outcome
-by19 l f b = unless (rows19 l f (lookUp (b .image) f) (b .fcb) (b .image)) b (does19 f b)
+unfoldable pub by19 : Kind → LockList → File → Buffers → Outcome
+by19 kind l f b = unless (rows19 kind l f (lookUp kind (b .image) f) (b .fcb) (b .image)) b (does19 kind f b)
 
-unfoldable pub by23 : LockList → File → File → Buffers → Outcome
-by23 l f new b =
-    unless (rows23 l f (lookUp (b .image) f) (lookUp (b .image) new) (b .fcb) (b .image)) b (does23 f new b)
+unfoldable pub by23 : Kind → LockList → File → File → Buffers → Outcome
+by23 kind l f new b =
+    unless (rows23 kind l f (lookUp kind (b .image) f) (lookUp kind (b .image) new) (b .fcb) (b .image)) b (does23 kind f new b)

@@ -1,12 +1,12 @@
 use rules::bytes::put_bytes;
 ghost use mathlib.Core.Path.{_≡_};
-ghost use Prim.Native.Nat.{_<_, _≤_};
+ghost use Prim.Native.Nat.{_+_, _*_, _≤_, _<_};
 ghost use lib.ListN.{length};
 ghost use Rattle.rules.specs.Effects.{fcbMapped, fcbNumbered, fcbOpened};
 
 // Bytes 12 to 14 become 0, and 15 to 31 the count and map of the extent 0 at entry `e`.
 fn map_fcb(fcb: &mut [u8], image: &[u8], e: usize)
-    requires { ⌜ (length (now fcb) ≡ 36) × (e ≤ 64) × (3072 ≤ length (now image)) ⌝ }
+    requires { ⌜ (length (now fcb) ≡ 36) × (32 * e + 32 ≤ length (now image)) ⌝ }
     ensures { λ _. ⌜ now (fcb .exit) ≡ fcbMapped (now (image .entry)) e (now (fcb .entry)) ⌝ }
 {
     let zeros = [0u8, 0u8, 0u8];
@@ -29,7 +29,7 @@ fn number_fcb(fcb: &mut [u8], mode: u8, o: usize)
 
 // The FCB after Open and Make.
 pub fn set_fcb(fcb: &mut [u8], image: &[u8], e: usize, mode: u8, o: usize)
-    requires { ⌜ (length (now fcb) ≡ 36) × (e ≤ 64) × (o < 256) × (3072 ≤ length (now image)) ⌝ }
+    requires { ⌜ (length (now fcb) ≡ 36) × (32 * e + 32 ≤ length (now image)) × (o < 256) ⌝ }
     ensures { λ _. ⌜ now (fcb .exit) ≡ fcbOpened (now (image .entry)) e mode o (now (fcb .entry)) ⌝ }
 {
     map_fcb(&mut *fcb, image, e);

@@ -1,4 +1,4 @@
-use drive::byte::wide;
+use directory::byte::wide;
 use rules::list::LockList;
 ghost use mathlib.Core.Path.{_≡_};
 ghost use lib.Dec.{leb};

@@ -1,14 +1,15 @@
 use crate::fcb::set_fcb;
 use crate::limit::at_open_limit;
 use crate::limit::no_place;
-use drive::find::is_missing;
-use drive::find::look_up;
-use drive::name::legal_name;
+use directory::find::is_missing;
+use directory::find::look_up;
+use directory::name::legal_name;
 use locklist::ask::caller_file;
 use locklist::ask::open_mode;
 use locklist::pack::pack;
 use rules::file::File;
 use rules::file::Found;
+use rules::kind::Kind;
 use rules::list::LockList;
 ghost use mathlib.Core.Path.{_≡_};
 ghost use lib.ListN.{length};
@@ -71,14 +72,14 @@ fn new_refusal(p: u8, l: LockList, f: File, fcb: &[u8]) -> u32
 }
 
 // The code of the first refusal of 15, or 0. The caller's open is at place `o` (64: none).
-fn open_refusal(p: u8, l: LockList, o: usize, f: File, x: Found, fcb: &[u8]) -> u32
+fn open_refusal(kind: Kind, p: u8, l: LockList, o: usize, f: File, x: Found, fcb: &[u8]) -> u32
     requires { ⌜ length (now fcb) ≡ 36 ⌝ }
-    ensures { λ c. ⌜ c ≡ firstOf (rows15 p l o f x (now (fcb .entry))) ⌝ }
+    ensures { λ c. ⌜ c ≡ firstOf (rows15 kind p l o f x (now (fcb .entry))) ⌝ }
 {
     if !legal_name(fcb, 1) {
         return 2559;
     }
-    if is_missing(x) {
+    if is_missing(kind, x) {
         return 255;
     }
     if opened_otherwise(l, o, fcb) {
@@ -92,6 +93,7 @@ fn open_refusal(p: u8, l: LockList, o: usize, f: File, x: Found, fcb: &[u8]) -> 
 
 // 15 on what was found: decide first, then open. A file that is open in the same mode gets no new item.
 fn open_by(
+    kind: Kind,
     p: u8,
     l: LockList,
     o: usize,
@@ -101,11 +103,11 @@ fn open_by(
     list: &mut [u8],
     image: &[u8],
 ) -> u32
-    requires { ⌜ Ready (buffers (now fcb) (now dma) (now list) (now image)) ⌝ }
-    ensures { λ c. ⌜ Did (by15 p l o f (buffers (now (fcb .entry)) (now (dma .entry)) (now (list .entry)) (now (image .entry)))) c (now (fcb .exit)) (now (dma .entry)) (now (list .exit)) (now (image .entry)) ⌝ }
+    requires { ⌜ Ready kind (buffers (now fcb) (now dma) (now list) (now image)) ⌝ }
+    ensures { λ c. ⌜ Did (by15 kind p l o f (buffers (now (fcb .entry)) (now (dma .entry)) (now (list .entry)) (now (image .entry)))) c (now (fcb .exit)) (now (dma .entry)) (now (list .exit)) (now (image .entry)) ⌝ }
 {
-    let x = look_up(image, f);
-    let code = open_refusal(p, l, o, f, x, &*fcb);
+    let x = look_up(kind, image, f);
+    let code = open_refusal(kind, p, l, o, f, x, &*fcb);
     if code != 0 {
         return code;
     }
@@ -123,6 +125,7 @@ fn open_by(
 
 // 15 on the buffers.
 pub fn open_file(
+    kind: Kind,
     p: u8,
     l: LockList,
     fcb: &mut [u8],
@@ -130,10 +133,10 @@ pub fn open_file(
     list: &mut [u8],
     image: &[u8],
 ) -> u32
-    requires { ⌜ (l ≡ unpack (now list)) × Ready (buffers (now fcb) (now dma) (now list) (now image)) ⌝ }
-    ensures { λ c. ⌜ Did (served (Call Open) p 1 (buffers (now (fcb .entry)) (now (dma .entry)) (now (list .entry)) (now (image .entry)))) c (now (fcb .exit)) (now (dma .entry)) (now (list .exit)) (now (image .entry)) ⌝ }
+    requires { ⌜ (l ≡ unpack (now list)) × Ready kind (buffers (now fcb) (now dma) (now list) (now image)) ⌝ }
+    ensures { λ c. ⌜ Did (served kind (Call Open) p 1 (buffers (now (fcb .entry)) (now (dma .entry)) (now (list .entry)) (now (image .entry)))) c (now (fcb .exit)) (now (dma .entry)) (now (list .exit)) (now (image .entry)) ⌝ }
 {
     let f = caller_file(l, p, &*fcb);
     let o = l.open_of(p, f);
-    open_by(p, l, o, f, fcb, dma, list, image)
+    open_by(kind, p, l, o, f, fcb, dma, list, image)
 }

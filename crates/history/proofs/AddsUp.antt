@@ -12,6 +12,7 @@ use Rattle.words.specs.Tests.{_and_, _if_else_, count}
 use Rattle.words.proofs.Tests.{and-fst}
 use Rattle.words.proofs.Sets.{and-left, not-of-true}
 use Rattle.words.proofs.Counts.{count-up}
+use Rattle.rules.specs.declared.kind.Kind.{Kind}
 use Rattle.rules.specs.declared.item.Item.{Item}
 use Rattle.rules.specs.declared.list.LockList.{LockList}
 use Rattle.rules.specs.Locks.{itemAt, isKindBy, isKindByAt, opensBy, locksBy, isEmptyAt, freePlaces}
@@ -59,15 +60,16 @@ module _ (it : Item) where
       sum-ext _ (λ (p : ℕ). 0) 16 (λ p. rw (other-kind 1 (λ (z : it .kind ≡ 1). absurd (omega arith)) p, other-kind 2 (λ (z : it .kind ≡ 2). absurd (omega arith)) p) (omega arith))
       ∙ sum-none 16
 
-module _ (l : LockList) (s : List ℕ) (g : SoundLocks l s) where
+module _ (kind : Kind) (l : LockList) (s : List ℕ) (g : SoundLocks kind l s) where
   place-sum : (i : ℕ) → i < 64 → sumBelow (λ (p : ℕ). bit (isKindBy 1 p (itemAt l i)) + bit (isKindBy 2 p (itemAt l i))) 16 ≡ bit (passesAt isItem l i)
   unfolding passesAt isItem isPlain _if_else_
   place-sum i m =
       ⊎-elim
       (λ (v : Vacant l i). no-sum (itemAt l i) (v .kind-zero) ∙ rw (eq-eqb (itemAt l i .kind) 0 (v .kind-zero)) refl)
-      (λ (v : Used s l i).
+      (λ (v : Used kind s l i).
       let q : itemAt l i .process ≤ 15 = leb-true _ _ (and-fst _ _ (v .plain)) in
-      let c : (itemAt l i .kind ≡ 1) ⊎ (itemAt l i .kind ≡ 2) = ⊎-elim (λ (o : GoodOpen s l (itemAt l i)). inl (o .kind-one)) (λ (o : GoodLock s l (itemAt l i)). inr (o .kind-two)) (v .good) in
+      let c : (itemAt l i .kind ≡ 1) ⊎ (itemAt l i .kind ≡ 2) =
+      ⊎-elim (λ (o : GoodOpen kind s l (itemAt l i)). inl (o .kind-one)) (λ (o : GoodLock kind s l (itemAt l i)). inr (o .kind-two)) (v .good) in
       let n : eqb (itemAt l i .kind) 0 ≡ false = ne-eqb _ _ (λ (z : itemAt l i .kind ≡ 0). ⊎-elim (λ (e : itemAt l i .kind ≡ 1). absurd (omega arith)) (λ (e : itemAt l i .kind ≡ 2). absurd (omega arith)) c) in
       item-sum (itemAt l i) c (omega arith) ∙ rw n refl)
       (g .place i m)
@@ -86,7 +88,7 @@ module _ (l : LockList) (s : List ℕ) (g : SoundLocks l s) where
   beyond-empty : (i : ℕ) → l .capacity ≤ i → i < 64 → isEmptyAt l i ≡ true
   unfolding isEmptyAt
   beyond-empty i m n =
-      ⊎-elim (λ (v : Vacant l i). eq-eqb _ _ (v .kind-zero)) (λ (v : Used s l i). let k = v .below in absurd (omega arith)) (g .place i n)
+      ⊎-elim (λ (v : Vacant l i). eq-eqb _ _ (v .kind-zero)) (λ (v : Used kind s l i). let k = v .below in absurd (omega arith)) (g .place i n)
 
   module _ (held : List Item) (t : Tally l held) (w : Solid held) where
     held-many : length held ≡ count (passesAt isItem l) 64

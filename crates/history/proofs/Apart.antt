@@ -8,6 +8,8 @@ use native.Mathlib.Omega.{arith}
 use lib.ListN.{length, set}
 use borrow.Author.Tests.{eqb-true, eqb-false, not-true}
 use Rattle.words.proofs.Tests.{either, equal?, and-fst, and-snd}
+use Rattle.rules.specs.declared.kind.Kind.{Kind}
+use Rattle.rules.specs.Kinds.{entries}
 use Rattle.rules.specs.declared.file.File.{File}
 use Rattle.rules.specs.declared.item.Item.{Item}
 use Rattle.rules.specs.declared.list.LockList.{LockList}
@@ -37,24 +39,25 @@ use Rattle.history.proofs.Seen.{Seen, seen-all, seen-written}
 
 -- ---- what a change by user v leaves of the others' files
 
-pub record Others (s t : List ℕ) (v : ℕ) : Type 0 where
-  pub entry : (e : ℕ) → e < 64 → Same s e t e ⊎ ((isEmpty s e ≡ false → userByte s e ≡ v) × (isEmpty t e ≡ false → userByte t e ≡ v))
-  pub forth : (f : File) (r b : ℕ) → length (f .name) ≡ 11 → (f .user ≡ v → ⊥) → At s f r b → Seen s t f r b
-  pub back : (f : File) (r b : ℕ) → (f .user ≡ v → ⊥) → At t f r b → At s f r b
+pub record Others (kind : Kind) (s t : List ℕ) (v : ℕ) : Type 0 where
+  pub entry : (e : ℕ) → e < entries kind → Same s e t e ⊎ ((isEmpty s e ≡ false → userByte s e ≡ v) × (isEmpty t e ≡ false → userByte t e ≡ v))
+  pub forth : (f : File) (r b : ℕ) → length (f .name) ≡ 11 → (f .user ≡ v → ⊥) → At kind s f r b → Seen kind s t f r b
+  pub back : (f : File) (r b : ℕ) → (f .user ≡ v → ⊥) → At kind t f r b → At kind s f r b
 
-others-same : (s : List ℕ) (v : ℕ) → Others s s v
-others-same s v = record { entry = λ e l. inl (same-refl s e); forth = λ f r b l n a. record { there = a; bytes = refl }; back = λ f r b n a. a }
+others-same : (kind : Kind) (s : List ℕ) (v : ℕ) → Others kind s s v
+others-same kind s v = record { entry = λ e l. inl (same-refl s e); forth = λ f r b l n a. record { there = a; bytes = refl }; back = λ f r b n a. a }
 
 -- of a change that touches files under v only
-others-touched : (s t : List ℕ) (f h : File) (v : ℕ) → f .user ≡ v → h .user ≡ v → Touches s t f h → ((k : File) (r b : ℕ) → length (k .name) ≡ 11 → (k ≡ f → ⊥) → At s k r b → Seen s t k r b) → Others s t v
-others-touched s t f h v d e w seen = record {
+others-touched : (kind : Kind) (s t : List ℕ) (f h : File) (v : ℕ) → f .user ≡ v → h .user ≡ v → Touches kind s t f h
+    → ((k : File) (r b : ℕ) → length (k .name) ≡ 11 → (k ≡ f → ⊥) → At kind s k r b → Seen kind s t k r b) → Others kind s t v
+others-touched kind s t f h v d e w seen = record {
   entry = λ j l. ⊎-elim (λ (z : Same s j t j). inl z)
       (λ (z : Theirs s t f h j). inr (λ u. user-is s f j (z .was u) ∙ d, λ u. user-is t h j (z .now u) ∙ e)) (w .entry j l);
   forth = λ k r b l n a. seen k r b l (λ z. n (ap (λ (x : File). x .user) z ∙ d)) a;
-  back = λ k r b n a. at-back s t f h k w (λ z. n (ap (λ (x : File). x .user) z ∙ e)) r b a;
+  back = λ k r b n a. at-back kind s t f h k w (λ z. n (ap (λ (x : File). x .user) z ∙ e)) r b a;
 }
 
-module _ (n p c : ℕ) (b : Buffers) (g : SoundImage highest (b .image)) where
+module _ (kind : Kind) (n p c : ℕ) (b : Buffers) (g : SoundImage kind highest (b .image)) where
   abbrev l : LockList
   l = listOf b
 
@@ -71,42 +74,42 @@ module _ (n p c : ℕ) (b : Buffers) (g : SoundImage highest (b .image)) where
   long : length (fileBy p b .name) ≡ 11
   long = caller-long p l (b .fcb)
 
-  others-write : (ok : Passed p c b) → MayWrite p b → (zeros : Bool) (v : List ℕ) → 128 ≤ length v → Others s (imageWritten zeros p b v) (userOf l p)
+  others-write : (ok : Passed kind p c b) → MayWrite kind p b → (zeros : Bool) (v : List ℕ) → 128 ≤ length v → Others kind s (imageWritten kind zeros p b v) (userOf l p)
   others-write ok w zeros v full =
-      let t = imageWritten zeros p b v in
-      let k = written-of p c b ok w zeros v full in
-      others-touched s t (fileBy p b) (fileBy p b) (userOf l p) mine mine
-      (⊎-elim (λ (x : Old s t (fileBy p b) (recordOf (b .fcb))). x .wrote .change .touches) (λ (x : New s t (fileBy p b) (recordOf (b .fcb))). x .wrote .change .touches) k)
-      (λ f r d m z a. seen-written s t (fileBy p b) (recordOf (b .fcb)) g long f r d m a k (λ e. z (e .0)))
+      let t = imageWritten kind zeros p b v in
+      let k = written-of kind p c b ok w zeros v full in
+      others-touched kind s t (fileBy p b) (fileBy p b) (userOf l p) mine mine
+      (⊎-elim (λ (x : Old kind s t (fileBy p b) (recordOf (b .fcb))). x .wrote .change .touches) (λ (x : New kind s t (fileBy p b) (recordOf (b .fcb))). x .wrote .change .touches) k)
+      (λ f r d m z a. seen-written kind s t (fileBy p b) (recordOf (b .fcb)) g long f r d m a k (λ e. z (e .0)))
 
-  pub others-leaf : (o : Outcome) → Leaf n p c b o → Others s (o .left .image) (userOf l p)
-  others-leaf o (refused code z) = others-same s (userOf l p)
-  others-leaf o (reopened k ok w fcb) = others-same s (userOf l p)
-  others-leaf o (newlyOpened k ok w fcb) = others-same s (userOf l p)
+  pub others-leaf : (o : Outcome) → Leaf kind n p c b o → Others kind s (o .left .image) (userOf l p)
+  others-leaf o (refused code z) = others-same kind s (userOf l p)
+  others-leaf o (reopened k ok w fcb) = others-same kind s (userOf l p)
+  others-leaf o (newlyOpened k ok w fcb) = others-same kind s (userOf l p)
   others-leaf o (newlyMade k ok w fcb) =
-      let d = made-of p c b ok w 0 0 0 0 in
-      others-touched s _ (fileBy p b) (fileBy p b) (userOf l p) mine mine (d .touches)
-      (λ f r x m z a. seen-all s _ f r x g (d .touches .long) a (λ j y. d .data-kept .at j y (inr (omega arith))) (at-grown s _ f r x (d .grown) a))
-  others-leaf o (nowClosed k ok w) = others-same s (userOf l p)
+      let d = made-of kind p c b ok w 0 0 0 0 in
+      others-touched kind s _ (fileBy p b) (fileBy p b) (userOf l p) mine mine (d .touches)
+      (λ f r x m z a. seen-all kind s _ f r x g (d .touches .long) a (λ j y. d .data-kept .at j y (inr (omega arith))) (at-grown kind s _ f r x (d .grown) a))
+  others-leaf o (nowClosed k ok w) = others-same kind s (userOf l p)
   others-leaf o (nowErased k ok w) =
-      let d = all-erased s (fileBy p b) g long in
-      let h = erased-touches s (fileBy p b) g long in
-      others-touched s _ (fileBy p b) (fileBy p b) (userOf l p) mine mine h
-      (λ f r x m z a. seen-all s _ f r x g (d .len) a (d .past) (at-forth s _ (fileBy p b) (fileBy p b) f h z r x a))
+      let d = all-erased kind s (fileBy p b) g long in
+      let h = erased-touches kind s (fileBy p b) g long in
+      others-touched kind s _ (fileBy p b) (fileBy p b) (userOf l p) mine mine h
+      (λ f r x m z a. seen-all kind s _ f r x g (d .len) a (d .past) (at-forth kind s _ (fileBy p b) (fileBy p b) f h z r x a))
   others-leaf o (nowRenamed k ok w) =
-      let d = all-renamed s (fileBy p b) (newBy p b .name) g in
-      let h = renamed-touch p c b ok w in
-      others-touched s _ (fileBy p b) (newBy p b) (userOf l p) mine mine-new h
-      (λ f r x m z a. seen-all s _ f r x g (d .len) a (d .past) (at-forth s _ (fileBy p b) (newBy p b) f h z r x a))
-  others-leaf o (nowRead k ok dma) = others-same s (userOf l p)
+      let d = all-renamed kind s (fileBy p b) (newBy p b .name) g in
+      let h = renamed-touch kind p c b ok w in
+      others-touched kind s _ (fileBy p b) (newBy p b) (userOf l p) mine mine-new h
+      (λ f r x m z a. seen-all kind s _ f r x g (d .len) a (d .past) (at-forth kind s _ (fileBy p b) (newBy p b) f h z r x a))
+  others-leaf o (nowRead k ok dma) = others-same kind s (userOf l p)
   others-leaf o (nowWritten k ok w zeros) = others-write ok w zeros (b .dma) (let d = ok .ready .dma-long in omega arith)
   others-leaf o (nowRewritten k ok w some v full) = others-write ok w false v full
-  others-leaf o (nowLocked k ok w) = others-same s (userOf l p)
-  others-leaf o (lockIdle k ok w) = others-same s (userOf l p)
-  others-leaf o (nowUnlocked k ok w) = others-same s (userOf l p)
-  others-leaf o (unlockIdle k ok w) = others-same s (userOf l p)
-  others-leaf o (nowTold k ok dma) = others-same s (userOf l p)
-  others-leaf o (nowEnded k ok) = others-same s (userOf l p)
+  others-leaf o (nowLocked k ok w) = others-same kind s (userOf l p)
+  others-leaf o (lockIdle k ok w) = others-same kind s (userOf l p)
+  others-leaf o (nowUnlocked k ok w) = others-same kind s (userOf l p)
+  others-leaf o (unlockIdle k ok w) = others-same kind s (userOf l p)
+  others-leaf o (nowTold k ok dma) = others-same kind s (userOf l p)
+  others-leaf o (nowEnded k ok) = others-same kind s (userOf l p)
 
 -- ---- items
 
@@ -123,8 +126,8 @@ module _ (p : ℕ) (it : Item) (h : isAnothers p it ≡ true) where
 items-same : (p : ℕ) (l : LockList) → ItemsApart p l l
 items-same p l = record { item-same = λ i m c. refl }
 
-packed : (p : ℕ) (l k : LockList) (s : List ℕ) → SoundShape k s → ItemsApart p l k → ItemsApart p l (unpack (pack k))
-packed p l k s h w = rw (unpacked k s (h .sound) (h .shape)) w
+packed : (kind : Kind) (p : ℕ) (l k : LockList) (s : List ℕ) → SoundShape kind k s → ItemsApart p l k → ItemsApart p l (unpack (pack k))
+packed kind p l k s h w = rw (unpacked kind k s (h .sound) (h .shape)) w
 
 -- one empty place set to an item of the caller
 items-set : (p : ℕ) (l : LockList) (j : ℕ) (it : Item) → Shape l → j < 64 → itemAt l j .kind ≡ 0 → it .process ≡ p → ItemsApart p l (withItems l (set (l .items) j it))
@@ -155,17 +158,17 @@ unlock-own : (p : ℕ) (f : File) (r n : ℕ) (it : Item) → isInRun p f r n it
 unfolding isInRun
 unlock-own p f r n it h = close-own p f it (and-snd _ _ (and-snd _ _ (and-snd _ _ h)))
 
-module _ (n p c : ℕ) (b : Buffers) where
-  opened-apart : (ok : Passed p c b) (mode : ℕ) → freePlace (listOf b) < listOf b .capacity → ItemsApart p (listOf b) (opened p (fileBy p b) mode (listOf b))
+module _ (kind : Kind) (n p c : ℕ) (b : Buffers) where
+  opened-apart : (ok : Passed kind p c b) (mode : ℕ) → freePlace (listOf b) < listOf b .capacity → ItemsApart p (listOf b) (opened p (fileBy p b) mode (listOf b))
   unfolding opened placed
   opened-apart ok mode room =
-      items-set p (listOf b) (freePlace (listOf b)) (freshOpen p (fileBy p b .name) mode) (shape-of p c b ok)
-      (let k = capacity-fits (listOf b) (list-of p c b ok .limits) in omega arith) (free-room (listOf b) room .empty) refl
+      items-set p (listOf b) (freePlace (listOf b)) (freshOpen p (fileBy p b .name) mode) (shape-of kind p c b ok)
+      (let k = capacity-fits (listOf b) (list-of kind p c b ok .limits) in omega arith) (free-room (listOf b) room .empty) refl
 
-  run-apart : (ok : Passed p c b) (w : MayLock p c b) → ItemsApart p (listOf b) (lockedRun p (fileBy p b) (recordOf (b .fcb)) c (listOf b))
+  run-apart : (ok : Passed kind p c b) (w : MayLock kind p c b) → ItemsApart p (listOf b) (lockedRun p (fileBy p b) (recordOf (b .fcb)) c (listOf b))
   unfolding lockedRun
   run-apart ok w =
-      let r = running (b .image) (listOf b) p (fileBy p b) (recordOf (b .fcb)) c (shape-of p c b ok) (list-of p c b ok) (takes-of p c b ok w) c (omega arith) in
+      let r = running kind (b .image) (listOf b) p (fileBy p b) (recordOf (b .fcb)) c (shape-of kind p c b ok) (list-of kind p c b ok) (takes-of kind p c b ok w) c (omega arith) in
       rw (r .is) (record {
         item-same = λ i m d. ⊎-elim (λ z. z)
             (λ (z : Filled (listOf b) (withItems (listOf b) (r .items)) p (fileBy p b) (recordOf (b .fcb)) c i).
@@ -175,21 +178,24 @@ module _ (n p c : ℕ) (b : Buffers) where
             (r .place i m);
       })
 
-  pub items-leaf : (o : Outcome) → Leaf n p c b o → ItemsApart p (listOf b) (unpack (o .left .list))
+  pub items-leaf : (o : Outcome) → Leaf kind n p c b o → ItemsApart p (listOf b) (unpack (o .left .list))
   unfolding closed unlockedRun terminated
   items-leaf o (refused code z) = items-same p (listOf b)
   items-leaf o (reopened k ok w fcb) = items-same p (listOf b)
-  items-leaf o (newlyOpened k ok w fcb) = packed p (listOf b) _ (b .image) (opened-shape p c b ok w) (opened-apart ok _ (w .room))
-  items-leaf o (newlyMade k ok w fcb) = packed p (listOf b) _ _ (made-shape p c b ok w) (opened-apart ok _ (w .room))
-  items-leaf o (nowClosed k ok w) = packed p (listOf b) _ (b .image) (closed-shape p c b ok) (items-gone p (listOf b) _ _ (close-empties p (fileBy p b)) (shape-of p c b ok) (close-own p (fileBy p b)))
+  items-leaf o (newlyOpened k ok w fcb) = packed kind p (listOf b) _ (b .image) (opened-shape kind p c b ok w) (opened-apart ok _ (w .room))
+  items-leaf o (newlyMade k ok w fcb) = packed kind p (listOf b) _ _ (made-shape kind p c b ok w) (opened-apart ok _ (w .room))
+  items-leaf o (nowClosed k ok w) = packed kind p (listOf b) _ (b .image) (closed-shape kind p c b ok)
+      (items-gone p (listOf b) _ _ (close-empties p (fileBy p b)) (shape-of kind p c b ok) (close-own p (fileBy p b)))
   items-leaf o (nowErased k ok w) = items-same p (listOf b)
   items-leaf o (nowRenamed k ok w) = items-same p (listOf b)
   items-leaf o (nowRead k ok dma) = items-same p (listOf b)
   items-leaf o (nowWritten k ok w zeros) = items-same p (listOf b)
   items-leaf o (nowRewritten k ok w some v full) = items-same p (listOf b)
-  items-leaf o (nowLocked k ok w) = packed p (listOf b) _ (b .image) (locked-shape p c b ok w) (run-apart ok w)
+  items-leaf o (nowLocked k ok w) = packed kind p (listOf b) _ (b .image) (locked-shape kind p c b ok w) (run-apart ok w)
   items-leaf o (lockIdle k ok w) = items-same p (listOf b)
-  items-leaf o (nowUnlocked k ok w) = packed p (listOf b) _ (b .image) (unlocked-shape p c b ok) (items-gone p (listOf b) _ _ (unlock-empties p (fileBy p b) (recordOf (b .fcb)) c) (shape-of p c b ok) (unlock-own p (fileBy p b) (recordOf (b .fcb)) c))
+  items-leaf o (nowUnlocked k ok w) = packed kind p (listOf b) _ (b .image) (unlocked-shape kind p c b ok)
+      (items-gone p (listOf b) _ _ (unlock-empties p (fileBy p b) (recordOf (b .fcb)) c) (shape-of kind p c b ok) (unlock-own p (fileBy p b) (recordOf (b .fcb)) c))
   items-leaf o (unlockIdle k ok w) = items-same p (listOf b)
   items-leaf o (nowTold k ok dma) = items-same p (listOf b)
-  items-leaf o (nowEnded k ok) = packed p (listOf b) _ (b .image) (ended-shape p c b ok) (items-gone p (listOf b) _ _ (end-empties p) (shape-of p c b ok) (λ it h. eqb-true _ _ h))
+  items-leaf o (nowEnded k ok) = packed kind p (listOf b) _ (b .image) (ended-shape kind p c b ok)
+      (items-gone p (listOf b) _ _ (end-empties p) (shape-of kind p c b ok) (λ it h. eqb-true _ _ h))

@@ -2,6 +2,7 @@
 use mathlib.Core.Path.{_≡_, refl}
 use mathlib.Core.List.{List, [], _∷_}
 use Rattle.words.proofs.Tests.{never}
+use Rattle.rules.specs.declared.kind.Kind.{Kind}
 use Rattle.rules.specs.declared.item.Item.{Item}
 use Rattle.rules.specs.Serves.{Outcome}
 use Rattle.rules.specs.Call.{call}
@@ -16,46 +17,46 @@ use Rattle.history.proofs.Done.{lent, deed-done, held-refused, count-re
 use Rattle.history.proofs.Run.{Inv, begun-inv, step-inv}
 use Rattle.history.proofs.Several.{deed-partly, ran-inv, ran-each}
 
-module _ (g : Begun) (q : Ask) (s : State) (items : List Item) (groups : List Group) (i : Inv g s items groups) where
+module _ (kind : Kind) (g : Begun kind) (q : Ask) (s : State) (items : List Item) (groups : List Group) (i : Inv kind g s items groups) where
   abbrev After : State → Deed → Type 0
-  After t d = Inv g t (holding d items) (counting d groups)
+  After t d = Inv kind g t (holding d items) (counting kind d groups)
 
-  way-inv : (o : Outcome) → Way (q .function) (q .process) (q .run) (lent q s) o → After (kept o) (deed (g .users) (event q (o .answer)))
+  way-inv : (o : Outcome) → Way kind (q .function) (q .process) (q .run) (lent q s) o → After (kept o) (deed (g .users) (event q (o .answer)))
   unfolding outcomeOf
-  way-inv o (plain h) = step-inv g q s items groups i (λ k. absurd (never k h))
+  way-inv o (plain h) = step-inv kind g q s items groups i (λ k. absurd (never k h))
   way-inv o (barred h code w) =
-      rw (held-refused (g .users) q code items (w .some), count-refused (g .users) q code groups (w .some) (refuses-low _ _ _ _ code w)) i
-  way-inv o (whole left w) = rw (deed-done (g .users) q _ refl) (ran-inv g q s items groups i (q .run) left w)
+      rw (held-refused (g .users) q code items (w .some), count-refused kind (g .users) q code groups (w .some) (refuses-low kind _ _ _ _ code w)) i
+  way-inv o (whole left w) = rw (deed-done (g .users) q _ refl) (ran-inv kind g q s items groups i (q .run) left w)
   way-inv o (partly k m left w code r) =
-      rw (deed-partly (g .users) q code k (w .serves) (r .some) (refuses-low _ _ _ _ code r)) (ran-inv g q s items groups i k left w)
+      rw (deed-partly (g .users) q code k (w .serves) (r .some) (refuses-low kind _ _ _ _ code r)) (ran-inv kind g q s items groups i k left w)
 
   -- one call
-  pub call-inv : After (kept (outcomeOf callRun q s)) (deed (g .users) (event q (outcomeOf callRun q s .answer)))
+  pub call-inv : After (kept (outcomeOf (callRun kind) q s)) (deed (g .users) (event q (outcomeOf (callRun kind) q s .answer)))
   unfolding outcomeOf
-  call-inv = way-inv _ (ways (q .function) (q .process) (q .run) (lent q s))
+  call-inv = way-inv _ (ways kind (q .function) (q .process) (q .run) (lent q s))
 
   -- what each plain call of the process keeps, and two that follow each other keep together, every call of it keeps
   module _ (R : State → State → Type 0) (none : R s s) (join : (t v : State) → R s t → R t v → R s v)
-      (one : (a : Ask) (t : State) (gs : List Group) → a .process ≡ q .process → Inv g t items gs → R t (kept (outcomeOf call a t))) where
-    way-each : (o : Outcome) → Way (q .function) (q .process) (q .run) (lent q s) o → R s (kept o)
+      (one : (a : Ask) (t : State) (gs : List Group) → a .process ≡ q .process → Inv kind g t items gs → R t (kept (outcomeOf (call kind) a t))) where
+    way-each : (o : Outcome) → Way kind (q .function) (q .process) (q .run) (lent q s) o → R s (kept o)
     unfolding outcomeOf
     way-each o (plain h) = one q s groups refl i
     way-each o (barred h code w) = none
-    way-each o (whole left w) = ran-each g q s items groups i (q .run) left w R none join one
-    way-each o (partly k m left w code r) = ran-each g q s items groups i k left w R none join one
+    way-each o (whole left w) = ran-each kind g q s items groups i (q .run) left w R none join one
+    way-each o (partly k m left w code r) = ran-each kind g q s items groups i k left w R none join one
 
-    pub call-each : R s (kept (outcomeOf callRun q s))
+    pub call-each : R s (kept (outcomeOf (callRun kind) q s))
     unfolding outcomeOf
-    call-each = way-each _ (ways (q .function) (q .process) (q .run) (lent q s))
+    call-each = way-each _ (ways kind (q .function) (q .process) (q .run) (lent q s))
 
-module _ (g : Begun) where
-  run-inv : (qs : List Ask) (s : State) (items : List Item) (groups : List Group) → Inv g s items groups
-      → Inv g (stateAfter callRun qs s) (heldAfter (g .users) (eventsOf callRun qs s) items) (countedAfter (g .users) (eventsOf callRun qs s) groups)
+module _ (kind : Kind) (g : Begun kind) where
+  run-inv : (qs : List Ask) (s : State) (items : List Item) (groups : List Group) → Inv kind g s items groups
+      → Inv kind g (stateAfter (callRun kind) qs s) (heldAfter (g .users) (eventsOf (callRun kind) qs s) items) (countedAfter kind (g .users) (eventsOf (callRun kind) qs s) groups)
   unfolding stateAfter eventsOf heldAfter countedAfter
   run-inv [] s items groups i = i
-  run-inv (q ∷ qs) s items groups i = run-inv qs (kept (outcomeOf callRun q s)) _ _ (call-inv g q s items groups i)
+  run-inv (q ∷ qs) s items groups i = run-inv qs (kept (outcomeOf (callRun kind) q s)) _ _ (call-inv kind g q s items groups i)
 
   -- every history of calls
-  pub always : (qs : List Ask) → Inv g (after callRun g qs) (itemsOf callRun g qs) (groupsBy callRun g qs)
+  pub always : (qs : List Ask) → Inv kind g (after kind (callRun kind) g qs) (itemsOf kind (callRun kind) g qs) (groupsBy kind (callRun kind) g qs)
   unfolding after historyOf itemsOf groupsBy
-  always qs = run-inv qs (firstState g) [] (groupsOf (g .image)) (begun-inv g)
+  always qs = run-inv qs (firstState kind g) [] (groupsOf kind (g .image)) (begun-inv kind g)

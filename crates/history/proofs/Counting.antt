@@ -11,11 +11,14 @@ use Rattle.words.specs.Tests.{_and_, _if_else_}
 use Rattle.words.proofs.Tests.{either, and-fst, same-test}
 use Rattle.words.proofs.Counts.{count-ext, count-set}
 use Rattle.words.proofs.Sets.{and-left, not-of-true}
+use Rattle.rules.specs.declared.kind.Kind.{Kind}
+use Rattle.rules.specs.Kinds.{blockRecords, entries, numbers}
 use Rattle.rules.specs.declared.file.File.{File}
 use Rattle.rules.specs.Drive.{highest, fileAt, extentAt, mapNumber, mapPlace, isOf}
 use Rattle.rules.specs.Effects.{erased, renamed}
+use Rattle.rules.proofs.Sizes.{place-fits, flat-entry, flat-place, flat-both, flat-short, flat-there, flat-below}
 use Rattle.rules.proofs.Sound.{Names, SoundImage, file-long}
-use Rattle.rules.proofs.Frames.{head-of, file-same, extent-same, empty-same, of-file, file-of}
+use Rattle.rules.proofs.Frames.{head-of, file-same, extent-same, empty-same, of-file, file-of, map-same}
 use Rattle.rules.proofs.Items.{file-is, file-refl}
 use Rattle.soundness.proofs.Steps.{Stays}
 use Rattle.soundness.proofs.Changes.{Grown}
@@ -25,28 +28,29 @@ use Rattle.soundness.proofs.Erased.{erased-gone, erased-kept}
 use Rattle.soundness.proofs.Renamed.{renamed-empty, renamed-extent, renamed-number, renamed-kept}
 use Rattle.soundness.proofs.Stored.{free-low}
 use Rattle.history.specs.Held.{tally, without}
-use Rattle.history.specs.Groups.{Group, group, isCounted, isNumbered, groupAt, touching, ofFile, carried}
+use Rattle.history.specs.Groups.{Group, group, isCounted, isNumbered, groupAt, touching, ofFile, carried, allNumbers}
 use Rattle.history.proofs.Tallies.{tally-without, tally-map}
-use Rattle.history.proofs.Positions.{Counted, holdsGroup, numbered-names, names-numbered, names-flat, flat-entry, flat-place, at-group, counted-at, at-counted}
+use Rattle.history.proofs.Positions.{Counted, holdsGroup, numbered-names, names-numbered, names-flat, at-group, counted-at, at-counted}
 
 -- two tests of the places that agree where a number stands
-holds-same : (s t : List ℕ) (p q : Group → Bool) (i : ℕ) → isNumbered t i ≡ isNumbered s i → (isNumbered s i ≡ true → p (groupAt t i) ≡ q (groupAt s i)) → holdsGroup p t i ≡ holdsGroup q s i
+holds-same : (kind : Kind) (s t : List ℕ) (p q : Group → Bool) (i : ℕ) → isNumbered kind t i ≡ isNumbered kind s i
+    → (isNumbered kind s i ≡ true → p (groupAt kind t i) ≡ q (groupAt kind s i)) → holdsGroup kind p t i ≡ holdsGroup kind q s i
 unfolding holdsGroup _and_
-holds-same s t p q i e h =
-    ⊎-elim (λ (z : isNumbered s i ≡ true). rw (e, z) (h z)) (λ (z : isNumbered s i ≡ false). rw (e, z) refl) (either (isNumbered s i))
+holds-same kind s t p q i e h =
+    ⊎-elim (λ (z : isNumbered kind s i ≡ true). rw (e, z) (h z)) (λ (z : isNumbered kind s i ≡ false). rw (e, z) refl) (either (isNumbered kind s i))
 
-holds-off : (s : List ℕ) (test : Group → Bool) (i : ℕ) → isNumbered s i ≡ false → holdsGroup test s i ≡ false
+holds-off : (kind : Kind) (s : List ℕ) (test : Group → Bool) (i : ℕ) → isNumbered kind s i ≡ false → holdsGroup kind test s i ≡ false
 unfolding holdsGroup
-holds-off s test i h = and-left _ _ h
+holds-off kind s test i h = and-left _ _ h
 
-holds-on : (s : List ℕ) (test : Group → Bool) (i : ℕ) (x : Group) → isNumbered s i ≡ true → groupAt s i ≡ x → holdsGroup test s i ≡ test x
+holds-on : (kind : Kind) (s : List ℕ) (test : Group → Bool) (i : ℕ) (x : Group) → isNumbered kind s i ≡ true → groupAt kind s i ≡ x → holdsGroup kind test s i ≡ test x
 unfolding holdsGroup _and_
-holds-on s test i x h e = rw (h, e) refl
+holds-on kind s test i x h e = rw (h, e) refl
 
 -- ---- a change that takes nothing away
 
-module _ (s t : List ℕ) (w : Grown s t) where
-  names-grown : (e k : ℕ) → Names s e k → Names t e k
+module _ (kind : Kind) (s t : List ℕ) (w : Grown kind s t) where
+  names-grown : (e k : ℕ) → Names kind s e k → Names kind t e k
   names-grown e k n = record {
     entry-there = n .entry-there;
     place-there = n .place-there;
@@ -54,22 +58,27 @@ module _ (s t : List ℕ) (w : Grown s t) where
     some = λ z. n .some (sym (w .number e k n) ∙ z);
   }
 
-  group-grown : (i : ℕ) → Names s (i / 16) (i % 16) → groupAt t i ≡ groupAt s i
+  group-grown : (i : ℕ) → Names kind s (i / numbers kind) (i % numbers kind) → groupAt kind t i ≡ groupAt kind s i
   unfolding groupAt
   group-grown i n =
-      let h = w .head (i / 16) (n .entry-there) (n .entry-used) in
-      λ j. record { file = file-same s (i / 16) t (i / 16) h j; eight = 16 * extent-same s (i / 16) t (i / 16) h j + i % 16 }
+      let e = i / numbers kind in
+      let h = w .head e (n .entry-there) (n .entry-used) in
+      λ j. record { file = file-same s e t e h j; number = numbers kind * extent-same s e t e h j + i % numbers kind }
 
   -- place i keeps its number and its group, or has none
-  place-grown : (i : ℕ) → i < 1024 → (Names t (i / 16) (i % 16) → Stays s t (i / 16) (i % 16)) → (test : Group → Bool) → holdsGroup test t i ≡ holdsGroup test s i
+  place-grown : (i : ℕ) → i < allNumbers kind → (Names kind t (i / numbers kind) (i % numbers kind) → Stays kind s t (i / numbers kind) (i % numbers kind))
+      → (test : Group → Bool) → holdsGroup kind test t i ≡ holdsGroup kind test s i
   place-grown i m back test =
-      holds-same s t test test i
-      (same-test _ _ (λ h. names-numbered s i (back (numbered-names t i m h) .named)) (λ h. names-numbered t i (names-grown (i / 16) (i % 16) (numbered-names s i m h))))
-      (λ h. ap test (group-grown i (numbered-names s i m h)))
+      holds-same kind s t test test i
+      (same-test _ _ (λ h. names-numbered kind s i (back (numbered-names kind t i m h) .named))
+      (λ h. names-numbered kind t i (names-grown (i / numbers kind) (i % numbers kind) (numbered-names kind s i m h))))
+      (λ h. ap test (group-grown i (numbered-names kind s i m h)))
 
-  pub counted-grown : (g : List Group) → ((e k : ℕ) → Names t e k → Stays s t e k) → Counted s g → Counted t g
+  pub counted-grown : (g : List Group) → ((e k : ℕ) → Names kind t e k → Stays kind s t e k) → Counted kind s g → Counted kind t g
   counted-grown g back c = record {
-    as-many = λ test. count-ext (holdsGroup test t) (holdsGroup test s) 1024 (λ i m. place-grown i m (back (i / 16) (i % 16)) test) ∙ c .as-many test;
+    as-many = λ test.
+        count-ext (holdsGroup kind test t) (holdsGroup kind test s) (allNumbers kind) (λ i m. place-grown i m (back (i / numbers kind) (i % numbers kind)) test)
+        ∙ c .as-many test;
   }
 
 -- ---- 34 and 40
@@ -82,99 +91,114 @@ touching-new : (x : Group) (g : List Group) → isCounted x g ≡ false → touc
 unfolding touching _if_else_
 touching-new x g h = rw h refl
 
-module _ (s t : List ℕ) (f : File) (r : ℕ) (l : length (f .name) ≡ 11) (g : List Group) (c : Counted s g) where
+module _ (kind : Kind) (s t : List ℕ) (f : File) (r : ℕ) (l : length (f .name) ≡ 11) (g : List Group) (c : Counted kind s g) where
   -- the block was there
-  old-stays : (w : Old s t f r) (e k : ℕ) → Names t e k → Stays s t e k
+  old-stays : (w : Old kind s t f r) (e k : ℕ) → Names kind t e k → Stays kind s t e k
   old-stays w e k n =
-      let m : Names s (w .entry) (mapPlace r) = record { entry-there = w .wrote .below; place-there = omega arith; entry-used = w .was-is .used; some = λ z. w .some (sym (w .was) ∙ z) } in
+      let m : Names kind s (w .entry) (mapPlace kind r) =
+      record { entry-there = w .wrote .below; place-there = place-fits kind r; entry-used = w .was-is .used; some = λ z. w .some (sym (w .was) ∙ z) } in
       ⊎-elim
-      (λ (z : (e ≡ w .entry) × (k ≡ mapPlace r)).
-      let y : Stays s t (w .entry) (mapPlace r) = record { named = m; number = w .wrote .change .grown .number (w .entry) (mapPlace r) m } in
+      (λ (z : (e ≡ w .entry) × (k ≡ mapPlace kind r)).
+      let y : Stays kind s t (w .entry) (mapPlace kind r) = record { named = m; number = w .wrote .change .grown .number (w .entry) (mapPlace kind r) m } in
       rw (z .0, z .1) y)
-      (λ (z : Stays s t e k). z) (w .wrote .change .rest e k n)
+      (λ (z : Stays kind s t e k). z) (w .wrote .change .rest e k n)
 
-  pub counted-old : Old s t f r → Counted t g
-  counted-old w = counted-grown s t (w .wrote .change .grown) g (old-stays w) c
+  pub counted-old : Old kind s t f r → Counted kind t g
+  counted-old w = counted-grown kind s t (w .wrote .change .grown) g (old-stays w) c
 
-  pub touched-old : Old s t f r → Counted t (touching (group f (r / 8)) g)
+  pub touched-old : Old kind s t f r → Counted kind t (touching (group f (r / blockRecords kind)) g)
   touched-old w =
-      rw (touching-old (group f (r / 8)) g (at-counted s g c f r (w .block) (record { entry = w .entry; below = w .wrote .below; is = w .was-is; number = w .was; some = w .some }))) (counted-old w)
+      let a : At kind s f r (w .block) = record { entry = w .entry; below = w .wrote .below; is = w .was-is; number = w .was; some = w .some } in
+      rw (touching-old (group f (r / blockRecords kind)) g (at-counted kind s g c f r (w .block) a)) (counted-old w)
 
   -- no place of the record's group was numbered
-  pub new-none : New s t f r → (b : ℕ) → At s f r b → ⊥
+  pub new-none : New kind s t f r → (b : ℕ) → At kind s f r b → ⊥
   new-none w b a =
       let h = w .wrote .change in
-      let e : a .entry ≡ w .entry = only t f (r / 128) (a .entry) (w .entry) (h .sound .entries) (a .below) (w .wrote .below) (is-grown s t f (r / 128) (a .entry) (h .grown) (a .below) (a .is)) (w .wrote .is) in
-      w .unnamed (rw e at (at-names s f r b a))
+      let i = is-grown kind s t f (r / 128) (a .entry) (h .grown) (a .below) (a .is) in
+      let e : a .entry ≡ w .entry = only kind t f (r / 128) (a .entry) (w .entry) (h .sound .files) (a .below) (w .wrote .below) i (w .wrote .is) in
+      w .unnamed (rw e at (at-names kind s f r b a))
 
   -- the block is new
-  pub touched-new : New s t f r → Counted t (touching (group f (r / 8)) g)
+  pub touched-new : New kind s t f r → Counted kind t (touching (group f (r / blockRecords kind)) g)
   unfolding tally
   touched-new w =
-      let x = group f (r / 8) in
+      let x = group f (r / blockRecords kind) in
       let n = w .entry in
-      let j = 16 * n + mapPlace r in
-      let q : mapPlace r < 16 = omega arith in
+      let k = mapPlace kind r in
+      let j = numbers kind * n + k in
+      let q = place-fits kind r in
       let v = w .wrote in
-      let b = v .below in
-      let none : isCounted x g ≡ false = ⊎-elim (λ (h : isCounted x g ≡ true). let a = counted-at s g c f r l h in absurd (new-none w (a .0) (a .1))) (λ h. h) (either (isCounted x g)) in
-      let was : isNumbered s j ≡ false = ⊎-elim
-      (λ (h : isNumbered s j ≡ true). absurd (w .unnamed (rw (flat-entry n (mapPlace r) q, flat-place n (mapPlace r) q) at (numbered-names s j (omega arith) h)))) (λ h. h) (either (isNumbered s j)) in
-      let now : Names t n (mapPlace r) = record { entry-there = b; place-there = q; entry-used = v .is .used; some = λ (z : mapNumber t n (mapPlace r) ≡ 0). (let y = free-low s (w .block) (w .free) in let u : w .block ≡ 0 = sym (v .number) ∙ z in absurd (omega arith)) } in
+      let below = flat-below kind n k (v .below) q in
+      let none : isCounted x g ≡ false = ⊎-elim
+      (λ (h : isCounted x g ≡ true). let a = counted-at kind s g c f r l h in absurd (new-none w (a .0) (a .1))) (λ h. h) (either (isCounted x g)) in
+      let was : isNumbered kind s j ≡ false = ⊎-elim
+      (λ (h : isNumbered kind s j ≡ true). absurd (w .unnamed (rw (flat-entry kind n k q, flat-place kind n k q) at (numbered-names kind s j below h))))
+      (λ h. h) (either (isNumbered kind s j)) in
+      let now : Names kind t n k = record {
+        entry-there = v .below;
+        place-there = q;
+        entry-used = v .is .used;
+        some = λ (z : mapNumber kind t n k ≡ 0). (let y = free-low kind s (w .block) (w .free) in let u : w .block ≡ 0 = sym (v .number) ∙ z in absurd (omega arith));
+      } in
+      let flat : (i : ℕ) → (i / numbers kind ≡ n) × (i % numbers kind ≡ k) → i ≡ j = λ i u.
+      sym (flat-both kind i) ∙ ap (λ (m : ℕ). numbers kind * m + i % numbers kind) (u .0) ∙ ap (λ (m : ℕ). numbers kind * n + m) (u .1) in
       rw (touching-new x g none) (record {
         as-many = λ test.
-            let k = count-set (holdsGroup test s) (holdsGroup test t) j 1024 (omega arith) (holds-off s test j was)
-            (λ i m z. place-grown s t (v .change .grown) i m (λ y. ⊎-elim
-            (λ (u : (i / 16 ≡ n) × (i % 16 ≡ mapPlace r)). (let u₀ : i / 16 ≡ n = u .0 in let u₁ : i % 16 ≡ mapPlace r = u .1 in absurd (z (omega arith))))
-            (λ (u : Stays s t (i / 16) (i % 16)). u) (v .change .rest (i / 16) (i % 16) y)) test) in
-            k ∙ ap (λ (m : ℕ). m + (1 if holdsGroup test t j else 0)) (c .as-many test)
-            ∙ ap (λ (d : Bool). tally test g + (1 if d else 0)) (holds-on t test j (group f (r / 8)) (names-flat t n (mapPlace r) now) (at-group t f r (mapPlace r) n (v .is) refl q));
+            count-set (holdsGroup kind test s) (holdsGroup kind test t) j (allNumbers kind) below (holds-off kind s test j was)
+            (λ i m z. place-grown kind s t (v .change .grown) i m (λ y. ⊎-elim
+            (λ (u : (i / numbers kind ≡ n) × (i % numbers kind ≡ k)). absurd (z (flat i u)))
+            (λ (u : Stays kind s t (i / numbers kind) (i % numbers kind)). u) (v .change .rest (i / numbers kind) (i % numbers kind) y)) test)
+            ∙ ap (λ (m : ℕ). m + (1 if holdsGroup kind test t j else 0)) (c .as-many test)
+            ∙ ap (λ (d : Bool). tally test g + (1 if d else 0)) (holds-on kind t test j x (names-flat kind t n k now) (at-group kind t f r k n (v .is) refl q));
       })
 
 -- ---- Delete
 
 -- the group's file is f exactly where the entry is f's
-group-of : (s : List ℕ) (f : File) (i : ℕ) → length (f .name) ≡ 11 → isNumbered s i ≡ true → ofFile f (groupAt s i) ≡ isOf s f (i / 16)
+group-of : (kind : Kind) (s : List ℕ) (f : File) (i : ℕ) → length (f .name) ≡ 11 → isNumbered kind s i ≡ true → ofFile f (groupAt kind s i) ≡ isOf s f (i / numbers kind)
 unfolding ofFile groupAt isNumbered
-group-of s f i l h =
+group-of kind s f i l h =
     let u = not-true _ (and-fst _ _ h) in
     same-test _ _
-    (λ k. file-of s f (i / 16) u (file-is (fileAt s (i / 16)) f (file-long s (i / 16)) l k))
-    (λ k. rw (of-file s f (i / 16) l k) (file-refl f))
+    (λ k. file-of s f (i / numbers kind) u (file-is (fileAt s (i / numbers kind)) f (file-long s (i / numbers kind)) l k))
+    (λ k. rw (of-file s f (i / numbers kind) l k) (file-refl f))
 
-module _ (s : List ℕ) (f : File) (w : SoundImage highest s) (l : length (f .name) ≡ 11) (g : List Group) (c : Counted s g) where
+module _ (kind : Kind) (s : List ℕ) (f : File) (w : SoundImage kind highest s) (l : length (f .name) ≡ 11) (g : List Group) (c : Counted kind s g) where
   abbrev stays : (Group → Bool) → Group → Bool
   stays test x = test x and not (ofFile f x)
 
-  numbered-kept : (i : ℕ) → i < 1024 → isOf s f (i / 16) ≡ false → isNumbered (erased f s) i ≡ isNumbered s i
+  numbered-kept : (i : ℕ) → i < allNumbers kind → isOf s f (i / numbers kind) ≡ false → isNumbered kind (erased kind f s) i ≡ isNumbered kind s i
   unfolding isNumbered
   numbered-kept i m h =
-      let e : i / 16 < 64 = omega arith in
-      let k = erased-kept s f w l (i / 16) e h in
-      rw (empty-same s (i / 16) (erased f s) (i / 16) (head-of s (i / 16) (erased f s) (i / 16) k), k .at (16 + i % 16) (omega arith)) refl
+      let e = i / numbers kind in
+      let t = erased kind f s in
+      let k = erased-kept kind s f w l e (flat-there kind i m) h in
+      rw (empty-same s e t e (head-of s e t e k), map-same kind s t e (i % numbers kind) k (flat-short kind i)) refl
 
-  numbered-gone : (i : ℕ) → i < 1024 → isOf s f (i / 16) ≡ true → isNumbered (erased f s) i ≡ false
+  numbered-gone : (i : ℕ) → i < allNumbers kind → isOf s f (i / numbers kind) ≡ true → isNumbered kind (erased kind f s) i ≡ false
   unfolding isNumbered
-  numbered-gone i m h = let e : i / 16 < 64 = omega arith in and-left _ _ (not-of-true _ (erased-gone s f w l (i / 16) e h))
+  numbered-gone i m h = and-left _ _ (not-of-true _ (erased-gone kind s f w l (i / numbers kind) (flat-there kind i m) h))
 
-  group-kept : (i : ℕ) → i < 1024 → isOf s f (i / 16) ≡ false → groupAt (erased f s) i ≡ groupAt s i
+  group-kept : (i : ℕ) → i < allNumbers kind → isOf s f (i / numbers kind) ≡ false → groupAt kind (erased kind f s) i ≡ groupAt kind s i
   unfolding groupAt
   group-kept i m h =
-      let e : i / 16 < 64 = omega arith in
-      let k = head-of s (i / 16) (erased f s) (i / 16) (erased-kept s f w l (i / 16) e h) in
-      λ j. record { file = file-same s (i / 16) (erased f s) (i / 16) k j; eight = 16 * extent-same s (i / 16) (erased f s) (i / 16) k j + i % 16 }
+      let e = i / numbers kind in
+      let t = erased kind f s in
+      let k = head-of s e t e (erased-kept kind s f w l e (flat-there kind i m) h) in
+      λ j. record { file = file-same s e t e k j; number = numbers kind * extent-same s e t e k j + i % numbers kind }
 
-  holds-erased : (test : Group → Bool) (i : ℕ) → i < 1024 → holdsGroup test (erased f s) i ≡ holdsGroup (stays test) s i
+  holds-erased : (test : Group → Bool) (i : ℕ) → i < allNumbers kind → holdsGroup kind test (erased kind f s) i ≡ holdsGroup kind (stays test) s i
   unfolding holdsGroup
   holds-erased test i m =
       ⊎-elim
-      (λ (h : isOf s f (i / 16) ≡ true).
+      (λ (h : isOf s f (i / numbers kind) ≡ true).
       and-left _ _ (numbered-gone i m h)
-      ∙ sym (off (isNumbered s i) (test (groupAt s i)) (ofFile f (groupAt s i)) (λ z. group-of s f i l z ∙ h)))
-      (λ (h : isOf s f (i / 16) ≡ false).
+      ∙ sym (off (isNumbered kind s i) (test (groupAt kind s i)) (ofFile f (groupAt kind s i)) (λ z. group-of kind s f i l z ∙ h)))
+      (λ (h : isOf s f (i / numbers kind) ≡ false).
       rw (numbered-kept i m h, group-kept i m h)
-      (on (isNumbered s i) (test (groupAt s i)) (ofFile f (groupAt s i)) (λ z. group-of s f i l z ∙ h)))
-      (either (isOf s f (i / 16)))
+      (on (isNumbered kind s i) (test (groupAt kind s i)) (ofFile f (groupAt kind s i)) (λ z. group-of kind s f i l z ∙ h)))
+      (either (isOf s f (i / numbers kind)))
     where
       off : (a x y : Bool) → (a ≡ true → y ≡ true) → (a and (x and not y)) ≡ false
       off true true y h = unfold _and_ in rw (h refl) refl
@@ -186,14 +210,16 @@ module _ (s : List ℕ) (f : File) (w : SoundImage highest s) (l : length (f .na
       on true false y h = unfold _and_ in refl
       on false x y h = unfold _and_ in refl
 
-  pub dropped : Counted (erased f s) (without (ofFile f) g)
+  pub dropped : Counted kind (erased kind f s) (without (ofFile f) g)
   dropped = record {
-    as-many = λ test. count-ext (holdsGroup test (erased f s)) (holdsGroup (stays test) s) 1024 (λ i m. holds-erased test i m) ∙ c .as-many (stays test) ∙ sym (tally-without test (ofFile f) g);
+    as-many = λ test.
+        count-ext (holdsGroup kind test (erased kind f s)) (holdsGroup kind (stays test) s) (allNumbers kind) (λ i m. holds-erased test i m)
+        ∙ c .as-many (stays test) ∙ sym (tally-without test (ofFile f) g);
   }
 
 -- ---- Rename
 
-carried-yes : (f h : File) (x : Group) → ofFile f x ≡ true → carried f h x ≡ group h (x .eight)
+carried-yes : (f h : File) (x : Group) → ofFile f x ≡ true → carried f h x ≡ group h (x .number)
 unfolding carried _if_else_
 carried-yes f h x e = rw e refl
 
@@ -201,36 +227,37 @@ carried-no : (f h : File) (x : Group) → ofFile f x ≡ false → carried f h x
 unfolding carried _if_else_
 carried-no f h x e = rw e refl
 
-module _ (s : List ℕ) (f new : File) (w : SoundImage highest s) (l : length (f .name) ≡ 11)
-    (files : (e : ℕ) → e < 64 → isOf s f e ≡ true → fileAt (renamed f (new .name) s) e ≡ new) (g : List Group) (c : Counted s g) where
+module _ (kind : Kind) (s : List ℕ) (f new : File) (w : SoundImage kind highest s) (l : length (f .name) ≡ 11)
+    (files : (e : ℕ) → e < entries kind → isOf s f e ≡ true → fileAt (renamed kind f (new .name) s) e ≡ new) (g : List Group) (c : Counted kind s g) where
   abbrev t : List ℕ
-  t = renamed f (new .name) s
+  t = renamed kind f (new .name) s
 
-  numbered-same : (i : ℕ) → i < 1024 → isNumbered t i ≡ isNumbered s i
+  numbered-same : (i : ℕ) → i < allNumbers kind → isNumbered kind t i ≡ isNumbered kind s i
   unfolding isNumbered
   numbered-same i m =
-      let e : i / 16 < 64 = omega arith in
-      rw (renamed-empty s f (new .name) w (i / 16) e, renamed-number s f (new .name) w (i / 16) (i % 16) e (omega arith)) refl
+      let l = flat-there kind i m in
+      rw (renamed-empty kind s f (new .name) w (i / numbers kind) l, renamed-number kind s f (new .name) w (i / numbers kind) (i % numbers kind) l (flat-short kind i)) refl
 
-  group-now : (i : ℕ) → i < 1024 → isNumbered s i ≡ true → groupAt t i ≡ carried f new (groupAt s i)
+  group-now : (i : ℕ) → i < allNumbers kind → isNumbered kind s i ≡ true → groupAt kind t i ≡ carried f new (groupAt kind s i)
   unfolding groupAt
   group-now i m z =
-      let e : i / 16 < 64 = omega arith in
-      let x : extentAt t (i / 16) ≡ extentAt s (i / 16) = renamed-extent s f (new .name) w (i / 16) e in
+      let e = i / numbers kind in
+      let d = flat-there kind i m in
+      let x : extentAt t e ≡ extentAt s e = renamed-extent kind s f (new .name) w e d in
       ⊎-elim
-      (λ (h : isOf s f (i / 16) ≡ true).
-      let y : groupAt t i ≡ group new (16 * extentAt s (i / 16) + i % 16) = λ j. record { file = files (i / 16) e h j; eight = 16 * x j + i % 16 } in
-      y ∙ sym (carried-yes f new (groupAt s i) (group-of s f i l z ∙ h)))
-      (λ (h : isOf s f (i / 16) ≡ false).
-      let k = file-same s (i / 16) t (i / 16) (head-of s (i / 16) t (i / 16) (renamed-kept s f (new .name) w (i / 16) e h)) in
-      let y : groupAt t i ≡ groupAt s i = λ j. record { file = k j; eight = 16 * x j + i % 16 } in
-      y ∙ sym (carried-no f new (groupAt s i) (group-of s f i l z ∙ h)))
-      (either (isOf s f (i / 16)))
+      (λ (h : isOf s f e ≡ true).
+      let y : groupAt kind t i ≡ group new (numbers kind * extentAt s e + i % numbers kind) = λ j. record { file = files e d h j; number = numbers kind * x j + i % numbers kind } in
+      y ∙ sym (carried-yes f new (groupAt kind s i) (group-of kind s f i l z ∙ h)))
+      (λ (h : isOf s f e ≡ false).
+      let k = file-same s e t e (head-of s e t e (renamed-kept kind s f (new .name) w e d h)) in
+      let y : groupAt kind t i ≡ groupAt kind s i = λ j. record { file = k j; number = numbers kind * x j + i % numbers kind } in
+      y ∙ sym (carried-no f new (groupAt kind s i) (group-of kind s f i l z ∙ h)))
+      (either (isOf s f e))
 
-  pub carried-over : Counted t (map (carried f new) g)
+  pub carried-over : Counted kind t (map (carried f new) g)
   carried-over = record {
     as-many = λ test.
-        count-ext (holdsGroup test t) (holdsGroup (λ (x : Group). test (carried f new x)) s) 1024
-        (λ i m. holds-same s t test (λ (x : Group). test (carried f new x)) i (numbered-same i m) (λ z. ap test (group-now i m z)))
+        count-ext (holdsGroup kind test t) (holdsGroup kind (λ (x : Group). test (carried f new x)) s) (allNumbers kind)
+        (λ i m. holds-same kind s t test (λ (x : Group). test (carried f new x)) i (numbered-same i m) (λ z. ap test (group-now i m z)))
         ∙ c .as-many (λ (x : Group). test (carried f new x)) ∙ sym (tally-map test (carried f new) g);
   }

@@ -10,6 +10,7 @@ use borrow.Author.Tests.{eqb-true, eq-eqb}
 use Rattle.words.specs.Tests.{_and_, _if_else_}
 use Rattle.words.specs.Lists.{turns}
 use Rattle.words.proofs.Tests.{either, and-fst, and-snd, or-fst, or-snd}
+use Rattle.rules.specs.declared.kind.Kind.{Kind}
 use Rattle.rules.specs.declared.item.Item.{Item}
 use Rattle.rules.specs.Locks.{freshOpen, isKindBy}
 use Rattle.history.specs.History.{Engine, Ask, State, Begun, Event, outcomeOf, kept, stateAfter, eventsOf, firstState, after, historyOf}
@@ -93,17 +94,17 @@ module _ (e : Engine) where
   held-append users [] rs s g = refl
   held-append users (q ∷ qs) rs s g = held-append users qs rs (kept (outcomeOf e q s)) _
 
-  module _ (g : Begun) (qs later : List Ask) (q : Ask) where
-    items-then : itemsOf e g (qs ++ (q ∷ later))
-        ≡ heldAfter (g .users) (eventsOf e later (kept (outcomeAfter e g qs q))) (holding (deedAfter e g qs q) (itemsOf e g qs))
-    unfolding itemsOf historyOf after eventsOf heldAfter outcomeAfter deedAfter
-    items-then = held-append (g .users) qs (q ∷ later) (firstState g) []
+module _ (kind : Kind) (e : Engine) (g : Begun kind) (qs later : List Ask) (q : Ask) where
+  items-then : itemsOf kind e g (qs ++ (q ∷ later))
+      ≡ heldAfter (g .users) (eventsOf e later (kept (outcomeAfter kind e g qs q))) (holding (deedAfter kind e g qs q) (itemsOf kind e g qs))
+  unfolding itemsOf historyOf after eventsOf heldAfter outcomeAfter deedAfter
+  items-then = held-append e (g .users) qs (q ∷ later) (firstState kind g) []
 
-    -- an accepted 143 of process p, and no open granted to it later
-    pub none-then : (p : ℕ) → deedAfter e g qs q ≡ ends p → anyOpenBy (g .users) p (eventsOf e later (kept (outcomeAfter e g qs q))) ≡ false
-        → NoneBy p (itemsOf e g (qs ++ (q ∷ later)))
-    none-then p d none =
-        rw (items-then, d) (none-after (g .users) p (eventsOf e later (kept (outcomeAfter e g qs q))) _ none (none-ended p (itemsOf e g qs)))
+  -- an accepted 143 of process p, and no open granted to it later
+  pub none-then : (p : ℕ) → deedAfter kind e g qs q ≡ ends p → anyOpenBy (g .users) p (eventsOf e later (kept (outcomeAfter kind e g qs q))) ≡ false
+      → NoneBy p (itemsOf kind e g (qs ++ (q ∷ later)))
+  none-then p d none =
+      rw (items-then, d) (none-after (g .users) p (eventsOf e later (kept (outcomeAfter kind e g qs q))) _ none (none-ended p (itemsOf kind e g qs)))
 
 -- an item of a kind is an item of its process
 pub kind-by : (k p : ℕ) (g : List Item) → NoneBy p g → tally (isKindBy k p) g ≡ 0

@@ -7,6 +7,7 @@ use mathlib.Core.Logic.{⊎-elim}
 use native.Mathlib.Omega.{arith}
 use borrow.Author.Tests.{ne-eqb}
 use Rattle.words.proofs.Tests.{equal?}
+use Rattle.rules.specs.declared.kind.Kind.{Kind}
 use Rattle.rules.specs.declared.routine.Routine.the-variants.{Open, Close, Delete, Make, Rename, Read, Write, WriteZeros, TestWrite, Lock, Unlock, FreeSpace, Terminate}
 use Rattle.rules.specs.declared.routine.Chosen.the-variants.{Call, Unknown}
 use Rattle.words.specs.Tests.{_if_else_}
@@ -51,12 +52,12 @@ held-refused users q code g z =
     same false f r n = unfold holding _if_else_ in refl
 
 -- .. and what is counted too, where the code tells of no record done
-pub count-refused : (users : List ℕ) (q : Ask) (code : ℕ) (g : List Group) → (code ≡ 0 → ⊥) → code < 4096 → counting (deed users (event q code)) g ≡ g
-count-refused users q code g z low =
-    ap (λ (d : Deed). counting d g) (deed-refused users q code z)
+pub count-refused : (kind : Kind) (users : List ℕ) (q : Ask) (code : ℕ) (g : List Group) → (code ≡ 0 → ⊥) → code < 4096 → counting kind (deed users (event q code)) g ≡ g
+count-refused kind users q code g z low =
+    ap (λ (d : Deed). counting kind d g) (deed-refused users q code z)
     ∙ same (writesRun (q .function)) (fileBy users q) (recordOf (q .fcb)) (doneIn code) (omega arith)
   where
-    same : (t : Bool) (f : File) (r n : ℕ) → n ≡ 0 → counting (touches f r n if t else nothing) g ≡ g
+    same : (t : Bool) (f : File) (r n : ℕ) → n ≡ 0 → counting kind (touches f r n if t else nothing) g ≡ g
     same true f r n e = unfold counting touchingRun turns _if_else_ in rw e refl
     same false f r n e = unfold counting _if_else_ in refl
 

@@ -9,6 +9,7 @@ use Rattle.words.specs.Tables.{_∕_, firstOf, anyRow}
 use Rattle.words.proofs.Tests.{either}
 use Rattle.words.proofs.Tables.{row-off, row-rest}
 use Rattle.words.proofs.Sets.{row-no}
+use Rattle.rules.specs.declared.kind.Kind.{Kind}
 use Rattle.rules.specs.Serves.{Buffers, Outcome, outcome}
 use Rattle.rules.specs.Codes.{rowsAll}
 use Rattle.rules.specs.Call.{rowsCall}
@@ -21,9 +22,9 @@ use Rattle.history.specs.Demands.{Demand1}
 use Rattle.history.proofs.Ways.{Way, answer-low, refuses-low, plain, barred, whole, partly, ways}
 
 -- the general table lets a shorter run pass too
-passes-fewer : (n p c i : ℕ) (b : Buffers) → firstOf (rowsAll n p c b) ≡ 0 → 1 ≤ i → i ≤ c → firstOf (rowsAll n p i b) ≡ 0
+passes-fewer : (kind : Kind) (n p c i : ℕ) (b : Buffers) → firstOf (rowsAll kind n p c b) ≡ 0 → 1 ≤ i → i ≤ c → firstOf (rowsAll kind n p i b) ≡ 0
 unfolding rowsAll
-passes-fewer n p c i b h some few =
+passes-fewer kind n p c i b h some few =
     let z : 255 ∕ 13 ≡ 0 → ⊥ = λ y. omega arith in
     let w = good-numbers n p c (b .fcb) (b .dma) (b .list) (row-off (255 ∕ 13) _ _ z h) in
     let fits : i ≤ 16 = let k = w .run-fits in omega arith in
@@ -38,31 +39,31 @@ passes-fewer n p c i b h some few =
     }) in
     sym (row-no 0 (255 ∕ 13) _ _ good (sym (row-rest (255 ∕ 13) _ _ z h)))
 
-module _ (n p c : ℕ) (b : Buffers) where
-  way-unchanged : (o : Outcome) → Way n p c b o → (o .answer ≡ 0 → ⊥) → doneIn (o .answer) ≡ 0 → o .left ≡ b
+module _ (kind : Kind) (n p c : ℕ) (b : Buffers) where
+  way-unchanged : (o : Outcome) → Way kind n p c b o → (o .answer ≡ 0 → ⊥) → doneIn (o .answer) ≡ 0 → o .left ≡ b
   way-unchanged o (plain h) z d =
       ⊎-elim
-      (λ (y : anyRow (rowsCall n p c b) ≡ true). ap (λ (x : Outcome). x .left) (refused n p c b y))
-      (λ (y : anyRow (rowsCall n p c b) ≡ false). absurd (z (accepted-zero n p c b y)))
-      (either (anyRow (rowsCall n p c b)))
+      (λ (y : anyRow (rowsCall kind n p c b) ≡ true). ap (λ (x : Outcome). x .left) (refused kind n p c b y))
+      (λ (y : anyRow (rowsCall kind n p c b) ≡ false). absurd (z (accepted-zero kind n p c b y)))
+      (either (anyRow (rowsCall kind n p c b)))
   way-unchanged o (barred h code w) z d = refl
   way-unchanged o (whole left w) z d = absurd (z refl)
   way-unchanged o (partly i m left w code r) z d =
       let e : i ≡ 0 = omega arith in
-      ap (λ (x : Run). x .left) (sym (w .is) ∙ ap (λ (k : ℕ). several n p k b) e ∙ several-none n p b)
+      ap (λ (x : Run). x .left) (sym (w .is) ∙ ap (λ (k : ℕ). several kind n p k b) e ∙ several-none kind n p b)
 
-  way-no-trace : (o : Outcome) → Way n p c b o → (doneIn (o .answer) ≡ 0 → ⊥) → callRun n p (doneIn (o .answer)) b ≡ outcome (0 ∕ 0) (o .left)
+  way-no-trace : (o : Outcome) → Way kind n p c b o → (doneIn (o .answer) ≡ 0 → ⊥) → callRun kind n p (doneIn (o .answer)) b ≡ outcome (0 ∕ 0) (o .left)
   unfolding told _if_else_
-  way-no-trace o (plain h) z = let k = answer-low n p c b in absurd (z (omega arith))
-  way-no-trace o (barred h code w) z = let k = refuses-low n p c b code w in absurd (z (omega arith))
+  way-no-trace o (plain h) z = let k = answer-low kind n p c b in absurd (z (omega arith))
+  way-no-trace o (barred h code w) z = let k = refuses-low kind n p c b code w in absurd (z (omega arith))
   way-no-trace o (whole left w) z = absurd (z refl)
   way-no-trace o (partly i m left w code r) z =
-      let low = refuses-low _ _ _ _ code r in
+      let low = refuses-low kind _ _ _ _ code r in
       let e : doneIn (code + 0 ∕ (16 * i)) ≡ i = omega arith in
-      rw e (run-told n p i b (w .serves) (passes-fewer n p c i b (w .passes) (omega arith) (omega arith)) ∙ ap told (w .is))
+      rw e (run-told kind n p i b (w .serves) (passes-fewer kind n p c i b (w .passes) (omega arith) (omega arith)) ∙ ap told (w .is))
 
-pub first-meet : Demand1 callRun
-first-meet = record {
-  unchanged = λ n p c b. way-unchanged n p c b _ (ways n p c b);
-  no-trace = λ n p c b. way-no-trace n p c b _ (ways n p c b);
+pub first-meet : (kind : Kind) → Demand1 (callRun kind)
+first-meet kind = record {
+  unchanged = λ n p c b. way-unchanged kind n p c b _ (ways kind n p c b);
+  no-trace = λ n p c b. way-no-trace kind n p c b _ (ways kind n p c b);
 }

@@ -6,6 +6,7 @@ use mathlib.Core.List.{List}
 use mathlib.Core.Logic.{_⊎_, ⊎-elim}
 use native.Mathlib.Omega.{arith}
 use lib.ListN.{length}
+use Rattle.rules.specs.declared.kind.Kind.{Kind}
 use Rattle.rules.specs.declared.item.Item.{Item}
 use Rattle.rules.specs.declared.list.LockList.{LockList}
 use Rattle.rules.specs.Serves.{Buffers, Outcome}
@@ -33,48 +34,49 @@ framed l xs = record { capacities = refl; users = refl }
 same : (l : LockList) → Framed l l
 same l = record { capacities = refl; users = refl }
 
-packed : (l k : LockList) (s : List ℕ) → SoundShape k s → Framed l k → Framed l (unpack (pack k))
-packed l k s h w = rw (unpacked k s (h .sound) (h .shape)) w
+packed : (kind : Kind) (l k : LockList) (s : List ℕ) → SoundShape kind k s → Framed l k → Framed l (unpack (pack k))
+packed kind l k s h w = rw (unpacked kind k s (h .sound) (h .shape)) w
 
-pub list-framed : (n p c : ℕ) (b : Buffers) (o : Outcome) → Leaf n p c b o → Framed (listOf b) (unpack (o .left .list))
+pub list-framed : (kind : Kind) (n p c : ℕ) (b : Buffers) (o : Outcome) → Leaf kind n p c b o → Framed (listOf b) (unpack (o .left .list))
 unfolding opened placed closed unlockedRun terminated lockedRun
-list-framed n p c b o (refused code z) = same (listOf b)
-list-framed n p c b o (reopened k ok w fcb) = same (listOf b)
-list-framed n p c b o (newlyOpened k ok w fcb) = packed (listOf b) _ (b .image) (opened-shape p c b ok w) (framed (listOf b) _)
-list-framed n p c b o (newlyMade k ok w fcb) = packed (listOf b) _ _ (made-shape p c b ok w) (framed (listOf b) _)
-list-framed n p c b o (nowClosed k ok w) = packed (listOf b) _ (b .image) (closed-shape p c b ok) (framed (listOf b) _)
-list-framed n p c b o (nowErased k ok w) = same (listOf b)
-list-framed n p c b o (nowRenamed k ok w) = same (listOf b)
-list-framed n p c b o (nowRead k ok dma) = same (listOf b)
-list-framed n p c b o (nowWritten k ok w zeros) = same (listOf b)
-list-framed n p c b o (nowRewritten k ok w some v full) = same (listOf b)
-list-framed n p c b o (nowLocked k ok w) =
-    packed (listOf b) _ (b .image) (locked-shape p c b ok w)
-    (let r = running (b .image) (listOf b) p (fileBy p b) (recordOf (b .fcb)) c (shape-of p c b ok) (list-of p c b ok) (takes-of p c b ok w) c (omega arith) in
+list-framed kind n p c b o (refused code z) = same (listOf b)
+list-framed kind n p c b o (reopened k ok w fcb) = same (listOf b)
+list-framed kind n p c b o (newlyOpened k ok w fcb) = packed kind (listOf b) _ (b .image) (opened-shape kind p c b ok w) (framed (listOf b) _)
+list-framed kind n p c b o (newlyMade k ok w fcb) = packed kind (listOf b) _ _ (made-shape kind p c b ok w) (framed (listOf b) _)
+list-framed kind n p c b o (nowClosed k ok w) = packed kind (listOf b) _ (b .image) (closed-shape kind p c b ok) (framed (listOf b) _)
+list-framed kind n p c b o (nowErased k ok w) = same (listOf b)
+list-framed kind n p c b o (nowRenamed k ok w) = same (listOf b)
+list-framed kind n p c b o (nowRead k ok dma) = same (listOf b)
+list-framed kind n p c b o (nowWritten k ok w zeros) = same (listOf b)
+list-framed kind n p c b o (nowRewritten k ok w some v full) = same (listOf b)
+list-framed kind n p c b o (nowLocked k ok w) =
+    packed kind (listOf b) _ (b .image) (locked-shape kind p c b ok w)
+    (let r = running kind (b .image) (listOf b) p (fileBy p b) (recordOf (b .fcb)) c (shape-of kind p c b ok) (list-of kind p c b ok) (takes-of kind p c b ok w) c (omega arith) in
     rw (r .is) (framed (listOf b) (r .items)))
-list-framed n p c b o (lockIdle k ok w) = same (listOf b)
-list-framed n p c b o (nowUnlocked k ok w) = packed (listOf b) _ (b .image) (unlocked-shape p c b ok) (framed (listOf b) _)
-list-framed n p c b o (unlockIdle k ok w) = same (listOf b)
-list-framed n p c b o (nowTold k ok dma) = same (listOf b)
-list-framed n p c b o (nowEnded k ok) = packed (listOf b) _ (b .image) (ended-shape p c b ok) (framed (listOf b) _)
+list-framed kind n p c b o (lockIdle k ok w) = same (listOf b)
+list-framed kind n p c b o (nowUnlocked k ok w) = packed kind (listOf b) _ (b .image) (unlocked-shape kind p c b ok) (framed (listOf b) _)
+list-framed kind n p c b o (unlockIdle k ok w) = same (listOf b)
+list-framed kind n p c b o (nowTold k ok dma) = same (listOf b)
+list-framed kind n p c b o (nowEnded k ok) = packed kind (listOf b) _ (b .image) (ended-shape kind p c b ok) (framed (listOf b) _)
 
-written-long : (s t : List ℕ) (f : File) (r : ℕ) → Old s t f r ⊎ New s t f r → length t ≡ length s
-written-long s t f r w = ⊎-elim (λ (k : Old s t f r). k .wrote .change .touches .long) (λ (k : New s t f r). k .wrote .change .touches .long) w
+written-long : (kind : Kind) (s t : List ℕ) (f : File) (r : ℕ) → Old kind s t f r ⊎ New kind s t f r → length t ≡ length s
+written-long kind s t f r w = ⊎-elim (λ (k : Old kind s t f r). k .wrote .change .touches .long) (λ (k : New kind s t f r). k .wrote .change .touches .long) w
 
-pub image-framed : (n p c : ℕ) (b : Buffers) (o : Outcome) → Leaf n p c b o → length (o .left .image) ≡ length (b .image)
-image-framed n p c b o (refused code z) = refl
-image-framed n p c b o (reopened k ok w fcb) = refl
-image-framed n p c b o (newlyOpened k ok w fcb) = refl
-image-framed n p c b o (newlyMade k ok w fcb) = made-of p c b ok w 0 0 0 0 .touches .long
-image-framed n p c b o (nowClosed k ok w) = refl
-image-framed n p c b o (nowErased k ok w) = all-erased (b .image) (fileBy p b) (image-of p c b ok) (caller-long p (listOf b) (b .fcb)) .len
-image-framed n p c b o (nowRenamed k ok w) = all-renamed (b .image) (fileBy p b) (newBy p b .name) (image-of p c b ok) .len
-image-framed n p c b o (nowRead k ok dma) = refl
-image-framed n p c b o (nowWritten k ok w zeros) = written-long (b .image) _ (fileBy p b) (recordOf (b .fcb)) (written-of p c b ok w zeros (b .dma) (let d = ok .ready .dma-long in omega arith))
-image-framed n p c b o (nowRewritten k ok w some v full) = written-long (b .image) _ (fileBy p b) (recordOf (b .fcb)) (written-of p c b ok w false v full)
-image-framed n p c b o (nowLocked k ok w) = refl
-image-framed n p c b o (lockIdle k ok w) = refl
-image-framed n p c b o (nowUnlocked k ok w) = refl
-image-framed n p c b o (unlockIdle k ok w) = refl
-image-framed n p c b o (nowTold k ok dma) = refl
-image-framed n p c b o (nowEnded k ok) = refl
+pub image-framed : (kind : Kind) (n p c : ℕ) (b : Buffers) (o : Outcome) → Leaf kind n p c b o → length (o .left .image) ≡ length (b .image)
+image-framed kind n p c b o (refused code z) = refl
+image-framed kind n p c b o (reopened k ok w fcb) = refl
+image-framed kind n p c b o (newlyOpened k ok w fcb) = refl
+image-framed kind n p c b o (newlyMade k ok w fcb) = made-of kind p c b ok w 0 0 0 0 .touches .long
+image-framed kind n p c b o (nowClosed k ok w) = refl
+image-framed kind n p c b o (nowErased k ok w) = all-erased kind (b .image) (fileBy p b) (image-of kind p c b ok) (caller-long p (listOf b) (b .fcb)) .len
+image-framed kind n p c b o (nowRenamed k ok w) = all-renamed kind (b .image) (fileBy p b) (newBy p b .name) (image-of kind p c b ok) .len
+image-framed kind n p c b o (nowRead k ok dma) = refl
+image-framed kind n p c b o (nowWritten k ok w zeros) =
+    written-long kind (b .image) _ (fileBy p b) (recordOf (b .fcb)) (written-of kind p c b ok w zeros (b .dma) (let d = ok .ready .dma-long in omega arith))
+image-framed kind n p c b o (nowRewritten k ok w some v full) = written-long kind (b .image) _ (fileBy p b) (recordOf (b .fcb)) (written-of kind p c b ok w false v full)
+image-framed kind n p c b o (nowLocked k ok w) = refl
+image-framed kind n p c b o (lockIdle k ok w) = refl
+image-framed kind n p c b o (nowUnlocked k ok w) = refl
+image-framed kind n p c b o (unlockIdle k ok w) = refl
+image-framed kind n p c b o (nowTold k ok dma) = refl
+image-framed kind n p c b o (nowEnded k ok) = refl

@@ -10,6 +10,7 @@ use borrow.Author.Tests.{eq-eqb}
 use Rattle.words.specs.Tests.{_and_, _or_, _if_else_, count}
 use Rattle.words.specs.Tables.{Row, _∕_, onlyIf, firstOf, anyRow}
 use Rattle.words.proofs.Tests.{either, never, or-so, or-case, or-fst, or-snd}
+use Rattle.rules.specs.declared.kind.Kind.{Kind}
 use Rattle.rules.specs.declared.routine.Routine.the-variants.{Open, Close, Delete, Make, Rename, Read, Write, WriteZeros, TestWrite, Lock, Unlock, FreeSpace, Terminate}
 use Rattle.rules.specs.declared.routine.Chosen.{Chosen}
 use Rattle.rules.specs.declared.routine.Chosen.the-variants.{Call, Unknown}
@@ -47,26 +48,26 @@ unfolding anyCode onlyIf _if_else_
 code-only c true rows h = h
 code-only c false rows h = absurd (never h refl)
 
-module _ (n p c : ℕ) (b : Buffers) where
+module _ (kind : Kind) (n p c : ℕ) (b : Buffers) where
   -- the code that a call answers is that of a row of its own table
-  own-code : (code : ℕ) → (code ≡ 0 → ⊥) → anyCode code (rowsAll n p c b) ≡ false → call n p c b .answer ≡ code
-      → anyCode code (rowsOf (chosen n) (asked p c b) b) ≡ true
+  own-code : (code : ℕ) → (code ≡ 0 → ⊥) → anyCode code (rowsAll kind n p c b) ≡ false → call kind n p c b .answer ≡ code
+      → anyCode code (rowsOf (chosen n) (asked kind p c b) b) ≡ true
   own-code code z none h =
       ⊎-elim
-      (λ (q : anyRow (rowsCall n p c b) ≡ true).
-      let e : firstOf (rowsCall n p c b) ≡ code = sym (ap (λ (o : Outcome). o .answer) (refused n p c b q)) ∙ h in
-      code-append code (rowsAll n p c b) (rowsOf (chosen n) (asked p c b) b) (opened (code-applies code (rowsCall n p c b) z e)) none)
-      (λ (q : anyRow (rowsCall n p c b) ≡ false). absurd (z (sym h ∙ accepted-zero n p c b q)))
-      (either (anyRow (rowsCall n p c b)))
+      (λ (q : anyRow (rowsCall kind n p c b) ≡ true).
+      let e : firstOf (rowsCall kind n p c b) ≡ code = sym (ap (λ (o : Outcome). o .answer) (refused kind n p c b q)) ∙ h in
+      code-append code (rowsAll kind n p c b) (rowsOf (chosen n) (asked kind p c b) b) (opened (code-applies code (rowsCall kind n p c b) z e)) none)
+      (λ (q : anyRow (rowsCall kind n p c b) ≡ false). absurd (z (sym h ∙ accepted-zero kind n p c b q)))
+      (either (anyRow (rowsCall kind n p c b)))
     where
-      opened : anyCode code (rowsCall n p c b) ≡ true → anyCode code (rowsAll n p c b ++ rowsOf (chosen n) (asked p c b) b) ≡ true
+      opened : anyCode code (rowsCall kind n p c b) ≡ true → anyCode code (rowsAll kind n p c b ++ rowsOf (chosen n) (asked kind p c b) b) ≡ true
       opened h = unfold rowsCall in h
 
-  general-11 : anyCode (255 ∕ 11) (rowsAll n p c b) ≡ false
+  general-11 : anyCode (255 ∕ 11) (rowsAll kind n p c b) ≡ false
   unfolding rowsInside rowsAll anyCode _and_ _or_
   general-11 = refl
 
-  general-14 : anyCode (14 ∕ 0) (rowsAll n p c b) ≡ false
+  general-14 : anyCode (14 ∕ 0) (rowsAll kind n p c b) ≡ false
   unfolding rowsInside rowsAll anyCode _and_ _or_
   general-14 = refl
 
@@ -76,7 +77,7 @@ module _ (n p c : ℕ) (b : Buffers) where
   or-end false h = h
 
   -- 255/11: no place is empty
-  own-11 : (k : Chosen) → anyCode (255 ∕ 11) (rowsOf k (asked p c b) b) ≡ true → leb (unpack (b .list) .capacity) (freePlace (unpack (b .list))) ≡ true
+  own-11 : (k : Chosen) → anyCode (255 ∕ 11) (rowsOf k (asked kind p c b) b) ≡ true → leb (unpack (b .list) .capacity) (freePlace (unpack (b .list))) ≡ true
   unfolding rowsOf asked askedBy rowsNew rows15 rows16 rows19 rows22 rows23 rows33 rows34 rows41 rows42 rows43 rowsThere rowsMay rowsRoom rowsDiffer
       rowsRun rowsLacking rowsTake anyCode _and_ _or_
   own-11 (Call Open) h = or-end _ (code-only (255 ∕ 11) _ _ h)
@@ -95,7 +96,7 @@ module _ (n p c : ℕ) (b : Buffers) where
   own-11 Unknown h = absurd (never h refl)
 
   -- 14/0: fewer places than records not yet held
-  own-14 : (k : Chosen) → anyCode (14 ∕ 0) (rowsOf k (asked p c b) b) ≡ true
+  own-14 : (k : Chosen) → anyCode (14 ∕ 0) (rowsOf k (asked kind p c b) b) ≡ true
       → ltb (freePlaces (unpack (b .list))) (count (isNew (unpack (b .list)) p (callerFile p (unpack (b .list)) (b .fcb)) (recordOf (b .fcb))) c) ≡ true
   unfolding rowsOf asked askedBy rowsNew rows15 rows16 rows19 rows22 rows23 rows33 rows34 rows41 rows42 rows43 rowsThere rowsMay rowsRoom rowsDiffer
       rowsRun rowsLacking rowsTake anyCode _and_ _or_
@@ -116,40 +117,40 @@ module _ (n p c : ℕ) (b : Buffers) where
 
 -- ---- 33, 34 and 40 give neither
 
-module _ (p c : ℕ) (b : Buffers) where
-  run-11 : (k : Chosen) → Runs k → anyCode (255 ∕ 11) (rowsOf k (asked p c b) b) ≡ false
+module _ (kind : Kind) (p c : ℕ) (b : Buffers) where
+  run-11 : (k : Chosen) → Runs k → anyCode (255 ∕ 11) (rowsOf k (asked kind p c b) b) ≡ false
   unfolding rowsOf rows33 rows34 rowsThere rowsMay rowsRoom anyCode _and_ _or_
   run-11 k isRead = refl
   run-11 k isWrite = refl
   run-11 k isZeros = refl
 
-  run-14 : (k : Chosen) → Runs k → anyCode (14 ∕ 0) (rowsOf k (asked p c b) b) ≡ false
+  run-14 : (k : Chosen) → Runs k → anyCode (14 ∕ 0) (rowsOf k (asked kind p c b) b) ≡ false
   unfolding rowsOf rows33 rows34 rowsThere rowsMay rowsRoom anyCode _and_ _or_
   run-14 k isRead = refl
   run-14 k isWrite = refl
   run-14 k isZeros = refl
 
-module _ (n p c : ℕ) (b : Buffers) where
+module _ (kind : Kind) (n p c : ℕ) (b : Buffers) where
   -- a code that no table of theirs has
-  run-never : servesRun n ≡ true → (code : ℕ) → (code ≡ 0 → ⊥) → code < 4096 → ((d : ℕ) (a : Buffers) → anyCode code (rowsAll n p d a) ≡ false)
-      → ((d : ℕ) (a : Buffers) (k : Chosen) → Runs k → anyCode code (rowsOf k (asked p d a) a) ≡ false) → callRun n p c b .answer ≡ code → ⊥
+  run-never : servesRun n ≡ true → (code : ℕ) → (code ≡ 0 → ⊥) → code < 4096 → ((d : ℕ) (a : Buffers) → anyCode code (rowsAll kind n p d a) ≡ false)
+      → ((d : ℕ) (a : Buffers) (k : Chosen) → Runs k → anyCode code (rowsOf k (asked kind p d a) a) ≡ false) → callRun kind n p c b .answer ≡ code → ⊥
   run-never h code z low general own e =
-      let w = answer-plain n p c b (λ y. z (sym e ∙ y)) (omega arith) in
-      never (own-code n p (w .0) (w .1) code z (general (w .0) (w .1)) (w .2 ∙ e)) (own (w .0) (w .1) (chosen n) (run-chosen n h))
+      let w = answer-plain kind n p c b (λ y. z (sym e ∙ y)) (omega arith) in
+      never (own-code kind n p (w .0) (w .1) code z (general (w .0) (w .1)) (w .2 ∙ e)) (own (w .0) (w .1) (chosen n) (run-chosen n h))
 
-  pub answered-11 : callRun n p c b .answer ≡ 255 ∕ 11 → leb (unpack (b .list) .capacity) (freePlace (unpack (b .list))) ≡ true
+  pub answered-11 : callRun kind n p c b .answer ≡ 255 ∕ 11 → leb (unpack (b .list) .capacity) (freePlace (unpack (b .list))) ≡ true
   answered-11 e =
       ⊎-elim
-      (λ (h : servesRun n ≡ true). absurd (run-never h (255 ∕ 11) (λ z. omega arith) (omega arith) (general-11 n p) (run-11 p) e))
+      (λ (h : servesRun n ≡ true). absurd (run-never h (255 ∕ 11) (λ z. omega arith) (omega arith) (general-11 kind n p) (run-11 kind p) e))
       (λ (h : servesRun n ≡ false).
-      own-11 n p c b (chosen n) (own-code n p c b (255 ∕ 11) (λ z. omega arith) (general-11 n p c b) (rw (run-plain n p c b h) at e)))
+      own-11 kind n p c b (chosen n) (own-code kind n p c b (255 ∕ 11) (λ z. omega arith) (general-11 kind n p c b) (rw (run-plain kind n p c b h) at e)))
       (either (servesRun n))
 
-  pub answered-14 : callRun n p c b .answer ≡ 14 ∕ 0
+  pub answered-14 : callRun kind n p c b .answer ≡ 14 ∕ 0
       → ltb (freePlaces (unpack (b .list))) (count (isNew (unpack (b .list)) p (callerFile p (unpack (b .list)) (b .fcb)) (recordOf (b .fcb))) c) ≡ true
   answered-14 e =
       ⊎-elim
-      (λ (h : servesRun n ≡ true). absurd (run-never h (14 ∕ 0) (λ z. omega arith) (omega arith) (general-14 n p) (run-14 p) e))
+      (λ (h : servesRun n ≡ true). absurd (run-never h (14 ∕ 0) (λ z. omega arith) (omega arith) (general-14 kind n p) (run-14 kind p) e))
       (λ (h : servesRun n ≡ false).
-      own-14 n p c b (chosen n) (own-code n p c b (14 ∕ 0) (λ z. omega arith) (general-14 n p c b) (rw (run-plain n p c b h) at e)))
+      own-14 kind n p c b (chosen n) (own-code kind n p c b (14 ∕ 0) (λ z. omega arith) (general-14 kind n p c b) (rw (run-plain kind n p c b h) at e)))
       (either (servesRun n))

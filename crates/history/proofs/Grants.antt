@@ -9,6 +9,7 @@ use borrow.Author.Tests.{leb-true, ltb-true}
 use Rattle.words.specs.Tests.{count, lowest}
 use Rattle.words.proofs.Tests.{any-never, lowest-over, same-test}
 use Rattle.words.proofs.Counts.{count-ext, count-zero}
+use Rattle.rules.specs.declared.kind.Kind.{Kind}
 use Rattle.rules.specs.declared.file.File.{File}
 use Rattle.rules.specs.declared.item.Item.{Item}
 use Rattle.rules.specs.declared.list.LockList.{LockList}
@@ -33,15 +34,15 @@ use Rattle.history.proofs.Full.{answered-11, answered-14}
 use Rattle.history.proofs.Done.{lent, file-meant}
 use Rattle.history.proofs.Run.{Inv}
 
-module _ (g : Begun) (s : State) (items : List Item) (groups : List Group) (i : Inv g s items groups) where
+module _ (kind : Kind) (g : Begun kind) (s : State) (items : List Item) (groups : List Group) (i : Inv kind g s items groups) where
   abbrev l : LockList
   l = unpack (s .list)
 
-  pub image-sound : SoundImage highest (s .image)
-  image-sound = sound-of _ (s .image) (i .both .image-sound)
+  pub image-sound : SoundImage kind highest (s .image)
+  image-sound = sound-of kind _ (s .image) (i .both .image-sound)
 
-  pub list-sound : SoundLocks l (s .image)
-  list-sound = list-sound-of (s .list) (s .image) (i .both .list-sound)
+  pub list-sound : SoundLocks kind l (s .image)
+  list-sound = list-sound-of kind (s .list) (s .image) (i .both .list-sound)
 
   -- 2
   pub holds-same : (x : Item) → (x .kind ≡ 0 → ⊥) → Holds x l items
@@ -53,15 +54,15 @@ module _ (g : Begun) (s : State) (items : List Item) (groups : List Group) (i : 
 
   -- 3
   pub add-up : AddUp (g .capacity) l items
-  add-up = subst (λ (c : ℕ). AddUp c l items) (i .capacity) (adds-up l (s .image) list-sound items (i .tallied) (i .solid))
+  add-up = subst (λ (c : ℕ). AddUp c l items) (i .capacity) (adds-up kind l (s .image) list-sound items (i .tallied) (i .solid))
 
   -- 8
   held-same : (p : ℕ) (f : File) (r : ℕ) → f .user ≡ userOf l p → held l p f r ≡ isAmong (freshLock p (f .name) r) items
   held-same p f r u =
       let some : freshLock p (f .name) r .kind ≡ 0 → ⊥ = λ (z : _≡_ {A = ℕ} 2 0). absurd (omega arith) in
       same-test _ _
-      (λ h. let x = lock-listed l (s .image) list-sound p f r u h in held-listed l items (i .tallied) (freshLock p (f .name) r) some (x .0) (x .1) (x .2))
-      (λ h. let x = listed-held l items (i .tallied) (freshLock p (f .name) r) some h in listed-lock l (s .image) list-sound p f r u (x .0) (x .1) (x .2))
+      (λ h. let x = lock-listed kind l (s .image) list-sound p f r u h in held-listed l items (i .tallied) (freshLock p (f .name) r) some (x .0) (x .1) (x .2))
+      (λ h. let x = listed-held l items (i .tallied) (freshLock p (f .name) r) some h in listed-lock kind l (s .image) list-sound p f r u (x .0) (x .1) (x .2))
 
   none-free : leb (l .capacity) (freePlace l) ≡ true → freePlaces l ≡ 0
   unfolding freePlace freePlaces
@@ -69,14 +70,14 @@ module _ (g : Begun) (s : State) (items : List Item) (groups : List Group) (i : 
       let w : l .capacity ≤ lowest (isEmptyAt l) (l .capacity) = leb-true _ _ h in
       count-zero (isEmptyAt l) (l .capacity) (any-never (isEmptyAt l) (l .capacity) (λ j m. lowest-over (isEmptyAt l) (l .capacity) j w m))
 
-  pub full : (q : Ask) → Full (g .capacity) (g .users) items q (outcomeOf callRun q s .answer)
+  pub full : (q : Ask) → Full (g .capacity) (g .users) items q (outcomeOf (callRun kind) q s .answer)
   unfolding outcomeOf isUnheld isNew
   full q = record {
-    no-place = λ h. let a = none-free (answered-11 (q .function) (q .process) (q .run) (lent q s) h) in let b = add-up .adds in omega arith;
+    no-place = λ h. let a = none-free (answered-11 kind (q .function) (q .process) (q .run) (lent q s) h) in let b = add-up .adds in omega arith;
     too-few = λ h.
         let f = callerFile (q .process) l (q .fcb) in
         let a : freePlaces l < count (isNew l (q .process) f (recordOf (q .fcb))) (q .run) =
-        ltb-true _ _ (answered-14 (q .function) (q .process) (q .run) (lent q s) h) in
+        ltb-true _ _ (answered-14 kind (q .function) (q .process) (q .run) (lent q s) h) in
         let b = add-up .adds in
         let e : fileBy (g .users) q ≡ f = ap (λ (us : List ℕ). fileBy us q) (sym (i .users)) ∙ file-meant q l in
         let k : count (isNew l (q .process) f (recordOf (q .fcb))) (q .run) ≡ count (isUnheld items (q .process) (f .name) (recordOf (q .fcb))) (q .run) =

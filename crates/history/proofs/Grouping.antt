@@ -7,6 +7,8 @@ use mathlib.Core.Logic.{⊎-elim}
 use native.Mathlib.Omega.{arith}
 use lib.ListN.{length}
 use Rattle.words.specs.Lists.{turns}
+use Rattle.rules.specs.declared.kind.Kind.{Kind}
+use Rattle.rules.specs.Kinds.{blockRecords, entries}
 use Rattle.rules.specs.declared.file.File.{File}
 use Rattle.rules.specs.declared.list.LockList.{LockList}
 use Rattle.rules.specs.declared.routine.Routine.the-variants.{Write, WriteZeros}
@@ -32,16 +34,16 @@ use Rattle.history.proofs.Counting.{counted-grown, counted-old, touched
 use Rattle.history.proofs.Done.{lent, usersIn, deed-done, count-refused, file-meant, new-meant}
 
 -- a run of one record touches its group; a run of one more touches the next one's too
-touching-one : (f : File) (r : ℕ) (g : List Group) → touchingRun f r 1 g ≡ touching (group f (r / 8)) g
+touching-one : (kind : Kind) (f : File) (r : ℕ) (g : List Group) → touchingRun kind f r 1 g ≡ touching (group f (r / blockRecords kind)) g
 unfolding touchingRun touchingAt turns
-touching-one f r g = let e : r + 0 ≡ r = omega arith in ap (λ (n : ℕ). touching (group f (n / 8)) g) e
+touching-one kind f r g = let e : r + 0 ≡ r = omega arith in ap (λ (n : ℕ). touching (group f (n / blockRecords kind)) g) e
 
-pub touching-more : (f : File) (r i : ℕ) (g : List Group) → touchingRun f (r + i) 1 (touchingRun f r i g) ≡ touchingRun f r (suc i) g
-touching-more f r i g = touching-one f (r + i) (touchingRun f r i g) ∙ (unfold touchingRun touchingAt turns in refl)
+pub touching-more : (kind : Kind) (f : File) (r i : ℕ) (g : List Group) → touchingRun kind f (r + i) 1 (touchingRun kind f r i g) ≡ touchingRun kind f r (suc i) g
+touching-more kind f r i g = touching-one kind f (r + i) (touchingRun kind f r i g) ∙ (unfold touchingRun touchingAt turns in refl)
 
 -- ---- one plain call
 
-module _ (q : Ask) (s : State) (g : List Group) (t : Counted (s .image) g) where
+module _ (kind : Kind) (q : Ask) (s : State) (g : List Group) (t : Counted kind (s .image) g) where
   abbrev l : LockList
   l = unpack (s .list)
 
@@ -63,40 +65,40 @@ module _ (q : Ask) (s : State) (g : List Group) (t : Counted (s .image) g) where
   long : length (f .name) ≡ 11
   long = caller-long p l (q .fcb)
 
-  made-counted : (ok : Passed p c b) (w : MayMake p b) → Counted (made (freeEntry (s .image)) f (s .image)) g
+  made-counted : (ok : Passed kind p c b) (w : MayMake kind p b) → Counted kind (made (freeEntry kind (s .image)) f (s .image)) g
   made-counted ok w =
-      let k = made-of p c b ok w 0 0 64 0 in
-      counted-grown (s .image) _ (k .grown) g (λ e n m. ⊎-elim
-      (λ (z : (e ≡ 64) × (n ≡ 0)). let a : e ≡ 64 = z .0 in let d = m .entry-there in absurd (omega arith)) (λ z. z) (k .rest e n m)) t
+      let k = made-of kind p c b ok w 0 0 (entries kind) 0 in
+      counted-grown kind (s .image) _ (k .grown) g (λ e n m. ⊎-elim
+      (λ (z : (e ≡ entries kind) × (n ≡ 0)). let a : e ≡ entries kind = z .0 in let d = m .entry-there in absurd (omega arith)) (λ z. z) (k .rest e n m)) t
 
   -- a plain 34 or 40 writes one record
-  written-counted : (ok : Passed p c b) (w : MayWrite p b) (zeros : Bool) → c ≡ 1 → Counted (imageWritten zeros p b (q .dma)) (touchingRun f r c g)
+  written-counted : (ok : Passed kind p c b) (w : MayWrite kind p b) (zeros : Bool) → c ≡ 1 → Counted kind (imageWritten kind zeros p b (q .dma)) (touchingRun kind f r c g)
   written-counted ok w zeros one =
-      let u = imageWritten zeros p b (q .dma) in
-      rw (one, touching-one)
-      (⊎-elim (λ (k : Old (s .image) u f r). touched-old (s .image) u f r long g t k) (λ (k : New (s .image) u f r). touched-new (s .image) u f r long g t k)
-      (written-of p c b ok w zeros (q .dma) (let d = ok .ready .dma-long in omega arith)))
+      let u = imageWritten kind zeros p b (q .dma) in
+      rw (one, touching-one kind)
+      (⊎-elim (λ (k : Old kind (s .image) u f r). touched-old kind (s .image) u f r long g t k) (λ (k : New kind (s .image) u f r). touched-new kind (s .image) u f r long g t k)
+      (written-of kind p c b ok w zeros (q .dma) (let d = ok .ready .dma-long in omega arith)))
 
-  rewritten-counted : (ok : Passed p c b) (w : MayWrite p b) (v : List ℕ) → 128 ≤ length v → (blockOf (s .image) f r ≡ 0 → ⊥)
-      → Counted (imageWritten false p b v) g
+  rewritten-counted : (ok : Passed kind p c b) (w : MayWrite kind p b) (v : List ℕ) → 128 ≤ length v → (blockOf kind (s .image) f r ≡ 0 → ⊥)
+      → Counted kind (imageWritten kind false p b v) g
   rewritten-counted ok w v full some =
-      let u = imageWritten false p b v in
-      ⊎-elim (λ (k : Old (s .image) u f r). counted-old (s .image) u f r long g t k)
-      (λ (k : New (s .image) u f r). absurd (new-none (s .image) u f r long g t k _ (at-of (s .image) f r long some)))
-      (written-of p c b ok w false v full)
+      let u = imageWritten kind false p b v in
+      ⊎-elim (λ (k : Old kind (s .image) u f r). counted-old kind (s .image) u f r long g t k)
+      (λ (k : New kind (s .image) u f r). absurd (new-none kind (s .image) u f r long g t k _ (at-of kind (s .image) f r long some)))
+      (written-of kind p c b ok w false v full)
 
-  pub count-step : (servesRun (q .function) ≡ true → c ≡ 1) → (o : Outcome) → o .answer < 4096 → Leaf (q .function) p c b o
-      → Counted (o .left .image) (counting (deed (usersIn s) (event q (o .answer))) g)
+  pub count-step : (servesRun (q .function) ≡ true → c ≡ 1) → (o : Outcome) → o .answer < 4096 → Leaf kind (q .function) p c b o
+      → Counted kind (o .left .image) (counting kind (deed (usersIn s) (event q (o .answer))) g)
   unfolding counting deedBy
-  count-step one o low (refused code z) = rw (count-refused (usersIn s) q code g z low) t
+  count-step one o low (refused code z) = rw (count-refused kind (usersIn s) q code g z low) t
   count-step one o low (reopened k ok w fcb) = rw (deed-done (usersIn s) q _ k) t
   count-step one o low (newlyOpened k ok w fcb) = rw (deed-done (usersIn s) q _ k) t
   count-step one o low (newlyMade k ok w fcb) = rw (deed-done (usersIn s) q _ k) (made-counted ok w)
   count-step one o low (nowClosed k ok w) = rw (deed-done (usersIn s) q _ k) t
-  count-step one o low (nowErased k ok w) = rw (deed-done (usersIn s) q _ k, file-meant q l) (dropped (s .image) f (image-of p c b ok) long g t)
+  count-step one o low (nowErased k ok w) = rw (deed-done (usersIn s) q _ k, file-meant q l) (dropped kind (s .image) f (image-of kind p c b ok) long g t)
   count-step one o low (nowRenamed k ok w) =
       rw (deed-done (usersIn s) q _ k, file-meant q l, new-meant q l)
-      (carried-over (s .image) f (newFile p l (q .fcb)) (image-of p c b ok) long (renamed-file p c b ok w) g t)
+      (carried-over kind (s .image) f (newFile p l (q .fcb)) (image-of kind p c b ok) long (renamed-file kind p c b ok w) g t)
   count-step one o low (nowRead k ok dma) = rw (deed-done (usersIn s) q _ k) t
   count-step one o low (nowWritten k ok w zeros) =
       let h = written-counted ok w zeros (one (writes-serve (q .function) k)) in

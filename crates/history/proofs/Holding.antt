@@ -8,6 +8,8 @@ use native.Mathlib.Omega.{arith}
 use borrow.Author.Tests.{eqb-true}
 use Rattle.words.specs.Tests.{_if_else_}
 use Rattle.words.proofs.Tests.{either, never, and-fst, and-snd, lowest-over}
+use Rattle.rules.specs.declared.kind.Kind.{Kind}
+use Rattle.rules.specs.Kinds.{entries}
 use Rattle.rules.specs.declared.file.File.{File}
 use Rattle.rules.specs.declared.item.Item.{Item}
 use Rattle.rules.specs.declared.list.LockList.{LockList}
@@ -43,7 +45,7 @@ alike-open p name mode x h =
 open-some : (p : ℕ) (name : List ℕ) (mode : ℕ) → freshOpen p name mode .kind ≡ 0 → ⊥
 open-some p name mode q = let z : _≡_ {A = ℕ} 1 0 = q in absurd (omega arith)
 
-module _ (q : Ask) (s : State) (g : List Item) (t : Tally (unpack (s .list)) g) where
+module _ (kind : Kind) (q : Ask) (s : State) (g : List Item) (t : Tally (unpack (s .list)) g) where
   abbrev l : LockList
   l = unpack (s .list)
 
@@ -61,14 +63,14 @@ module _ (q : Ask) (s : State) (g : List Item) (t : Tally (unpack (s .list)) g) 
 
   -- ---- what the list holds before the call
 
-  module _ (ok : Passed p c b) where
+  module _ (ok : Passed kind p c b) where
     -- the caller's open is held, in its mode
     open-held : openBy p b < 64 → isAmong (freshOpen p (f .name) (modeBy p b)) g ≡ true
     open-held m =
-        let o = own-open (s .image) p c b ok (shape-of p c b ok) (list-of p c b ok) m in
-        let z : itemAt l (openBy p b) .number ≡ 0 = ⊎-elim (λ (v : GoodOpen (s .image) l (itemAt l (openBy p b))). v .number-zero)
-        (λ (v : GoodLock (s .image) l (itemAt l (openBy p b))). let a = v .kind-two in let d = o .kind-one in absurd (omega arith))
-        (own-good (s .image) p c b ok (shape-of p c b ok) (list-of p c b ok) m .good) in
+        let o = own-open kind (s .image) p c b ok (shape-of kind p c b ok) (list-of kind p c b ok) m in
+        let z : itemAt l (openBy p b) .number ≡ 0 = ⊎-elim (λ (v : GoodOpen kind (s .image) l (itemAt l (openBy p b))). v .number-zero)
+        (λ (v : GoodLock kind (s .image) l (itemAt l (openBy p b))). let a = v .kind-two in let d = o .kind-one in absurd (omega arith))
+        (own-good kind (s .image) p c b ok (shape-of kind p c b ok) (list-of kind p c b ok) m .good) in
         held-listed l g t (freshOpen p (f .name) (modeBy p b)) (open-some p (f .name) (modeBy p b)) (openBy p b) m
         (alike-so _ _ (record { kinds = sym (o .kind-one); processes = sym (o .by); names = name-sym _ _ (o .named); modes = refl; numbers = sym z }))
 
@@ -83,22 +85,22 @@ module _ (q : Ask) (s : State) (g : List Item) (t : Tally (unpack (s .list)) g) 
     unfolding openOf opensNameAt
     none-open m i k o = never (open-so p (f .name) (itemAt l i) o) (lowest-over (opensNameAt l p (f .name)) 64 i m k)
 
-    none-there : 64 ≤ entryOf (s .image) f 0 → (i : ℕ) → i < 64 → IsOpen p (f .name) (itemAt l i) → ⊥
+    none-there : entries kind ≤ entryOf kind (s .image) f 0 → (i : ℕ) → i < 64 → IsOpen p (f .name) (itemAt l i) → ⊥
     none-there gone i m o =
         let u : userOf l (itemAt l i .process) ≡ f .user = ap (λ (n : ℕ). userOf l n) (o .by) ∙ sym (caller-user p l (q .fcb)) in
-        let n = name-is (itemAt l i .name) (f .name) (shape-of p c b ok .names-long i m) (caller-long p l (q .fcb)) (o .named) in
+        let n = name-is (itemAt l i .name) (f .name) (shape-of kind p c b ok .names-long i m) (caller-long p l (q .fcb)) (o .named) in
         let e : fileOf l (itemAt l i) ≡ f = λ k. record { user = u k; name = n k } in
         ⊎-elim (λ (v : Vacant l i). let a = v .kind-zero in let d = o .kind-one in absurd (omega arith))
-        (λ (v : Used (s .image) l i). ⊎-elim
-        (λ (w : GoodOpen (s .image) l (itemAt l i)). let z : entryOf (s .image) f 0 < 64 = rw e at (w .there) in absurd (omega arith))
-        (λ (w : GoodLock (s .image) l (itemAt l i)). let a = w .kind-two in let d = o .kind-one in absurd (omega arith)) (v .good))
-        (list-of p c b ok .place i m)
+        (λ (v : Used kind (s .image) l i). ⊎-elim
+        (λ (w : GoodOpen kind (s .image) l (itemAt l i)). let z : entryOf kind (s .image) f 0 < entries kind = rw e at (w .there) in absurd (omega arith))
+        (λ (w : GoodLock kind (s .image) l (itemAt l i)). let a = w .kind-two in let d = o .kind-one in absurd (omega arith)) (v .good))
+        (list-of kind p c b ok .place i m)
 
     -- the caller's open is the only one of its name
     mode-only : openBy p b < 64 → (i : ℕ) → i < 64 → IsOpen p (f .name) (itemAt l i) → itemAt l i .mode ≡ modeBy p b
     mode-only m i k o =
-        let w = own-open (s .image) p c b ok (shape-of p c b ok) (list-of p c b ok) m in
-        let e = one-open l (s .image) i (openBy p b) p (f .name) (list-of p c b ok) k m (open-so _ _ _ o) (open-so _ _ _ w) in
+        let w = own-open kind (s .image) p c b ok (shape-of kind p c b ok) (list-of kind p c b ok) m in
+        let e = one-open kind l (s .image) i (openBy p b) p (f .name) (list-of kind p c b ok) k m (open-so _ _ _ o) (open-so _ _ _ w) in
         ap (λ (j : ℕ). itemAt l j .mode) e
 
     -- in modes 0 and 2 the caller holds no unlocked open ..
@@ -120,15 +122,15 @@ module _ (q : Ask) (s : State) (g : List Item) (t : Tally (unpack (s .list)) g) 
         let own = and-snd _ _ (and-snd _ _ (and-snd _ _ (and-snd _ _ d))) in
         let by : itemAt l i .process ≡ p = eqb-true _ _ (and-fst _ _ own) in
         ⊎-elim (λ (v : Vacant l i). let a = v .kind-zero in absurd (omega arith))
-        (λ (v : Used (s .image) l i). ⊎-elim
-        (λ (x : GoodOpen (s .image) l (itemAt l i)). let a = x .kind-one in absurd (omega arith))
-        (λ (x : GoodLock (s .image) l (itemAt l i)).
+        (λ (v : Used kind (s .image) l i). ⊎-elim
+        (λ (x : GoodOpen kind (s .image) l (itemAt l i)). let a = x .kind-one in absurd (omega arith))
+        (λ (x : GoodLock kind (s .image) l (itemAt l i)).
         let h = x .holder in
         let o = open-is _ _ (itemAt l (h .place)) (h .opens) in
         let mine : IsOpen p (f .name) (itemAt l (h .place)) =
         record { kind-one = o .kind-one; by = o .by ∙ by; named = name-then _ _ _ (o .named) (and-snd _ _ own) } in
         absurd (w .not-unlocked (sym (mode-only (w .is-open) (h .place) (h .below) mine) ∙ h .mode))) (v .good))
-        (list-of p c b ok .place i m))
+        (list-of kind p c b ok .place i m))
         (λ d. d) (either (isInRun p f (recordOf (q .fcb)) c (itemAt l i)))
 
   -- ---- after it
@@ -136,29 +138,29 @@ module _ (q : Ask) (s : State) (g : List Item) (t : Tally (unpack (s .list)) g) 
   abbrev Held : List ℕ → Deed → Type 0
   Held list d = Tally (unpack list) (holding d g)
 
-  opened-tally : (ok : Passed p c b) (mode : ℕ) (image : List ℕ) → SoundShape (opened p f mode l) image → freePlace l < l .capacity
+  opened-tally : (ok : Passed kind p c b) (mode : ℕ) (image : List ℕ) → SoundShape kind (opened p f mode l) image → freePlace l < l .capacity
       → isAmong (freshOpen p (f .name) mode) g ≡ false → Tally (unpack (pack (opened p f mode l))) (granting (freshOpen p (f .name) mode) g)
   opened-tally ok mode image w room none =
       let it = freshOpen p (f .name) mode in
-      let inside : freePlace l < 64 = let k = capacity-fits l (list-of p c b ok .limits) in omega arith in
-      let y = tally-set l (freePlace l) it (shape-of p c b ok) inside (free-room l room .empty) g t in
-      rw (unpacked (opened p f mode l) image (w .sound) (w .shape), granting-new it g none) (unfold opened placed in y)
+      let inside : freePlace l < 64 = let k = capacity-fits l (list-of kind p c b ok .limits) in omega arith in
+      let y = tally-set l (freePlace l) it (shape-of kind p c b ok) inside (free-room l room .empty) g t in
+      rw (unpacked kind (opened p f mode l) image (w .sound) (w .shape), granting-new it g none) (unfold opened placed in y)
 
-  pub held-step : (o : Outcome) → Leaf (q .function) p c b o → Tally (unpack (o .left .list)) (holding (deed (usersIn s) (event q (o .answer))) g)
+  pub held-step : (o : Outcome) → Leaf kind (q .function) p c b o → Tally (unpack (o .left .list)) (holding (deed (usersIn s) (event q (o .answer))) g)
   unfolding holding deedBy grantingRun closed unlockedRun terminated isBy _if_else_
   held-step o (refused code z) = rw (held-refused (usersIn s) q code g z) t
   held-step o (reopened k ok w fcb) =
       rw (deed-done (usersIn s) q _ k, file-meant q l, ← (w .same-mode), granting-held _ g (open-held ok (w .is-open))) t
   held-step o (newlyOpened k ok w fcb) =
       rw (deed-done (usersIn s) q _ k, file-meant q l)
-      (opened-tally ok (openMode (q .fcb)) (s .image) (opened-shape p c b ok w) (w .room) (open-unheld ok (openMode (q .fcb)) (none-open ok (w .unopened))))
+      (opened-tally ok (openMode (q .fcb)) (s .image) (opened-shape kind p c b ok w) (w .room) (open-unheld ok (openMode (q .fcb)) (none-open ok (w .unopened))))
   held-step o (newlyMade k ok w fcb) =
       rw (deed-done (usersIn s) q _ k, file-meant q l)
-      (opened-tally ok (makeMode (q .fcb)) _ (made-shape p c b ok w) (w .room) (open-unheld ok (makeMode (q .fcb)) (none-there ok (w .gone))))
+      (opened-tally ok (makeMode (q .fcb)) _ (made-shape kind p c b ok w) (w .room) (open-unheld ok (makeMode (q .fcb)) (none-there ok (w .gone))))
   held-step o (nowClosed k ok w) =
-      let h = closed-shape p c b ok in
-      rw (deed-done (usersIn s) q _ k, file-meant q l, unpacked (closed p f l) (s .image) (h .sound) (h .shape))
-      (tally-gone l (isOfFile p f) _ (close-empties p f) (shape-of p c b ok) g t)
+      let h = closed-shape kind p c b ok in
+      rw (deed-done (usersIn s) q _ k, file-meant q l, unpacked kind (closed p f l) (s .image) (h .sound) (h .shape))
+      (tally-gone l (isOfFile p f) _ (close-empties p f) (shape-of kind p c b ok) g t)
   held-step o (nowErased k ok w) = rw (deed-done (usersIn s) q _ k) t
   held-step o (nowRenamed k ok w) = rw (deed-done (usersIn s) q _ k) t
   held-step o (nowRead k ok dma) = rw (deed-done (usersIn s) q _ k) t
@@ -167,20 +169,20 @@ module _ (q : Ask) (s : State) (g : List Item) (t : Tally (unpack (s .list)) g) 
       (λ (e : chosen (q .function) ≡ Call WriteZeros). rw (deed-done (usersIn s) q _ e) t) k
   held-step o (nowRewritten k ok w some v full) = rw (deed-done (usersIn s) q _ k) t
   held-step o (nowLocked k ok w) =
-      let h = locked-shape p c b ok w in
+      let h = locked-shape kind p c b ok w in
       let m : isAmong (freshOpen p (f .name) 1) g ≡ true = rw (w .is-unlocked) at (open-held ok (w .is-open)) in
-      rw (deed-done (usersIn s) q _ k, file-meant q l, m, unpacked (lockedRun p f (recordOf (q .fcb)) c l) (s .image) (h .sound) (h .shape))
-      (unfold lockedRun in tally-run (s .image) l p f (recordOf (q .fcb)) c (shape-of p c b ok) (list-of p c b ok) (takes-of p c b ok w) g t c (omega arith))
+      rw (deed-done (usersIn s) q _ k, file-meant q l, m, unpacked kind (lockedRun p f (recordOf (q .fcb)) c l) (s .image) (h .sound) (h .shape))
+      (unfold lockedRun in tally-run kind (s .image) l p f (recordOf (q .fcb)) c (shape-of kind p c b ok) (list-of kind p c b ok) (takes-of kind p c b ok w) g t c (omega arith))
   held-step o (lockIdle k ok w) = rw (deed-done (usersIn s) q _ k, file-meant q l, not-unlocked ok w) t
   held-step o (nowUnlocked k ok w) =
-      let h = unlocked-shape p c b ok in
-      rw (deed-done (usersIn s) q _ k, file-meant q l, unpacked (unlockedRun p f (recordOf (q .fcb)) c l) (s .image) (h .sound) (h .shape))
-      (tally-gone l (isInRun p f (recordOf (q .fcb)) c) _ (unlock-empties p f (recordOf (q .fcb)) c) (shape-of p c b ok) g t)
+      let h = unlocked-shape kind p c b ok in
+      rw (deed-done (usersIn s) q _ k, file-meant q l, unpacked kind (unlockedRun p f (recordOf (q .fcb)) c l) (s .image) (h .sound) (h .shape))
+      (tally-gone l (isInRun p f (recordOf (q .fcb)) c) _ (unlock-empties p f (recordOf (q .fcb)) c) (shape-of kind p c b ok) g t)
   held-step o (unlockIdle k ok w) =
       rw (deed-done (usersIn s) q _ k, file-meant q l)
-      (tally-idle l (isInRun p f (recordOf (q .fcb)) c) _ (unlock-empties p f (recordOf (q .fcb)) c) (shape-of p c b ok) g t (no-locks ok w))
+      (tally-idle l (isInRun p f (recordOf (q .fcb)) c) _ (unlock-empties p f (recordOf (q .fcb)) c) (shape-of kind p c b ok) g t (no-locks ok w))
   held-step o (nowTold k ok dma) = rw (deed-done (usersIn s) q _ k) t
   held-step o (nowEnded k ok) =
-      let h = ended-shape p c b ok in
-      rw (deed-done (usersIn s) q _ k, unpacked (terminated p l) (s .image) (h .sound) (h .shape))
-      (tally-gone l _ (unlessBy p) (end-empties p) (shape-of p c b ok) g t)
+      let h = ended-shape kind p c b ok in
+      rw (deed-done (usersIn s) q _ k, unpacked kind (terminated p l) (s .image) (h .sound) (h .shape))
+      (tally-gone l _ (unlessBy p) (end-empties p) (shape-of kind p c b ok) g t)

@@ -11,10 +11,13 @@ use Rattle.words.specs.Tests.{_and_, _or_, any, count}
 use Rattle.words.proofs.Tests.{either, and-fst, and-snd, any-found, any-some, any-never, same-test}
 use Rattle.words.proofs.Counts.{count-ext, count-one, count-yes, count-not, count-zero}
 use Rattle.words.proofs.Sets.{and-both, and-left, not-of-false, count-none}
+use Rattle.rules.specs.declared.kind.Kind.{Kind}
+use Rattle.rules.specs.Kinds.{entries, numbers}
 use Rattle.rules.specs.Drive.{highest, blocks, mapNumber, holds, names, isUsed}
+use Rattle.rules.proofs.Sizes.{flat-entry, flat-place, flat-both, flat-below}
 use Rattle.rules.proofs.Sound.{Names, SoundImage}
-use Rattle.history.specs.Groups.{isNumbered, isInUse, blocksInUse}
-use Rattle.history.proofs.Positions.{numbered-names, names-flat, flat-entry, flat-place}
+use Rattle.history.specs.Groups.{isNumbered, isInUse, blocksInUse, allNumbers}
+use Rattle.history.proofs.Positions.{numbered-names, names-flat}
 
 -- ---- numbers m i below n, no two the same: each number is met once
 
@@ -64,40 +67,41 @@ module _ (m : ℕ → ℕ) (t : ℕ → Bool) (n : ℕ) (top : ℕ) where
 
 -- ---- the numbers in the maps of a sound image
 
-module _ (s : List ℕ) (g : SoundImage highest s) where
+module _ (kind : Kind) (s : List ℕ) (g : SoundImage kind highest s) where
   abbrev number : ℕ → ℕ
-  number i = mapNumber s (i / 16) (i % 16)
+  number i = mapNumber kind s (i / numbers kind) (i % numbers kind)
 
-  used-met : (b : ℕ) → 2 ≤ b → isUsed s b ≡ met number (isNumbered s) (blocks s) 1024 1024 b
+  used-met : (b : ℕ) → 2 ≤ b → isUsed kind s b ≡ met number (isNumbered kind s) (blocks kind s) (allNumbers kind) (allNumbers kind) b
   unfolding isUsed names holds met isNumbered
   used-met b l = same-test _ _
       (λ h.
-      let e = any-some (names s b) 64 h in
-      let k = any-some (holds s b (e .0)) 16 (and-snd _ _ (e .2)) in
-      let q : mapNumber s (e .0) (k .0) ≡ b = eqb-true _ _ (k .2) in
-      let m : e .0 < 64 = e .1 in
-      let j : k .0 < 16 = k .1 in
-      let n : Names s (e .0) (k .0) = record { entry-there = m; place-there = j; entry-used = not-true _ (and-fst _ _ (e .2)); some = λ (z : mapNumber s (e .0) (k .0) ≡ 0). absurd (omega arith) } in
-      any-found (λ (i : ℕ). isNumbered s i and eqb (number i) b) 1024 (16 * e .0 + k .0) (omega arith)
-      (and-both _ _ (names-flat s (e .0) (k .0) n) (rw (flat-entry (e .0) (k .0) j, flat-place (e .0) (k .0) j) (k .2))))
+      let e = any-some (names kind s b) (entries kind) h in
+      let k = any-some (holds kind s b (e .0)) (numbers kind) (and-snd _ _ (e .2)) in
+      let q : mapNumber kind s (e .0) (k .0) ≡ b = eqb-true _ _ (k .2) in
+      let m : e .0 < entries kind = e .1 in
+      let j : k .0 < numbers kind = k .1 in
+      let n : Names kind s (e .0) (k .0) =
+      record { entry-there = m; place-there = j; entry-used = not-true _ (and-fst _ _ (e .2)); some = λ (z : mapNumber kind s (e .0) (k .0) ≡ 0). absurd (omega arith) } in
+      any-found (λ (i : ℕ). isNumbered kind s i and eqb (number i) b) (allNumbers kind) (numbers kind * e .0 + k .0) (flat-below kind (e .0) (k .0) m j)
+      (and-both _ _ (names-flat kind s (e .0) (k .0) n) (rw (flat-entry kind (e .0) (k .0) j, flat-place kind (e .0) (k .0) j) (k .2))))
       (λ h.
-      let w = any-some (λ (i : ℕ). isNumbered s i and eqb (number i) b) 1024 h in
-      let n = numbered-names s (w .0) (w .1) (and-fst _ _ (w .2)) in
-      any-found (names s b) 64 (w .0 / 16) (n .entry-there)
-      (and-both _ _ (not-of-false _ (n .entry-used)) (any-found (holds s b (w .0 / 16)) 16 (w .0 % 16) (n .place-there) (and-snd _ _ (w .2)))))
+      let w = any-some (λ (i : ℕ). isNumbered kind s i and eqb (number i) b) (allNumbers kind) h in
+      let n = numbered-names kind s (w .0) (w .1) (and-fst _ _ (w .2)) in
+      any-found (names kind s b) (entries kind) (w .0 / numbers kind) (n .entry-there)
+      (and-both _ _ (not-of-false _ (n .entry-used))
+      (any-found (holds kind s b (w .0 / numbers kind)) (numbers kind) (w .0 % numbers kind) (n .place-there) (and-snd _ _ (w .2)))))
 
-  pub in-use : blocksInUse s ≡ count (isNumbered s) 1024
+  pub in-use : blocksInUse kind s ≡ count (isNumbered kind s) (allNumbers kind)
   unfolding blocksInUse isInUse
   in-use =
-      count-ext (isInUse s) (λ (b : ℕ). leb 2 b and met number (isNumbered s) (blocks s) 1024 1024 b) (blocks s)
+      count-ext (isInUse kind s) (λ (b : ℕ). leb 2 b and met number (isNumbered kind s) (blocks kind s) (allNumbers kind) (allNumbers kind) b) (blocks kind s)
       (λ b l. ⊎-elim
       (λ (q : leb 2 b ≡ true). ap (λ (x : Bool). leb 2 b and x) (used-met b (leb-true 2 b q)))
       (λ (q : leb 2 b ≡ false). and-left _ _ q ∙ sym (and-left _ _ q)) (either (leb 2 b)))
-      ∙ meets number (isNumbered s) (blocks s) 1024
-      (λ i l q. g .maps .range (i / 16) (i % 16) (numbered-names s i l q))
+      ∙ meets number (isNumbered kind s) (blocks kind s) (allNumbers kind)
+      (λ i l q. g .maps .range (i / numbers kind) (i % numbers kind) (numbered-names kind s i l q))
       (λ i j k l p q e.
-      let w = g .maps .once (i / 16) (i % 16) (j / 16) (j % 16) (numbered-names s i k p) (numbered-names s j l q) e in
-      let a : i / 16 ≡ j / 16 = w .0 in
-      let b : i % 16 ≡ j % 16 = w .1 in
-      omega arith)
-      1024 (omega arith)
+      let w = g .maps .once (i / numbers kind) (i % numbers kind) (j / numbers kind) (j % numbers kind) (numbered-names kind s i k p) (numbered-names kind s j l q) e in
+      sym (flat-both kind i) ∙ ap (λ (x : ℕ). numbers kind * x + i % numbers kind) (w .0)
+      ∙ ap (λ (x : ℕ). numbers kind * (j / numbers kind) + x) (w .1) ∙ flat-both kind j)
+      (allNumbers kind) (omega arith)

@@ -8,6 +8,7 @@ use native.Mathlib.Omega.{arith}
 use Rattle.words.specs.Tests.{_if_else_}
 use Rattle.words.specs.Lists.{turns}
 use Rattle.words.proofs.Tests.{either, never}
+use Rattle.rules.specs.declared.kind.Kind.{Kind}
 use Rattle.rules.specs.declared.file.File.{File}
 use Rattle.rules.specs.declared.item.Item.{Item}
 use Rattle.rules.specs.declared.list.LockList.{LockList}
@@ -22,7 +23,7 @@ use Rattle.history.specs.Held.{sameItem, grantingAt}
 use Rattle.history.proofs.Items.{alike-of, alike-so, granting-held, granting-new}
 use Rattle.history.proofs.Tallied.{Tally, held-listed, not-held, tally-set}
 
-module _ (l : LockList) (s : List ℕ) (g : SoundLocks l s) (p : ℕ) (f : File) (r : ℕ) (under : f .user ≡ userOf l p) where
+module _ (kind : Kind) (l : LockList) (s : List ℕ) (g : SoundLocks kind l s) (p : ℕ) (f : File) (r : ℕ) (under : f .user ≡ userOf l p) where
   -- a lock that the process holds stands in the list
   pub lock-listed : held l p f r ≡ true → (i : ℕ) × (i < 64) × (sameItem (freshLock p (f .name) r) (itemAt l i) ≡ true)
   lock-listed h =
@@ -30,7 +31,8 @@ module _ (l : LockList) (s : List ℕ) (g : SoundLocks l s) (p : ℕ) (f : File)
       let w = x .3 in
       let one : itemAt l (x .0) .mode ≡ 1 =
       ⊎-elim (λ (v : Vacant l (x .0)). let z = v .kind-zero in let y = w .kind-two in absurd (omega arith))
-      (λ (v : Used s l (x .0)). ⊎-elim (λ (o : GoodOpen s l (itemAt l (x .0))). let z = o .kind-one in let y = w .kind-two in absurd (omega arith)) (λ (o : GoodLock s l (itemAt l (x .0))). o .mode-one) (v .good))
+      (λ (v : Used kind s l (x .0)). ⊎-elim (λ (o : GoodOpen kind s l (itemAt l (x .0))). let z = o .kind-one in let y = w .kind-two in absurd (omega arith))
+      (λ (o : GoodLock kind s l (itemAt l (x .0))). o .mode-one) (v .good))
       (g .place (x .0) (x .1)) in
       (x .0, x .1, alike-so (freshLock p (f .name) r) (itemAt l (x .0)) (record { kinds = sym (w .kind-two); processes = sym (x .2); names = name-sym _ _ (w .named); modes = sym one; numbers = sym (w .number) }))
 
@@ -44,8 +46,10 @@ module _ (l : LockList) (s : List ℕ) (g : SoundLocks l s) (p : ℕ) (f : File)
         named = name-sym (f .name) (itemAt l i .name) (w .names);
       })
 
-module _ (s : List ℕ) (l₀ : LockList) (p : ℕ) (f : File) (r n : ℕ) (h₀ : Shape l₀) (g₀ : SoundLocks l₀ s) (t : Takes s l₀ p f r n) (g : List Item) (y : Tally l₀ g) where
-  one-more : (k : ℕ) → k < n → (w : Running s l₀ p f r k) (items : List Item) → Tally (withItems l₀ (w .items)) items → Tally (lockedAt p f r k (withItems l₀ (w .items))) (grantingAt p (f .name) r k items)
+module _ (kind : Kind) (s : List ℕ) (l₀ : LockList) (p : ℕ) (f : File) (r n : ℕ) (h₀ : Shape l₀) (g₀ : SoundLocks kind l₀ s) (t : Takes kind s l₀ p f r n)
+    (g : List Item) (y : Tally l₀ g) where
+  one-more : (k : ℕ) → k < n → (w : Running kind s l₀ p f r k) (items : List Item) → Tally (withItems l₀ (w .items)) items
+      → Tally (lockedAt p f r k (withItems l₀ (w .items))) (grantingAt p (f .name) r k items)
   unfolding lockedAt grantingAt placed _if_else_
   one-more k m w items z =
       let l = withItems l₀ (w .items) in
@@ -53,14 +57,14 @@ module _ (s : List ℕ) (l₀ : LockList) (p : ℕ) (f : File) (r n : ℕ) (h₀
       let some : it .kind ≡ 0 → ⊥ = λ (q : _≡_ {A = ℕ} 2 0). absurd (omega arith) in
       ⊎-elim
       (λ (q : held l p f (r + k) ≡ true).
-      let x = lock-listed l s (w .sound) p f (r + k) (t .under) q in
+      let x = lock-listed kind l s (w .sound) p f (r + k) (t .under) q in
       rw (q, granting-held it items (held-listed l items z it some (x .0) (x .1) (x .2))) z)
       (λ (q : held l p f (r + k) ≡ false).
-      let room = run-room s l₀ p f r n h₀ g₀ t k m w q in
+      let room = run-room kind s l₀ p f r n h₀ g₀ t k m w q in
       let e = free-room l room in
       let inside : freePlace l < 64 = let c = capacity-fits l (w .sound .limits) in omega arith in
       let none : (i : ℕ) → i < 64 → sameItem it (itemAt l i) ≡ false = λ i v. ⊎-elim
-      (λ (d : sameItem it (itemAt l i) ≡ true). absurd (never (listed-lock l s (w .sound) p f (r + k) (t .under) i v d) q)) (λ d. d) (either (sameItem it (itemAt l i))) in
+      (λ (d : sameItem it (itemAt l i) ≡ true). absurd (never (listed-lock kind l s (w .sound) p f (r + k) (t .under) i v d) q)) (λ d. d) (either (sameItem it (itemAt l i))) in
       rw (q, granting-new it items (not-held l items z it some none)) (tally-set l (freePlace l) it (w .shape) inside (e .empty) items z))
       (either (held l p f (r + k)))
 
@@ -68,6 +72,6 @@ module _ (s : List ℕ) (l₀ : LockList) (p : ℕ) (f : File) (r n : ℕ) (h₀
   unfolding turns
   tally-run zero m = y
   tally-run (suc k) m =
-      let w = running s l₀ p f r n h₀ g₀ t k (omega arith) in
+      let w = running kind s l₀ p f r n h₀ g₀ t k (omega arith) in
       let z = tally-run k (omega arith) in
       rw (w .is) (one-more k (omega arith) w _ (rw (w .is) at z))

@@ -1,4 +1,4 @@
--- The block numbers of all the maps, sixteen to an entry, and the groups that they are of. Assumes nothing.
+-- The block numbers of all the maps, sixteen or eight to an entry, and the groups that they are of. Assumes nothing.
 use Prim.Native.Nat.{ℕ, zero, suc, _+_, _*_, _/_, _%_, _≤_, _<_}
 use mathlib.Core.Path.{_≡_, refl, sym, ap, _∙_}
 use mathlib.Core.Bool.{Bool, true, false}
@@ -11,75 +11,71 @@ use Rattle.words.specs.Tests.{_and_, _or_, _if_else_, count}
 use Rattle.words.proofs.Tests.{either, never, and-fst, and-snd, any-found, any-some, same-test}
 use Rattle.words.proofs.Sets.{and-both, not-of-false}
 use Rattle.words.proofs.Counts.{any-count, count-any}
+use Rattle.rules.specs.declared.kind.Kind.{Kind}
+use Rattle.rules.specs.Kinds.{blockRecords, numbers}
 use Rattle.rules.specs.declared.file.File.{File}
 use Rattle.rules.specs.Drive.{highest, fileAt, extentAt, mapNumber, mapPlace}
 use Rattle.rules.specs.Locks.{sameFile}
+use Rattle.rules.proofs.Sizes.{place-fits, flat-entry, flat-place, flat-short, flat-there, flat-below, flat-group}
 use Rattle.rules.proofs.Sound.{Is, Names, SoundImage, file-long}
 use Rattle.rules.proofs.Items.{file-is, file-refl}
 use Rattle.soundness.proofs.Blocks.{At, at-of, of-at, at-names}
 use Rattle.history.specs.Held.{tally}
-use Rattle.history.specs.Groups.{Group, group, sameGroup, isCounted, hasBlock, isNumbered, groupAt, groupsBelow, groupsOf}
+use Rattle.history.specs.Groups.{Group, group, sameGroup, isCounted, hasBlock, isNumbered, groupAt, groupsBelow, groupsOf, allNumbers}
 
--- ---- place k of entry e, and place 16·e + k of all
+-- ---- place k of entry e, and place numbers·e + k of all
 
-pub numbered-names : (s : List ℕ) (i : ℕ) → i < 1024 → isNumbered s i ≡ true → Names s (i / 16) (i % 16)
+pub numbered-names : (kind : Kind) (s : List ℕ) (i : ℕ) → i < allNumbers kind → isNumbered kind s i ≡ true → Names kind s (i / numbers kind) (i % numbers kind)
 unfolding isNumbered
-numbered-names s i m h = record {
-  entry-there = omega arith;
-  place-there = omega arith;
+numbered-names kind s i m h = record {
+  entry-there = flat-there kind i m;
+  place-there = flat-short kind i;
   entry-used = not-true _ (and-fst _ _ h);
   some = eqb-false _ _ (not-true _ (and-snd _ _ h));
 }
 
-pub names-numbered : (s : List ℕ) (i : ℕ) → Names s (i / 16) (i % 16) → isNumbered s i ≡ true
+pub names-numbered : (kind : Kind) (s : List ℕ) (i : ℕ) → Names kind s (i / numbers kind) (i % numbers kind) → isNumbered kind s i ≡ true
 unfolding isNumbered
-names-numbered s i n = and-both _ _ (not-of-false _ (n .entry-used)) (not-of-false _ (ne-eqb _ _ (n .some)))
+names-numbered kind s i n = and-both _ _ (not-of-false _ (n .entry-used)) (not-of-false _ (ne-eqb _ _ (n .some)))
 
-module _ (e k : ℕ) (l : k < 16) where
-  pub flat-entry : (16 * e + k) / 16 ≡ e
-  flat-entry = omega arith
-
-  pub flat-place : (16 * e + k) % 16 ≡ k
-  flat-place = omega arith
-
-pub names-flat : (s : List ℕ) (e k : ℕ) → Names s e k → isNumbered s (16 * e + k) ≡ true
-names-flat s e k n =
-    names-numbered s (16 * e + k) (rw (flat-entry e k (n .place-there), flat-place e k (n .place-there)) n)
+pub names-flat : (kind : Kind) (s : List ℕ) (e k : ℕ) → Names kind s e k → isNumbered kind s (numbers kind * e + k) ≡ true
+names-flat kind s e k n =
+    names-numbered kind s (numbers kind * e + k) (rw (flat-entry kind e k (n .place-there), flat-place kind e k (n .place-there)) n)
 
 -- ---- groups
 
 pub record Likewise (x y : Group) : Type 0 where
-  pub eights : x .eight ≡ y .eight
+  pub number-same : x .number ≡ y .number
   pub files : sameFile (x .file) (y .file) ≡ true
 
 pub likewise-of : (x y : Group) → sameGroup x y ≡ true → Likewise x y
 unfolding sameGroup
-likewise-of x y h = record { eights = eqb-true _ _ (and-fst _ _ h); files = and-snd _ _ h }
+likewise-of x y h = record { number-same = eqb-true _ _ (and-fst _ _ h); files = and-snd _ _ h }
 
 pub likewise-so : (x y : Group) → Likewise x y → sameGroup x y ≡ true
 unfolding sameGroup
-likewise-so x y h = and-both _ _ (eq-eqb _ _ (h .eights)) (h .files)
+likewise-so x y h = and-both _ _ (eq-eqb _ _ (h .number-same)) (h .files)
 
 -- place i holds a number, and the group that it is of passes
-unfoldable pub holdsGroup : (Group → Bool) → List ℕ → ℕ → Bool
-holdsGroup test s i = isNumbered s i and test (groupAt s i)
+unfoldable pub holdsGroup : Kind → (Group → Bool) → List ℕ → ℕ → Bool
+holdsGroup kind test s i = isNumbered kind s i and test (groupAt kind s i)
 
 -- as many groups on the image pass a test as in the list
-pub record Counted (s : List ℕ) (g : List Group) : Type 0 where
-  pub as-many : (test : Group → Bool) → count (holdsGroup test s) 1024 ≡ tally test g
+pub record Counted (kind : Kind) (s : List ℕ) (g : List Group) : Type 0 where
+  pub as-many : (test : Group → Bool) → count (holdsGroup kind test s) (allNumbers kind) ≡ tally test g
 
-below-many : (s : List ℕ) (test : Group → Bool) (n : ℕ) → count (holdsGroup test s) n ≡ tally test (groupsBelow s n)
+below-many : (kind : Kind) (s : List ℕ) (test : Group → Bool) (n : ℕ) → count (holdsGroup kind test s) n ≡ tally test (groupsBelow kind s n)
 unfolding count holdsGroup groupsBelow tally _if_else_ _and_
-below-many s test zero = refl
-below-many s test (suc n) =
-    let k = below-many s test n in
+below-many kind s test zero = refl
+below-many kind s test (suc n) =
+    let k = below-many kind s test n in
     ⊎-elim
-    (λ (q : isNumbered s n ≡ true). rw q (ap (λ (m : ℕ). m + (1 if test (groupAt s n) else 0)) k))
-    (λ (q : isNumbered s n ≡ false). rw q (omega arith)) (either (isNumbered s n))
+    (λ (q : isNumbered kind s n ≡ true). rw q (ap (λ (m : ℕ). m + (1 if test (groupAt kind s n) else 0)) k))
+    (λ (q : isNumbered kind s n ≡ false). rw q (omega arith)) (either (isNumbered kind s n))
 
-pub start-counted : (s : List ℕ) → Counted s (groupsOf s)
+pub start-counted : (kind : Kind) (s : List ℕ) → Counted kind s (groupsOf kind s)
 unfolding groupsOf
-start-counted s = record { as-many = λ test. below-many s test 1024 }
+start-counted kind s = record { as-many = λ test. below-many kind s test (allNumbers kind) }
 
 -- ---- among the groups
 
@@ -103,60 +99,66 @@ tally-counted x (y ∷ ys) h =
 -- ---- a group that the history counts has a block, and the other way round
 
 -- the group of a record's number
-pub at-group : (s : List ℕ) (f : File) (r n e : ℕ) → Is s f (r / 128) e → n ≡ mapPlace r → n < 16 → groupAt s (16 * e + n) ≡ group f (r / 8)
+pub at-group : (kind : Kind) (s : List ℕ) (f : File) (r n e : ℕ) → Is s f (r / 128) e → n ≡ mapPlace kind r → n < numbers kind
+    → groupAt kind s (numbers kind * e + n) ≡ group f (r / blockRecords kind)
 unfolding groupAt
-at-group s f r n e w h l =
-    let x : extentAt s e ≡ r / 128 = w .extent in
-    let y : 16 * (r / 128) + r % 128 / 8 ≡ r / 8 = omega arith in
-    rw (flat-entry e n l, flat-place e n l) (λ i. record { file = w .file i; eight = (ap (λ (m : ℕ). 16 * m + n) x ∙ ap (λ (m : ℕ). 16 * (r / 128) + m) h ∙ y) i })
+at-group kind s f r n e w h l =
+    let x : numbers kind * extentAt s e + n ≡ r / blockRecords kind =
+    ap (λ (m : ℕ). numbers kind * m + n) (w .extent) ∙ ap (λ (m : ℕ). numbers kind * (r / 128) + m) h ∙ flat-group kind r in
+    rw (flat-entry kind e n l, flat-place kind e n l) (λ i. record { file = w .file i; number = x i })
 
-module _ (s : List ℕ) (g : List Group) (c : Counted s g) where
-  pub place-counted : (x : Group) (i : ℕ) → i < 1024 → isNumbered s i ≡ true → sameGroup x (groupAt s i) ≡ true → isCounted x g ≡ true
+module _ (kind : Kind) (s : List ℕ) (g : List Group) (c : Counted kind s g) where
+  pub place-counted : (x : Group) (i : ℕ) → i < allNumbers kind → isNumbered kind s i ≡ true → sameGroup x (groupAt kind s i) ≡ true → isCounted x g ≡ true
   unfolding holdsGroup
   place-counted x i m h k =
-      let w = any-count (holdsGroup (sameGroup x) s) 1024 (any-found (holdsGroup (sameGroup x) s) 1024 i m (and-both _ _ h k)) in
+      let w = any-count (holdsGroup kind (sameGroup x) s) (allNumbers kind) (any-found (holdsGroup kind (sameGroup x) s) (allNumbers kind) i m (and-both _ _ h k)) in
       tally-counted x g (rw (c .as-many (sameGroup x)) at w)
 
-  pub counted-place : (x : Group) → isCounted x g ≡ true → (i : ℕ) × (i < 1024) × (isNumbered s i ≡ true) × (sameGroup x (groupAt s i) ≡ true)
+  pub counted-place : (x : Group) → isCounted x g ≡ true → (i : ℕ) × (i < allNumbers kind) × (isNumbered kind s i ≡ true) × (sameGroup x (groupAt kind s i) ≡ true)
   unfolding holdsGroup
   counted-place x h =
-      let w = any-some (holdsGroup (sameGroup x) s) 1024 (count-any (holdsGroup (sameGroup x) s) 1024 (rw (c .as-many (sameGroup x)) (counted-tally x g h))) in
+      let w = any-some (holdsGroup kind (sameGroup x) s) (allNumbers kind)
+      (count-any (holdsGroup kind (sameGroup x) s) (allNumbers kind) (rw (c .as-many (sameGroup x)) (counted-tally x g h))) in
       (w .0, w .1, and-fst _ _ (w .2), and-snd _ _ (w .2))
 
   -- the record r of file f is in that group
-  pub counted-at : (f : File) (r : ℕ) → length (f .name) ≡ 11 → isCounted (group f (r / 8)) g ≡ true → (b : ℕ) × At s f r b
+  pub counted-at : (f : File) (r : ℕ) → length (f .name) ≡ 11 → isCounted (group f (r / blockRecords kind)) g ≡ true → (b : ℕ) × At kind s f r b
   unfolding groupAt
   counted-at f r l h =
-      let w = counted-place (group f (r / 8)) h in
+      let w = counted-place (group f (r / blockRecords kind)) h in
       let i = w .0 in
-      let n = numbered-names s i (w .1) (w .2) in
-      let k = likewise-of (group f (r / 8)) (groupAt s i) (w .3) in
-      let e : fileAt s (i / 16) ≡ f = sym (file-is f (fileAt s (i / 16)) l (file-long s (i / 16)) (k .files)) in
-      let x : r / 8 ≡ 16 * extentAt s (i / 16) + i % 16 = k .eights in
-      let y : mapPlace r ≡ i % 16 = omega arith in (
-        mapNumber s (i / 16) (i % 16),
+      let n = numbered-names kind s i (w .1) (w .2) in
+      let k = likewise-of (group f (r / blockRecords kind)) (groupAt kind s i) (w .3) in
+      let e : fileAt s (i / numbers kind) ≡ f = sym (file-is f (fileAt s (i / numbers kind)) l (file-long s (i / numbers kind)) (k .files)) in
+      let m = i % numbers kind in
+      let x : numbers kind * (r / 128) + mapPlace kind r ≡ numbers kind * extentAt s (i / numbers kind) + m = flat-group kind r ∙ k .number-same in
+      let d : r / 128 ≡ extentAt s (i / numbers kind) =
+      sym (flat-entry kind (r / 128) (mapPlace kind r) (place-fits kind r)) ∙ ap (λ (j : ℕ). j / numbers kind) x ∙ flat-entry kind _ m (n .place-there) in
+      let y : mapPlace kind r ≡ m =
+      sym (flat-place kind (r / 128) (mapPlace kind r) (place-fits kind r)) ∙ ap (λ (j : ℕ). j % numbers kind) x ∙ flat-place kind _ m (n .place-there) in (
+        mapNumber kind s (i / numbers kind) m,
         record {
-          entry = i / 16;
+          entry = i / numbers kind;
           below = n .entry-there;
-          is = record { used = n .entry-used; file = e; extent = omega arith };
-          number = ap (λ (m : ℕ). mapNumber s (i / 16) m) y;
+          is = record { used = n .entry-used; file = e; extent = sym d };
+          number = ap (λ (j : ℕ). mapNumber kind s (i / numbers kind) j) y;
           some = n .some;
         },
       )
 
-  pub at-counted : (f : File) (r b : ℕ) → At s f r b → isCounted (group f (r / 8)) g ≡ true
+  pub at-counted : (f : File) (r b : ℕ) → At kind s f r b → isCounted (group f (r / blockRecords kind)) g ≡ true
   at-counted f r b a =
-      let n = at-names s f r b a in
-      let m = n .entry-there in
+      let n = at-names kind s f r b a in
       let l = n .place-there in
-      place-counted (group f (r / 8)) (16 * a .entry + mapPlace r) (omega arith) (names-flat s (a .entry) (mapPlace r) n)
-      (rw (at-group s f r (mapPlace r) (a .entry) (a .is) refl l) (likewise-so (group f (r / 8)) (group f (r / 8)) (record { eights = refl; files = file-refl f })))
+      let x = group f (r / blockRecords kind) in
+      place-counted x (numbers kind * a .entry + mapPlace kind r) (flat-below kind _ _ (n .entry-there) l) (names-flat kind s (a .entry) (mapPlace kind r) n)
+      (rw (at-group kind s f r (mapPlace kind r) (a .entry) (a .is) refl l) (likewise-so x x (record { number-same = refl; files = file-refl f })))
 
-  pub each-counted : SoundImage highest s → (f : File) (r : ℕ) → length (f .name) ≡ 11 → hasBlock s f r ≡ isCounted (group f (r / 8)) g
+  pub each-counted : SoundImage kind highest s → (f : File) (r : ℕ) → length (f .name) ≡ 11 → hasBlock kind s f r ≡ isCounted (group f (r / blockRecords kind)) g
   unfolding hasBlock
   each-counted w f r l =
       same-test _ _
-      (λ h. at-counted f r _ (at-of s f r l (eqb-false _ _ (not-true _ h))))
+      (λ h. at-counted f r _ (at-of kind s f r l (eqb-false _ _ (not-true _ h))))
       (λ h.
       let a = counted-at f r l h in
-      not-of-false _ (ne-eqb _ _ (λ z. a .1 .some (sym (of-at s f r (a .0) l w (a .1)) ∙ z))))
+      not-of-false _ (ne-eqb _ _ (λ z. a .1 .some (sym (of-at kind s f r (a .0) l w (a .1)) ∙ z))))

@@ -7,6 +7,7 @@ use native.Mathlib.Omega.{arith}
 use lib.ListN.{length}
 use Rattle.words.proofs.Tests.{any-never}
 use Rattle.words.proofs.Counts.{count-zero}
+use Rattle.rules.specs.declared.kind.Kind.{Kind}
 use Rattle.rules.specs.declared.item.Item.{Item}
 use Rattle.rules.specs.declared.list.LockList.{LockList}
 use Rattle.rules.specs.Serves.{Outcome}
@@ -31,54 +32,54 @@ use Rattle.history.proofs.Grouping.{count-step}
 use Rattle.history.proofs.Frame.{list-framed, image-framed}
 
 -- what holds between calls
-pub record Inv (g : Begun) (s : State) (items : List Item) (groups : List Group) : Type 0 where
-  pub both : SoundBoth (s .list) (s .image)
+pub record Inv (kind : Kind) (g : Begun kind) (s : State) (items : List Item) (groups : List Group) : Type 0 where
+  pub both : SoundBoth kind (s .list) (s .image)
   pub users : usersIn s ≡ g .users
   pub capacity : unpack (s .list) .capacity ≡ g .capacity
   pub long : length (s .image) ≡ length (g .image)
   pub tallied : Tally (unpack (s .list)) items
   pub once : Once items
   pub solid : Solid items
-  pub counted : Counted (s .image) groups
+  pub counted : Counted kind (s .image) groups
 
-module _ (g : Begun) where
-  begun-tally : Tally (unpack (firstState g .list)) []
+module _ (kind : Kind) (g : Begun kind) where
+  begun-tally : Tally (unpack (firstState kind g .list)) []
   unfolding passesAt tally
-  begun-tally = rw (begun-list g) (record {
-    as-many = λ test w. count-zero (passesAt test (first g)) 64 (any-never (passesAt test (first g)) 64 (λ i m. w .not-empty _ (begun-empty g i m)));
+  begun-tally = rw (begun-list kind g) (record {
+    as-many = λ test w. count-zero (passesAt test (first kind g)) 64 (any-never (passesAt test (first kind g)) 64 (λ i m. w .not-empty _ (begun-empty kind g i m)));
   })
 
-  pub begun-inv : Inv g (firstState g) [] (groupsOf (g .image))
+  pub begun-inv : Inv kind g (firstState kind g) [] (groupsOf kind (g .image))
   unfolding tally
   begun-inv = record {
-    both = begun-sound g;
-    users = ap (λ (l : LockList). l .users) (begun-list g);
-    capacity = ap (λ (l : LockList). l .capacity) (begun-list g);
+    both = begun-sound kind g;
+    users = ap (λ (l : LockList). l .users) (begun-list kind g);
+    capacity = ap (λ (l : LockList). l .capacity) (begun-list kind g);
     long = refl;
     tallied = begun-tally;
     once = record { once = λ x. omega arith };
     solid = record { none = refl };
-    counted = start-counted (g .image);
+    counted = start-counted kind (g .image);
   }
 
   -- one plain call, of 33, 34 and 40 with count 1
-  pub step-inv : (q : Ask) (s : State) (items : List Item) (groups : List Group) → Inv g s items groups → (servesRun (q .function) ≡ true → q .run ≡ 1)
-      → Inv g (kept (outcomeOf call q s)) (holding (deed (g .users) (event q (outcomeOf call q s .answer))) items)
-      (counting (deed (g .users) (event q (outcomeOf call q s .answer))) groups)
+  pub step-inv : (q : Ask) (s : State) (items : List Item) (groups : List Group) → Inv kind g s items groups → (servesRun (q .function) ≡ true → q .run ≡ 1)
+      → Inv kind g (kept (outcomeOf (call kind) q s)) (holding (deed (g .users) (event q (outcomeOf (call kind) q s .answer))) items)
+      (counting kind (deed (g .users) (event q (outcomeOf (call kind) q s .answer))) groups)
   unfolding outcomeOf
   step-inv q s items groups i one =
-      let o : Outcome = call (q .function) (q .process) (q .run) (lent q s) in
-      let w = walk (q .function) (q .process) (q .run) (lent q s) in
-      let f = list-framed (q .function) (q .process) (q .run) (lent q s) o w in
+      let o : Outcome = call kind (q .function) (q .process) (q .run) (lent q s) in
+      let w = walk kind (q .function) (q .process) (q .run) (lent q s) in
+      let f = list-framed kind (q .function) (q .process) (q .run) (lent q s) o w in
       record {
-        both = call-sound (q .function) (q .process) (q .run) (lent q s) (i .both);
+        both = call-sound kind (q .function) (q .process) (q .run) (lent q s) (i .both);
         users = f .users ∙ i .users;
         capacity = f .capacities ∙ i .capacity;
-        long = image-framed (q .function) (q .process) (q .run) (lent q s) o w ∙ i .long;
+        long = image-framed kind (q .function) (q .process) (q .run) (lent q s) o w ∙ i .long;
         tallied = subst (λ (us : List ℕ). Tally (unpack (o .left .list)) (holding (deed us (event q (o .answer))) items)) (i .users)
-            (held-step q s items (i .tallied) o w);
+            (held-step kind q s items (i .tallied) o w);
         once = once-holding _ items (i .once);
         solid = solid-holding _ items (i .solid);
-        counted = subst (λ (us : List ℕ). Counted (o .left .image) (counting (deed us (event q (o .answer))) groups)) (i .users)
-            (count-step q s groups (i .counted) one o (answer-low (q .function) (q .process) (q .run) (lent q s)) w);
+        counted = subst (λ (us : List ℕ). Counted kind (o .left .image) (counting kind (deed us (event q (o .answer))) groups)) (i .users)
+            (count-step kind q s groups (i .counted) one o (answer-low kind (q .function) (q .process) (q .run) (lent q s)) w);
       }

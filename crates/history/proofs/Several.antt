@@ -10,6 +10,7 @@ use Rattle.words.specs.Lists.{turns}
 use Rattle.words.specs.Bytes.{byte}
 use Rattle.words.specs.Tables.{_∕_}
 use Rattle.words.proofs.Tables.{zero-none}
+use Rattle.rules.specs.declared.kind.Kind.{Kind}
 use Rattle.rules.specs.declared.item.Item.{Item}
 use Rattle.rules.specs.declared.routine.Chosen.{Chosen}
 use Rattle.rules.specs.Serves.{Buffers, chosen}
@@ -65,24 +66,24 @@ held-run k isWrite users q g = refl
 held-run k isZeros users q g = refl
 
 -- .. and counts record by record
-count-none : (k : Chosen) → Runs k → (users : List ℕ) (q : Ask) (g : List Group) → counting (deedBy k users (ofRun 0 q)) g ≡ g
+count-none : (kind : Kind) (k : Chosen) → Runs k → (users : List ℕ) (q : Ask) (g : List Group) → counting kind (deedBy k users (ofRun 0 q)) g ≡ g
 unfolding counting deedBy touchingRun turns
-count-none k isRead users q g = refl
-count-none k isWrite users q g = refl
-count-none k isZeros users q g = refl
+count-none kind k isRead users q g = refl
+count-none kind k isWrite users q g = refl
+count-none kind k isZeros users q g = refl
 
-module _ (users : List ℕ) (q : Ask) (i : ℕ) (b : Buffers) (g : List Group) (long : length (q .fcb) ≡ 36) (same : b .fcb ≡ q .fcb) where
+module _ (kind : Kind) (users : List ℕ) (q : Ask) (i : ℕ) (b : Buffers) (g : List Group) (long : length (q .fcb) ≡ 36) (same : b .fcb ≡ q .fcb) where
   abbrev touchedTo : ℕ → List Group
-  touchedTo k = touchingRun (fileBy users q) (recordOf (q .fcb)) k g
+  touchedTo k = touchingRun kind (fileBy users q) (recordOf (q .fcb)) k g
 
-  touched-more : touchingRun (fileBy users (askAt q i b)) (recordOf (fcbAt i (b .fcb))) 1 (touchedTo i) ≡ touchedTo (suc i)
+  touched-more : touchingRun kind (fileBy users (askAt q i b)) (recordOf (fcbAt i (b .fcb))) 1 (touchedTo i) ≡ touchedTo (suc i)
   unfolding fileBy
   touched-more =
       rw (same, fcb-number i (q .fcb) long, fcb-from i (q .fcb) long (byte users (q .process)))
-      (touching-more (fileBy users q) (recordOf (q .fcb)) i g)
+      (touching-more kind (fileBy users q) (recordOf (q .fcb)) i g)
 
   count-more : (k : Chosen) → Runs k
-      → counting (deedBy k users (askAt q i b)) (counting (deedBy k users (ofRun i q)) g) ≡ counting (deedBy k users (ofRun (suc i) q)) g
+      → counting kind (deedBy k users (askAt q i b)) (counting kind (deedBy k users (ofRun i q)) g) ≡ counting kind (deedBy k users (ofRun (suc i) q)) g
   unfolding counting deedBy fileBy
   count-more k isRead = refl
   count-more k isWrite = touched-more
@@ -90,7 +91,7 @@ module _ (users : List ℕ) (q : Ask) (i : ℕ) (b : Buffers) (g : List Group) (
 
 -- ---- from record to record
 
-module _ (g : Begun) (q : Ask) (s : State) (items : List Item) (groups : List Group) (i₀ : Inv g s items groups) where
+module _ (kind : Kind) (g : Begun kind) (q : Ask) (s : State) (items : List Item) (groups : List Group) (i₀ : Inv kind g s items groups) where
   abbrev n : ℕ
   n = q .function
 
@@ -102,28 +103,28 @@ module _ (g : Begun) (q : Ask) (s : State) (items : List Item) (groups : List Gr
   deedTo i = deedBy (chosen n) (g .users) (ofRun i q)
 
   module _ (h : servesRun n ≡ true) (long : length (q .fcb) ≡ 36) where
-    one-more : (i : ℕ) (b : Buffers) → b .fcb ≡ q .fcb → call n p 1 (single i b) .answer ≡ 0 → Inv g (stateIn b) items (counting (deedTo i) groups)
-        → Inv g (stateIn (call n p 1 (single i b) .left)) items (counting (deedTo (suc i)) groups)
+    one-more : (i : ℕ) (b : Buffers) → b .fcb ≡ q .fcb → call kind n p 1 (single i b) .answer ≡ 0 → Inv kind g (stateIn b) items (counting kind (deedTo i) groups)
+        → Inv kind g (stateIn (call kind n p 1 (single i b) .left)) items (counting kind (deedTo (suc i)) groups)
     unfolding single outcomeOf
     one-more i b same z w =
         let d = deed-done (g .users) (askAt q i b) (chosen n) refl in
         let k = run-chosen n h in
-        rw (z, d, held-run (chosen n) k (g .users) (askAt q i b) items, count-more (g .users) q i b groups long same (chosen n) k)
-        at (step-inv g (askAt q i b) (stateIn b) items (counting (deedTo i) groups) w (λ y. refl))
+        rw (z, d, held-run (chosen n) k (g .users) (askAt q i b) items, count-more kind (g .users) q i b groups long same (chosen n) k)
+        at (step-inv kind g (askAt q i b) (stateIn b) items (counting kind (deedTo i) groups) w (λ y. refl))
 
-    inv-to : (c : ℕ) (x : Run) → Steps n p (lent q s) c x → (x .left .fcb ≡ q .fcb) × Inv g (stateIn (x .left)) items (counting (deedTo (x .done)) groups)
+    inv-to : (c : ℕ) (x : Run) → Steps kind n p (lent q s) c x → (x .left .fcb ≡ q .fcb) × Inv kind g (stateIn (x .left)) items (counting kind (deedTo (x .done)) groups)
     unfolding backAt
-    inv-to c x begun = (refl, rw (count-none (chosen n) (run-chosen n h) (g .users) q groups) i₀)
+    inv-to c x begun = (refl, rw (count-none kind (chosen n) (run-chosen n h) (g .users) q groups) i₀)
     inv-to c x (done i b w z) =
         let k = inv-to i (run 0 i b) w in
-        (k .0, one-more i b (k .0) (answer-is n p 1 (single i b) ∙ z) (k .1))
+        (k .0, one-more i b (k .0) (answer-is kind n p 1 (single i b) ∙ z) (k .1))
     inv-to c x (stopped i b w z) = inv-to i (run 0 i b) w
     inv-to c x (idle i y w z) = inv-to i y w
 
     -- what each plain call of the process keeps, and two that follow each other keep together, the records done keep
     each-to : (R : State → State → Type 0) → R s s → ((t v : State) → R s t → R t v → R s v)
-        → ((a : Ask) (t : State) (gs : List Group) → a .process ≡ p → Inv g t items gs → R t (kept (outcomeOf call a t)))
-        → (c : ℕ) (x : Run) → Steps n p (lent q s) c x → R s (stateIn (x .left))
+        → ((a : Ask) (t : State) (gs : List Group) → a .process ≡ p → Inv kind g t items gs → R t (kept (outcomeOf (call kind) a t)))
+        → (c : ℕ) (x : Run) → Steps kind n p (lent q s) c x → R s (stateIn (x .left))
     unfolding single backAt outcomeOf
     each-to R none join one c x begun = none
     each-to R none join one c x (done i b w z) =
@@ -133,18 +134,18 @@ module _ (g : Begun) (q : Ask) (s : State) (items : List Item) (groups : List Gr
 
   -- ---- where i records of the call are done
 
-  module _ (i : ℕ) (left : Buffers) (w : Ran n p (q .run) (lent q s) i left) where
+  module _ (i : ℕ) (left : Buffers) (w : Ran kind n p (q .run) (lent q s) i left) where
     long : length (q .fcb) ≡ 36
     long =
-        let quiet = zero-none (rowsAll n p (q .run) (lent q s)) (nonzero-all n p (q .run) (lent q s)) (w .passes) in
-        passed n p (q .run) (lent q s) quiet .ready .fcb-long
+        let quiet = zero-none (rowsAll kind n p (q .run) (lent q s)) (nonzero-all kind n p (q .run) (lent q s)) (w .passes) in
+        passed kind n p (q .run) (lent q s) quiet .ready .fcb-long
 
-    taken : Steps n p (lent q s) i (run 0 i left)
-    taken = rw (w .is) at (steps n p (lent q s) i)
+    taken : Steps kind n p (lent q s) i (run 0 i left)
+    taken = rw (w .is) at (steps kind n p (lent q s) i)
 
-    pub ran-inv : Inv g (stateIn left) (holding (deedTo i) items) (counting (deedTo i) groups)
+    pub ran-inv : Inv kind g (stateIn left) (holding (deedTo i) items) (counting kind (deedTo i) groups)
     ran-inv = rw (held-run (chosen n) (run-chosen n (w .serves)) (g .users) (ofRun i q) items) (inv-to (w .serves) long i (run 0 i left) taken .1)
 
     pub ran-each : (R : State → State → Type 0) → R s s → ((t v : State) → R s t → R t v → R s v)
-        → ((a : Ask) (t : State) (gs : List Group) → a .process ≡ p → Inv g t items gs → R t (kept (outcomeOf call a t))) → R s (stateIn left)
+        → ((a : Ask) (t : State) (gs : List Group) → a .process ≡ p → Inv kind g t items gs → R t (kept (outcomeOf (call kind) a t))) → R s (stateIn left)
     ran-each R none join one = each-to (w .serves) long R none join one i (run 0 i left) taken

@@ -10,6 +10,7 @@ use lib.Dec.{eqb}
 use Rattle.words.specs.Tests.{_and_}
 use Rattle.words.specs.Bytes.{byte, part}
 use Rattle.words.proofs.Bytes.{part-byte}
+use Rattle.rules.specs.declared.kind.Kind.{Kind}
 use Rattle.rules.specs.declared.item.Item.{Item}
 use Rattle.rules.specs.declared.list.LockList.{LockList}
 use Rattle.rules.specs.Drive.{isEmpty, recordAt}
@@ -26,8 +27,8 @@ use Rattle.history.proofs.Plain.{locked, files-kept, items-kept}
 
 -- ---- one after the other
 
-unchanged-then : (u : ℕ) (name : List ℕ) (r : ℕ) (s t v : List ℕ) → Unchanged u name r s t → Unchanged u name r t v → Unchanged u name r s v
-unchanged-then u name r s t v x y = record { shown = x .shown; same = y .same ∙ x .same }
+unchanged-then : (kind : Kind) (u : ℕ) (name : List ℕ) (r : ℕ) (s t v : List ℕ) → Unchanged kind u name r s t → Unchanged kind u name r t v → Unchanged kind u name r s v
+unchanged-then kind u name r s t v x y = record { shown = x .shown; same = y .same ∙ x .same }
 
 -- an entry that stays is under the user that it was under
 under-same : (u : ℕ) (s t : List ℕ) (e : ℕ) → part (32 * e) 32 t ≡ part (32 * e) 32 s → isUnder u s e ≡ isUnder u t e
@@ -38,9 +39,9 @@ under-same u s t e h =
     first : (v : List ℕ) → byte (part (32 * e) 32 v) 0 ≡ byte v (32 * e)
     first v = let z : 32 * e + 0 ≡ 32 * e = omega arith in part-byte v (32 * e) 32 0 (omega arith) ∙ ap (λ (n : ℕ). byte v n) z
 
-files-then : (u : ℕ) (s t v : List ℕ) → FilesApart u s t → FilesApart u t v → FilesApart u s v
+files-then : (kind : Kind) (u : ℕ) (s t v : List ℕ) → FilesApart kind u s t → FilesApart kind u t v → FilesApart kind u s v
 unfolding hasBlock
-files-then u s t v x y = record {
+files-then kind u s t v x y = record {
   entry-same = λ e m c. ⊎-elim
       (λ (h : isUnder u s e ≡ true).
       let a = x .entry-same e m (inl h) in
@@ -52,7 +53,7 @@ files-then u s t v x y = record {
   bytes-same = λ f r q l h.
       let b = x .block-same f r q l in
       let k = y .bytes-same f r q l (ap (λ (m : ℕ). not (eqb m 0)) b ∙ h) in
-      subst (λ (m : ℕ). part (recordAt m r) 128 v ≡ part (recordAt m r) 128 t) b k ∙ x .bytes-same f r q l h;
+      subst (λ (m : ℕ). part (recordAt kind m r) 128 v ≡ part (recordAt kind m r) 128 t) b k ∙ x .bytes-same f r q l h;
 }
 
 items-then : (p : ℕ) (l m k : LockList) → ItemsApart p l m → ItemsApart p m k → ItemsApart p l k
@@ -68,27 +69,27 @@ items-then p l m k x y = record {
 
 -- ---- every call
 
-module _ (g : Begun) (s : State) (items : List Item) (groups : List Group) (i : Inv g s items groups) (q : Ask) where
+module _ (kind : Kind) (g : Begun kind) (s : State) (items : List Item) (groups : List Group) (i : Inv kind g s items groups) (q : Ask) where
   -- 6
   pub locked-stays : (p : ℕ) (name : List ℕ) (r : ℕ) → length name ≡ 11 → isAmong (freshLock p name r) items ≡ true → (q .process ≡ p → ⊥)
-      → Unchanged (byte (g .users) p) name r (s .image) (outcomeOf callRun q s .left .image)
+      → Unchanged kind (byte (g .users) p) name r (s .image) (outcomeOf (callRun kind) q s .left .image)
   locked-stays p name r long among n =
-      call-each g q s items groups i (λ (t v : State). Unchanged (byte (g .users) p) name r (t .image) (v .image))
-      (record { shown = locked g s items groups i q p name r long among n .shown; same = refl })
-      (λ t v. unchanged-then (byte (g .users) p) name r (s .image) (t .image) (v .image))
-      (λ a t gs e w. locked g t items gs w a p name r long among (λ z. n (sym e ∙ z)))
+      call-each kind g q s items groups i (λ (t v : State). Unchanged kind (byte (g .users) p) name r (t .image) (v .image))
+      (record { shown = locked kind g s items groups i q p name r long among n .shown; same = refl })
+      (λ t v. unchanged-then kind (byte (g .users) p) name r (s .image) (t .image) (v .image))
+      (λ a t gs e w. locked kind g t items gs w a p name r long among (λ z. n (sym e ∙ z)))
 
   -- 7
-  pub files-apart : (u : ℕ) → (byte (g .users) (q .process) ≡ u → ⊥) → FilesApart u (s .image) (outcomeOf callRun q s .left .image)
+  pub files-apart : (u : ℕ) → (byte (g .users) (q .process) ≡ u → ⊥) → FilesApart kind u (s .image) (outcomeOf (callRun kind) q s .left .image)
   files-apart u n =
-      call-each g q s items groups i (λ (t v : State). FilesApart u (t .image) (v .image))
+      call-each kind g q s items groups i (λ (t v : State). FilesApart kind u (t .image) (v .image))
       (record { entry-same = λ e m c. refl; block-same = λ f r e l. refl; bytes-same = λ f r e l h. refl })
-      (λ t v. files-then u (s .image) (t .image) (v .image))
-      (λ a t gs e w. files-kept g t items gs w a u (λ z. n (ap (λ (p : ℕ). byte (g .users) p) (sym e) ∙ z)))
+      (λ t v. files-then kind u (s .image) (t .image) (v .image))
+      (λ a t gs e w. files-kept kind g t items gs w a u (λ z. n (ap (λ (p : ℕ). byte (g .users) p) (sym e) ∙ z)))
 
-  pub items-apart : ItemsApart (q .process) (unpack (s .list)) (unpack (outcomeOf callRun q s .left .list))
+  pub items-apart : ItemsApart (q .process) (unpack (s .list)) (unpack (outcomeOf (callRun kind) q s .left .list))
   items-apart =
-      call-each g q s items groups i (λ (t v : State). ItemsApart (q .process) (unpack (t .list)) (unpack (v .list)))
+      call-each kind g q s items groups i (λ (t v : State). ItemsApart (q .process) (unpack (t .list)) (unpack (v .list)))
       (record { item-same = λ j m c. refl })
       (λ t v. items-then (q .process) (unpack (s .list)) (unpack (t .list)) (unpack (v .list)))
-      (λ a t gs e w. subst (λ (p : ℕ). ItemsApart p (unpack (t .list)) (unpack (outcomeOf call a t .left .list))) e (items-kept g t items gs w a))
+      (λ a t gs e w. subst (λ (p : ℕ). ItemsApart p (unpack (t .list)) (unpack (outcomeOf (call kind) a t .left .list))) e (items-kept kind g t items gs w a))

@@ -17,6 +17,7 @@ use Rattle.words.proofs.Lists.{tab-getD}
 use Rattle.words.proofs.Sets.{and-both, and-left}
 use Rattle.words.proofs.Tables.{row-off}
 use Rattle.words.proofs.Counts.{count-zero}
+use Rattle.rules.specs.declared.kind.Kind.{Kind}
 use Rattle.rules.specs.declared.item.Item.{Item}
 use Rattle.rules.specs.declared.list.LockList.{LockList}
 use Rattle.rules.specs.Locks.{places, placeSize, blank, emptyPlace, itemAt, firstMark, secondMark, packItem, pack, unpack, isKindBy, isKindByAt, opensBy, locksBy, isZero, goodEmpty, clashAt, keepsLimits, badStart, rowsStart, freshList, startEnds, start}
@@ -49,14 +50,14 @@ fresh-shape c o k users h = record {
   names-long = λ i m. ap (λ (it : Item). length (it .name)) (fresh-at i m c o k users);
 }
 
-module _ (c o k : ℕ) (users s : List ℕ) (g : Limits (fresh c o k users)) where
+module _ (kind : Kind) (c o k : ℕ) (users s : List ℕ) (g : Limits (fresh c o k users)) where
   none-kind : (n p : ℕ) → (n ≡ 0 → ⊥) → count (isKindByAt (fresh c o k users) n p) 64 ≡ 0
   unfolding isKindByAt isKindBy
   none-kind n p z =
       count-zero (isKindByAt (fresh c o k users) n p) 64 (any-never (isKindByAt (fresh c o k users) n p) 64 (λ i m.
       rw (fresh-at i m c o k users) (and-left _ _ (ne-eqb 0 n (λ q. z (sym q))))))
 
-  pub fresh-sound : SoundLocks (fresh c o k users) s
+  pub fresh-sound : SoundLocks kind (fresh c o k users) s
   unfolding clashAt keepsLimits opensBy locksBy goodEmpty isZero all _and_
   fresh-sound = record {
     limits = g;
@@ -99,30 +100,30 @@ module _ (c o k : ℕ) (users list : List ℕ) where
       (either (eqb (firstOf (rowsStart c o k users list)) 0))
 
 -- the beginning is sound, and its list is the fresh one
-module _ (g : Begun) where
+module _ (kind : Kind) (g : Begun kind) where
   abbrev pub first : LockList
   first = fresh (g .capacity) (g .openlimit) (g .locklimit) (g .users)
 
   abbrev told : Started (g .capacity) (g .openlimit) (g .locklimit) (g .users) (g .lent)
   told = started (g .capacity) (g .openlimit) (g .locklimit) (g .users) (g .lent) (g .accepted)
 
-  first-is : firstState g .list ≡ pack first
+  first-is : firstState kind g .list ≡ pack first
   first-is = told .written ∙ sym (fresh-packed (g .capacity) (g .openlimit) (g .locklimit) (g .users) (told .users-long))
 
-  first-sound : SoundLocks first (g .image)
-  first-sound = fresh-sound (g .capacity) (g .openlimit) (g .locklimit) (g .users) (g .image) (told .limits)
+  first-sound : SoundLocks kind first (g .image)
+  first-sound = fresh-sound kind (g .capacity) (g .openlimit) (g .locklimit) (g .users) (g .image) (told .limits)
 
   first-shape : Shape first
   first-shape = fresh-shape (g .capacity) (g .openlimit) (g .locklimit) (g .users) (told .users-long)
 
-  pub begun-list : unpack (firstState g .list) ≡ first
-  begun-list = rw first-is (unpacked first (g .image) first-sound first-shape)
+  pub begun-list : unpack (firstState kind g .list) ≡ first
+  begun-list = rw first-is (unpacked kind first (g .image) first-sound first-shape)
 
-  pub begun-sound : SoundBoth (firstState g .list) (g .image)
+  pub begun-sound : SoundBoth kind (firstState kind g .list) (g .image)
   begun-sound = rw first-is (record {
     image-sound = g .sound;
     list-long = pack-long first (first-shape .items-long);
-    list-sound = list-sound-so first (g .image) first-sound first-shape;
+    list-sound = list-sound-so kind first (g .image) first-sound first-shape;
   })
 
   pub begun-empty : (i : ℕ) → i < 64 → itemAt first i .kind ≡ 0

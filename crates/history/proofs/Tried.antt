@@ -1,4 +1,4 @@
--- The statements tried on the session: both sides are computed from the calls and answers listed. Assumes nothing.
+-- The statements tried on the session, on a drive of the first kind: both sides are computed from the calls and answers listed. Assumes nothing.
 use Prim.Native.Nat.{ℕ, _+_}
 use mathlib.Core.Path.{_≡_, refl}
 use mathlib.Core.Bool.{Bool, true, false}
@@ -6,6 +6,7 @@ use mathlib.Core.List.{List, [], _∷_, map}
 use lib.ListN.{length, take, replicate}
 use Rattle.words.specs.Tests.{count}
 use Rattle.rules.specs.declared.item.Item.{Item}
+use Rattle.rules.specs.declared.kind.Kind.the-variants.{Small}
 use Rattle.rules.specs.Drive.{highest, blocks, freeBlocks, fileFrom, soundImage}
 use Rattle.rules.specs.Locks.{unpack, itemAt, freePlaces, freshOpen, freshLock, soundList}
 use Rattle.rules.specs.Look.{look}
@@ -28,12 +29,12 @@ heldTo : ℕ → List Item
 heldTo n = heldAfter (replicate 16 0) (map told (take n session)) []
 
 groupsTo : ℕ → List Group
-groupsTo n = countedAfter (replicate 16 0) (map told (take n session)) (groupsOf firstImage)
+groupsTo n = countedAfter Small (replicate 16 0) (map told (take n session)) (groupsOf Small firstImage)
 
 -- items in the list by process, items held, free places; blocks in use, groups counted, free blocks
 figures : ℕ → List ℕ → List ℕ → List ℕ
 figures n list image =
-    sumBelow (itemsBy (unpack list)) 16 ∷ length (heldTo n) ∷ freePlaces (unpack list) ∷ blocksInUse image ∷ length (groupsTo n) ∷ freeBlocks image ∷ []
+    sumBelow (itemsBy (unpack list)) 16 ∷ length (heldTo n) ∷ freePlaces (unpack list) ∷ blocksInUse Small image ∷ length (groupsTo n) ∷ freeBlocks Small image ∷ []
 
 after-s0 : figures 1 list0 image0 ≡ 1 ∷ 1 ∷ 2 ∷ 0 ∷ 0 ∷ 2 ∷ []
 unfolding rules listed history asked told heldTo groupsTo figures
@@ -65,23 +66,23 @@ never-there = refl
 
 -- after S10 the groups of records 0 and 8 are counted, that of record 16 is not; they are those with a block
 isCountedTo : ℕ → ℕ → Bool
-isCountedTo n eight = isCounted (group (fileFrom 0 orders 0) eight) (groupsTo n)
+isCountedTo n number = isCounted (group (fileFrom 0 orders 0) number) (groupsTo n)
 
 counted-groups : isCountedTo 11 0 ∷ isCountedTo 11 1 ∷ isCountedTo 11 2 ∷ [] ≡ true ∷ true ∷ false ∷ []
 unfolding rules listed history asked told groupsTo isCountedTo
 counted-groups = refl
 
-with-block : hasBlock image5 (fileFrom 0 orders 0) 7 ∷ hasBlock image5 (fileFrom 0 orders 0) 15 ∷ hasBlock image5 (fileFrom 0 orders 0) 16 ∷ []
+with-block : hasBlock Small image5 (fileFrom 0 orders 0) 7 ∷ hasBlock Small image5 (fileFrom 0 orders 0) 15 ∷ hasBlock Small image5 (fileFrom 0 orders 0) 16 ∷ []
     ≡ true ∷ true ∷ false ∷ []
 unfolding rules listed history
 with-block = refl
 
 -- S5 by process 2 leaves the record that process 1 has locked
-looks-same : look highest 0 orders 0 image5 ≡ look highest 0 orders 0 image2
+looks-same : look Small highest 0 orders 0 image5 ≡ look Small highest 0 orders 0 image2
 unfolding rules listed
 looks-same = refl
 
-looks-long : length (look highest 0 orders 0 image2) ≡ 128
+looks-long : length (look Small highest 0 orders 0 image2) ≡ 128
 unfolding rules listed
 looks-long = refl
 
@@ -96,12 +97,12 @@ unfolding rules listed history asked told heldTo
 none-left = refl
 
 -- the states are sound
-sound-s13 : soundImage highest image5 ∷ soundList highest list12 image5 ∷ [] ≡ true ∷ true ∷ []
+sound-s13 : soundImage Small highest image5 ∷ soundList Small highest list12 image5 ∷ [] ≡ true ∷ true ∷ []
 unfolding rules listed
 sound-s13 = refl
 
 -- S8 tells 0 records: two groups of the two data blocks
-figure-s8 : figureIn (blocks image5) (groupsTo 8) (dmaWith 0) ≡ dmaWith 0
+figure-s8 : figureIn Small (blocks Small image5) (groupsTo 8) (dmaWith 0) ≡ dmaWith 0
 unfolding rules listed history asked told groupsTo
 figure-s8 = refl
 

@@ -1,5 +1,5 @@
 -- No call of another process changes a record that is locked. Assumes nothing.
-use Prim.Native.Nat.{ℕ, _≤_, _<_}
+use Prim.Native.Nat.{ℕ, _+_, _≤_, _<_}
 use mathlib.Core.Path.{_≡_, refl, sym, ap, _∙_}
 use mathlib.Core.Bool.{Bool, true, false}
 use mathlib.Core.List.{List}
@@ -16,6 +16,7 @@ use Rattle.words.proofs.Tests.{never, all-at}
 use Rattle.words.proofs.Lists.{tab-ext, tab-getD}
 use Rattle.words.proofs.Sets.{and-both}
 use Rattle.words.proofs.Bytes.{part-long}
+use Rattle.rules.specs.declared.kind.Kind.{Kind}
 use Rattle.rules.specs.declared.file.File.{File}
 use Rattle.rules.specs.declared.list.LockList.{LockList}
 use Rattle.rules.specs.Serves.{Buffers, Outcome}
@@ -23,6 +24,7 @@ use Rattle.rules.specs.Drive.{highest, legalName, fileFrom, blockOf, recordAt, 
 use Rattle.rules.specs.Locks.{itemAt, fileOf, isLow, anyOpen}
 use Rattle.rules.specs.Asks.{recordOf}
 use Rattle.rules.specs.Look.{mayLook, lookBlock, partAt, lookAt, partFrom, look}
+use Rattle.rules.proofs.Sizes.{record-inside, block-inside, record-over}
 use Rattle.rules.proofs.Sound.{SoundImage, length-whole}
 use Rattle.rules.proofs.Items.{name-refl}
 use Rattle.rules.proofs.SoundList.{GoodOpen, GoodLock, Used, Vacant}
@@ -39,8 +41,9 @@ use Rattle.history.proofs.Seen.{Seen, at-range, seen-all, seen-written}
 
 -- ---- a lock at place i of the list, by another process
 
-module _ (n q c : ℕ) (b : Buffers) (i : ℕ) (inside : i < 64) (other : itemAt (listOf b) i .process ≡ q → ⊥) (two : itemAt (listOf b) i .kind ≡ 2) (g : SoundImage highest (b .image)) (block : ℕ)
-    (at : At (b .image) (fileOf (listOf b) (itemAt (listOf b) i)) (itemAt (listOf b) i .number) block) where
+module _ (kind : Kind) (n q c : ℕ) (b : Buffers) (i : ℕ) (inside : i < 64) (other : itemAt (listOf b) i .process ≡ q → ⊥)
+    (two : itemAt (listOf b) i .kind ≡ 2) (g : SoundImage kind highest (b .image)) (block : ℕ)
+    (at : At kind (b .image) (fileOf (listOf b) (itemAt (listOf b) i)) (itemAt (listOf b) i .number) block) where
   abbrev l : LockList
   l = listOf b
 
@@ -53,23 +56,23 @@ module _ (n q c : ℕ) (b : Buffers) (i : ℕ) (inside : i < 64) (other : itemAt
   abbrev r : ℕ
   r = itemAt l i .number
 
-  still : Seen s s f r block
+  still : Seen kind s s f r block
   still = record { there = at; bytes = refl }
 
-  module _ (ok : Passed q c b) where
-    good : GoodOpen s l (itemAt l i) ⊎ GoodLock s l (itemAt l i)
+  module _ (ok : Passed kind q c b) where
+    good : GoodOpen kind s l (itemAt l i) ⊎ GoodLock kind s l (itemAt l i)
     good =
-        ⊎-elim (λ (v : Vacant l i). let z = v .kind-zero in absurd (omega arith)) (λ (v : Used s l i). v .good) (list-of q c b ok .place i inside)
+        ⊎-elim (λ (v : Vacant l i). let z = v .kind-zero in absurd (omega arith)) (λ (v : Used kind s l i). v .good) (list-of kind q c b ok .place i inside)
 
     long : length (f .name) ≡ 11
-    long = shape-of q c b ok .names-long i inside
+    long = shape-of kind q c b ok .names-long i inside
 
     -- a file that nobody has open is another
     apart : anyOpen l (fileBy q b) ≡ false → f ≡ fileBy q b → ⊥
-    apart none e = no-items s l (list-of q c b ok) (fileBy q b) none i inside good e
+    apart none e = no-items kind s l (list-of kind q c b ok) (fileBy q b) none i inside good e
 
     -- the record that is written is another
-    unwritten : MayWrite q b → (f ≡ fileBy q b) × (r ≡ recordOf (b .fcb)) → ⊥
+    unwritten : MayWrite kind q b → (f ≡ fileBy q b) × (r ≡ recordOf (b .fcb)) → ⊥
     unwritten w e =
         never
         (others-found l q (fileBy q b) (recordOf (b .fcb)) i inside other (record {
@@ -80,25 +83,25 @@ module _ (n q c : ℕ) (b : Buffers) (i : ℕ) (inside : i < 64) (other : itemAt
         }))
         (w .unlocked-by-others)
 
-    seen-write : MayWrite q b → (zeros : Bool) (v : List ℕ) → 128 ≤ length v → Seen s (imageWritten zeros q b v) f r block
+    seen-write : MayWrite kind q b → (zeros : Bool) (v : List ℕ) → 128 ≤ length v → Seen kind s (imageWritten kind zeros q b v) f r block
     seen-write w zeros v full =
-        seen-written s _ (fileBy q b) (recordOf (b .fcb)) g (caller-long q l (b .fcb)) f r block long at (written-of q c b ok w zeros v full) (unwritten w)
+        seen-written kind s _ (fileBy q b) (recordOf (b .fcb)) g (caller-long q l (b .fcb)) f r block long at (written-of kind q c b ok w zeros v full) (unwritten w)
 
-  pub seen-leaf : (o : Outcome) → Leaf n q c b o → Seen s (o .left .image) f r block
+  pub seen-leaf : (o : Outcome) → Leaf kind n q c b o → Seen kind s (o .left .image) f r block
   seen-leaf o (refused code z) = still
   seen-leaf o (reopened k ok w fcb) = still
   seen-leaf o (newlyOpened k ok w fcb) = still
   seen-leaf o (newlyMade k ok w fcb) =
-      let d = made-of q c b ok w 0 0 0 0 in
-      seen-all s _ f r block g (d .touches .long) at (λ j m. d .data-kept .at j m (inr (omega arith))) (at-grown s _ f r block (d .grown) at)
+      let d = made-of kind q c b ok w 0 0 0 0 in
+      seen-all kind s _ f r block g (d .touches .long) at (λ j m. d .data-kept .at j m (inr (omega arith))) (at-grown kind s _ f r block (d .grown) at)
   seen-leaf o (nowClosed k ok w) = still
   seen-leaf o (nowErased k ok w) =
       let h = caller-long q l (b .fcb) in
-      let d = all-erased s (fileBy q b) g h in
-      seen-all s _ f r block g (d .len) at (d .past) (at-forth s _ (fileBy q b) (fileBy q b) f (erased-touches s (fileBy q b) g h) (apart ok (w .unopened)) r block at)
+      let d = all-erased kind s (fileBy q b) g h in
+      seen-all kind s _ f r block g (d .len) at (d .past) (at-forth kind s _ (fileBy q b) (fileBy q b) f (erased-touches kind s (fileBy q b) g h) (apart ok (w .unopened)) r block at)
   seen-leaf o (nowRenamed k ok w) =
-      let d = all-renamed s (fileBy q b) (newBy q b .name) g in
-      seen-all s _ f r block g (d .len) at (d .past) (at-forth s _ (fileBy q b) (newBy q b) f (renamed-touch q c b ok w) (apart ok (w .unopened)) r block at)
+      let d = all-renamed kind s (fileBy q b) (newBy q b .name) g in
+      seen-all kind s _ f r block g (d .len) at (d .past) (at-forth kind s _ (fileBy q b) (newBy q b) f (renamed-touch kind q c b ok w) (apart ok (w .unopened)) r block at)
   seen-leaf o (nowRead k ok dma) = still
   seen-leaf o (nowWritten k ok w zeros) = seen-write ok w zeros (b .dma) (let d = ok .ready .dma-long in omega arith)
   seen-leaf o (nowRewritten k ok w some v full) = seen-write ok w false v full
@@ -121,22 +124,25 @@ low-file u name l h =
     λ i. record { user = u; name = e i }
 
 -- Look shows the record's part
-look-is : (u : ℕ) (name : List ℕ) (r : ℕ) (s : List ℕ) (b : ℕ) → soundImage highest s ≡ true → u ≤ 15 → length name ≡ 11 → legalName name 0 ≡ true → blockOf s (fileFrom u name 0) r ≡ b → 2 ≤ b → look highest u name r s ≡ part (recordAt b r) 128 s
+look-is : (kind : Kind) (u : ℕ) (name : List ℕ) (r : ℕ) (s : List ℕ) (b : ℕ) → soundImage kind highest s ≡ true → u ≤ 15 → length name ≡ 11
+    → legalName name 0 ≡ true → blockOf kind s (fileFrom u name 0) r ≡ b → 2 ≤ b → look kind highest u name r s ≡ part (recordAt kind b r) 128 s
 unfolding look partFrom lookAt partAt lookBlock mayLook _if_else_
-look-is u name r s b g v l m e low =
-    let k : (soundImage highest s and leb u 15 and eqb (length name) 11 and legalName name 0) ≡ true = and-both _ _ g (and-both _ _ (le-leb u 15 v) (and-both _ _ (eq-eqb (length name) 11 l) m)) in
-    rw (k, e, ne-eqb b 0 (λ (z : b ≡ 0). absurd (omega arith)), ne-eqb (recordAt b r) 0 (λ (z : recordAt b r ≡ 0). absurd (omega arith))) refl
+look-is kind u name r s b g v l m e low =
+    let k : (soundImage kind highest s and leb u 15 and eqb (length name) 11 and legalName name 0) ≡ true =
+    and-both _ _ g (and-both _ _ (le-leb u 15 v) (and-both _ _ (eq-eqb (length name) 11 l) m)) in
+    let some : recordAt kind b r ≡ 0 → ⊥ = λ z. omega (arith, record-over kind b r, block-inside kind 0 b (omega arith), record-inside kind 0 1 0 (omega arith)) in
+    rw (k, e, ne-eqb b 0 (λ (z : b ≡ 0). absurd (omega arith)), ne-eqb (recordAt kind b r) 0 some) refl
 
-pub unchanged : (u : ℕ) (name : List ℕ) (r b : ℕ) (s t : List ℕ) → SoundImage highest s → SoundImage highest t → soundImage highest s ≡ true → soundImage highest t ≡ true → u ≤ 15 → length name ≡ 11 → legalName name 0 ≡ true → all (isLow name) 11 ≡ true
-    → At s (record { user = u; name = name }) r b → Seen s t (record { user = u; name = name }) r b → Unchanged u name r s t
-unchanged u name r b s t gs gt hs ht v l m low a w =
+pub unchanged : (kind : Kind) (u : ℕ) (name : List ℕ) (r b : ℕ) (s t : List ℕ) → SoundImage kind highest s → SoundImage kind highest t
+    → soundImage kind highest s ≡ true → soundImage kind highest t ≡ true → u ≤ 15 → length name ≡ 11 → legalName name 0 ≡ true → all (isLow name) 11 ≡ true
+    → At kind s (record { user = u; name = name }) r b → Seen kind s t (record { user = u; name = name }) r b → Unchanged kind u name r s t
+unchanged kind u name r b s t gs gt hs ht v l m low a w =
     let e = low-file u name l low in
-    let k = at-range s _ r b gs a in
-    let k₁ : b < blocks s = k .1 in
-    let bs : blockOf s (fileFrom u name 0) r ≡ b = rw e (of-at s _ r b l gs a) in
-    let bt : blockOf t (fileFrom u name 0) r ≡ b = rw e (of-at t _ r b l gt (w .there)) in
-    let z = length-whole s (gs .long) in
+    let k = at-range kind s _ r b gs a in
+    let bs : blockOf kind s (fileFrom u name 0) r ≡ b = rw e (of-at kind s _ r b l gs a) in
+    let bt : blockOf kind t (fileFrom u name 0) r ≡ b = rw e (of-at kind t _ r b l gt (w .there)) in
+    let inside : recordAt kind b r + 128 ≤ length s = rw (← (length-whole kind s (gs .long))) (record-inside kind b (blocks kind s) r (k .1)) in
     record {
-      shown = ap length (look-is u name r s b hs v l m bs (k .0)) ∙ part-long s (recordAt b r) 128 (omega arith);
-      same = look-is u name r t b ht v l m bt (k .0) ∙ w .bytes ∙ sym (look-is u name r s b hs v l m bs (k .0));
+      shown = ap length (look-is kind u name r s b hs v l m bs (k .0)) ∙ part-long s (recordAt kind b r) 128 inside;
+      same = look-is kind u name r t b ht v l m bt (k .0) ∙ w .bytes ∙ sym (look-is kind u name r s b hs v l m bs (k .0));
     }

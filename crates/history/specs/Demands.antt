@@ -9,11 +9,13 @@ use lib.Dec.{eqb}
 use Rattle.words.specs.Tests.{_and_, count}
 use Rattle.words.specs.Bytes.{byte, part, put, le}
 use Rattle.words.specs.Tables.{_∕_}
+use Rattle.rules.specs.declared.kind.Kind.{Kind}
+use Rattle.rules.specs.Kinds.{blockRecords, entries}
 use Rattle.rules.specs.declared.file.File.{File}
 use Rattle.rules.specs.declared.item.Item.{Item}
 use Rattle.rules.specs.declared.list.LockList.{LockList}
 use Rattle.rules.specs.Serves.{Buffers, Outcome, outcome, processes, listSize}
-use Rattle.rules.specs.Drive.{highest, entries, entrySize, blocks, blockRecords, recordSize, recordAt, isEmpty, userByte, blockOf, freeBlocks, soundImage}
+use Rattle.rules.specs.Drive.{highest, entrySize, blocks, recordSize, recordAt, isEmpty, userByte, blockOf, freeBlocks, soundImage}
 use Rattle.rules.specs.Locks.{places, itemAt, unpack, freshLock, isKindBy, opensBy, locksBy, isEmptyAt, freePlaces, soundList}
 use Rattle.rules.specs.Asks.{recordOf}
 use Rattle.rules.specs.Look.{look}
@@ -34,29 +36,29 @@ pub record Demand1 (e : Engine) : Type 0 where
 
 -- ---- Demand 2: for each input one outcome, that of the rules
 
-unfoldable pub Demand2 : Engine → Type 0
-Demand2 e = (n p c : ℕ) (b : Buffers) → e n p c b ≡ callRun n p c b
+unfoldable pub Demand2 : Kind → Engine → Type 0
+Demand2 kind e = (n p c : ℕ) (b : Buffers) → e n p c b ≡ callRun kind n p c b
 
 -- ---- What the history says
 
 -- the items that it holds
-unfoldable pub itemsOf : Engine → Begun → List Ask → List Item
-itemsOf e g qs = heldAfter (g .users) (historyOf e g qs) []
+unfoldable pub itemsOf : (kind : Kind) → Engine → Begun kind → List Ask → List Item
+itemsOf kind e g qs = heldAfter (g .users) (historyOf kind e g qs) []
 
 -- the groups that it counts
-unfoldable pub groupsBy : Engine → Begun → List Ask → List Group
-groupsBy e g qs = countedAfter (g .users) (historyOf e g qs) (groupsOf (g .image))
+unfoldable pub groupsBy : (kind : Kind) → Engine → Begun kind → List Ask → List Group
+groupsBy kind e g qs = countedAfter kind (g .users) (historyOf kind e g qs) (groupsOf kind (g .image))
 
 -- the list that stands after the calls
-unfoldable pub listAfter : Engine → Begun → List Ask → LockList
-listAfter e g qs = unpack (after e g qs .list)
+unfoldable pub listAfter : (kind : Kind) → Engine → Begun kind → List Ask → LockList
+listAfter kind e g qs = unpack (after kind e g qs .list)
 
 -- ---- 1. Sound stays sound: after every call the image and the list are sound again.
 
-pub record SoundState (s : State) : Type 0 where
-  pub image-sound : soundImage highest (s .image) ≡ true
+pub record SoundState (kind : Kind) (s : State) : Type 0 where
+  pub image-sound : soundImage kind highest (s .image) ≡ true
   pub list-long : length (s .list) ≡ listSize
-  pub list-sound : soundList highest (s .list) (s .image) ≡ true
+  pub list-sound : soundList kind highest (s .list) (s .image) ≡ true
 
 -- ---- 2. The list holds just the opens and record locks that the history granted and no later Close, Unlock or process end took
 -- back, each as often as the history holds it, that is once.
@@ -90,27 +92,27 @@ pub record AddUp (capacity : ℕ) (l : LockList) (items : List Item) : Type 0 wh
 -- ---- 4. The blocks in use are as many as the groups that the history counts, and a group has a block exactly when the history
 -- counts it: a record of a file (a user and eleven name bytes) has one exactly when its group is counted.
 
-pub record Groups (s : List ℕ) (groups : List Group) : Type 0 where
-  pub as-many : blocksInUse s ≡ length groups
-  pub each : (f : File) (r : ℕ) → length (f .name) ≡ 11 → hasBlock s f r ≡ isCounted (groupOf f r) groups
+pub record Groups (kind : Kind) (s : List ℕ) (groups : List Group) : Type 0 where
+  pub as-many : blocksInUse kind s ≡ length groups
+  pub each : (f : File) (r : ℕ) → length (f .name) ≡ 11 → hasBlock kind s f r ≡ isCounted (groupOf kind f r) groups
 
 -- ---- 5. No block serves two groups. The groups that the history counts and the free blocks add up to n − 2, ..
 
-pub record Figure (n : ℕ) (s : List ℕ) (groups : List Group) : Type 0 where
+pub record Figure (kind : Kind) (n : ℕ) (s : List ℕ) (groups : List Group) : Type 0 where
   pub no-two : (f h : File) (r q : ℕ) → length (f .name) ≡ 11 → length (h .name) ≡ 11
-      → hasBlock s f r ≡ true → blockOf s f r ≡ blockOf s h q → groupOf f r ≡ groupOf h q
-  pub adds : length groups + freeBlocks s ≡ n - 2
+      → hasBlock kind s f r ≡ true → blockOf kind s f r ≡ blockOf kind s h q → groupOf kind f r ≡ groupOf kind h q
+  pub adds : length groups + freeBlocks kind s ≡ n - 2
 
--- .. and 46's figure is eight times the free ones, so the history fixes it.
-unfoldable pub figureIn : ℕ → List Group → List ℕ → List ℕ
-figureIn n groups dma = put 0 (le 3 (blockRecords * (n - 2 - length groups))) dma
+-- .. and 46's figure is eight times the free ones (sixteen times, on a drive of the second kind), so the history fixes it.
+unfoldable pub figureIn : Kind → ℕ → List Group → List ℕ → List ℕ
+figureIn kind n groups dma = put 0 (le 3 (blockRecords kind * (n - 2 - length groups))) dma
 
 -- ---- 6. While a process holds a record lock, no call of another process changes that record: Look shows the same 128 bytes, and
 -- not an empty part, before and after.
 
-pub record Unchanged (user : ℕ) (name : List ℕ) (r : ℕ) (s t : List ℕ) : Type 0 where
-  pub shown : length (look highest user name r s) ≡ recordSize
-  pub same : look highest user name r t ≡ look highest user name r s
+pub record Unchanged (kind : Kind) (user : ℕ) (name : List ℕ) (r : ℕ) (s t : List ℕ) : Type 0 where
+  pub shown : length (look kind highest user name r s) ≡ recordSize
+  pub same : look kind highest user name r t ≡ look kind highest user name r s
 
 -- ---- 7. Isolation: a call of a process changes no byte of any file under another user, no directory entry of it, ..
 
@@ -119,12 +121,12 @@ unfoldable pub isUnder : ℕ → List ℕ → ℕ → Bool
 isUnder u s e = not (isEmpty s e) and eqb (userByte s e) u
 
 -- s before a call of a process whose user is another than u, t after it
-pub record FilesApart (u : ℕ) (s t : List ℕ) : Type 0 where
-  pub entry-same : (e : ℕ) → e < entries → (isUnder u s e ≡ true) ⊎ (isUnder u t e ≡ true)
+pub record FilesApart (kind : Kind) (u : ℕ) (s t : List ℕ) : Type 0 where
+  pub entry-same : (e : ℕ) → e < entries kind → (isUnder u s e ≡ true) ⊎ (isUnder u t e ≡ true)
       → part (entrySize * e) entrySize t ≡ part (entrySize * e) entrySize s
-  pub block-same : (f : File) (r : ℕ) → f .user ≡ u → length (f .name) ≡ 11 → blockOf t f r ≡ blockOf s f r
-  pub bytes-same : (f : File) (r : ℕ) → f .user ≡ u → length (f .name) ≡ 11 → hasBlock s f r ≡ true
-      → part (recordAt (blockOf s f r) r) recordSize t ≡ part (recordAt (blockOf s f r) r) recordSize s
+  pub block-same : (f : File) (r : ℕ) → f .user ≡ u → length (f .name) ≡ 11 → blockOf kind t f r ≡ blockOf kind s f r
+  pub bytes-same : (f : File) (r : ℕ) → f .user ≡ u → length (f .name) ≡ 11 → hasBlock kind s f r ≡ true
+      → part (recordAt kind (blockOf kind s f r) r) recordSize t ≡ part (recordAt kind (blockOf kind s f r) r) recordSize s
 
 -- .. and no item of another process.
 unfoldable pub isAnothers : ℕ → Item → Bool
@@ -156,41 +158,41 @@ pub record Full (capacity : ℕ) (users : List ℕ) (items : List Item) (q : Ask
 -- ---- Demand 3: for every beginning g, every list of calls qs, and every call q after them
 
 -- the image after the calls, and after one more; the answer of that one, and what it did
-abbrev pub imageAfter : Engine → Begun → List Ask → List ℕ
-imageAfter e g qs = after e g qs .image
+abbrev pub imageAfter : (kind : Kind) → Engine → Begun kind → List Ask → List ℕ
+imageAfter kind e g qs = after kind e g qs .image
 
-unfoldable pub outcomeAfter : Engine → Begun → List Ask → Ask → Outcome
-outcomeAfter e g qs q = outcomeOf e q (after e g qs)
+unfoldable pub outcomeAfter : (kind : Kind) → Engine → Begun kind → List Ask → Ask → Outcome
+outcomeAfter kind e g qs q = outcomeOf e q (after kind e g qs)
 
-unfoldable pub deedAfter : Engine → Begun → List Ask → Ask → Deed
-deedAfter e g qs q = deed (g .users) (event q (outcomeAfter e g qs q .answer))
+unfoldable pub deedAfter : (kind : Kind) → Engine → Begun kind → List Ask → Ask → Deed
+deedAfter kind e g qs q = deed (g .users) (event q (outcomeAfter kind e g qs q .answer))
 
-pub record Demand3 (e : Engine) : Type 0 where
+pub record Demand3 (kind : Kind) (e : Engine) : Type 0 where
   -- 1
-  pub sound-stays : (g : Begun) (qs : List Ask) → SoundState (after e g qs)
+  pub sound-stays : (g : Begun kind) (qs : List Ask) → SoundState kind (after kind e g qs)
   -- 2
-  pub list-is-grants : (g : Begun) (qs : List Ask) (x : Item)
-      → (x .kind ≡ 0 → ⊥) → Holds x (listAfter e g qs) (itemsOf e g qs)
+  pub list-is-grants : (g : Begun kind) (qs : List Ask) (x : Item)
+      → (x .kind ≡ 0 → ⊥) → Holds x (listAfter kind e g qs) (itemsOf kind e g qs)
   -- 3
-  pub places-add-up : (g : Begun) (qs : List Ask) → AddUp (g .capacity) (listAfter e g qs) (itemsOf e g qs)
+  pub places-add-up : (g : Begun kind) (qs : List Ask) → AddUp (g .capacity) (listAfter kind e g qs) (itemsOf kind e g qs)
   -- 4
-  pub blocks-are-groups : (g : Begun) (qs : List Ask) → Groups (imageAfter e g qs) (groupsBy e g qs)
+  pub blocks-are-groups : (g : Begun kind) (qs : List Ask) → Groups kind (imageAfter kind e g qs) (groupsBy kind e g qs)
   -- 5
-  pub figure-fixed : (g : Begun) (qs : List Ask) → Figure (blocks (g .image)) (imageAfter e g qs) (groupsBy e g qs)
-  pub figure-told : (g : Begun) (qs : List Ask) (q : Ask)
-      → deedAfter e g qs q ≡ tells → outcomeAfter e g qs q .left .dma ≡ figureIn (blocks (g .image)) (groupsBy e g qs) (q .dma)
+  pub figure-fixed : (g : Begun kind) (qs : List Ask) → Figure kind (blocks kind (g .image)) (imageAfter kind e g qs) (groupsBy kind e g qs)
+  pub figure-told : (g : Begun kind) (qs : List Ask) (q : Ask)
+      → deedAfter kind e g qs q ≡ tells → outcomeAfter kind e g qs q .left .dma ≡ figureIn kind (blocks kind (g .image)) (groupsBy kind e g qs) (q .dma)
   -- 6
-  pub locked-stays : (g : Begun) (qs : List Ask) (q : Ask) (p : ℕ) (name : List ℕ) (r : ℕ)
-      → length name ≡ 11 → isAmong (freshLock p name r) (itemsOf e g qs) ≡ true → (q .process ≡ p → ⊥)
-      → Unchanged (byte (g .users) p) name r (imageAfter e g qs) (outcomeAfter e g qs q .left .image)
+  pub locked-stays : (g : Begun kind) (qs : List Ask) (q : Ask) (p : ℕ) (name : List ℕ) (r : ℕ)
+      → length name ≡ 11 → isAmong (freshLock p name r) (itemsOf kind e g qs) ≡ true → (q .process ≡ p → ⊥)
+      → Unchanged kind (byte (g .users) p) name r (imageAfter kind e g qs) (outcomeAfter kind e g qs q .left .image)
   -- 7
-  pub files-apart : (g : Begun) (qs : List Ask) (q : Ask) (u : ℕ)
-      → (byte (g .users) (q .process) ≡ u → ⊥) → FilesApart u (imageAfter e g qs) (outcomeAfter e g qs q .left .image)
-  pub items-apart : (g : Begun) (qs : List Ask) (q : Ask)
-      → ItemsApart (q .process) (listAfter e g qs) (unpack (outcomeAfter e g qs q .left .list))
+  pub files-apart : (g : Begun kind) (qs : List Ask) (q : Ask) (u : ℕ)
+      → (byte (g .users) (q .process) ≡ u → ⊥) → FilesApart kind u (imageAfter kind e g qs) (outcomeAfter kind e g qs q .left .image)
+  pub items-apart : (g : Begun kind) (qs : List Ask) (q : Ask)
+      → ItemsApart (q .process) (listAfter kind e g qs) (unpack (outcomeAfter kind e g qs q .left .list))
   -- 8
-  pub dead-hold-nothing : (g : Begun) (qs later : List Ask) (q : Ask) (p : ℕ)
-      → deedAfter e g qs q ≡ ends p → anyOpenBy (g .users) p (eventsOf e later (kept (outcomeAfter e g qs q))) ≡ false
-      → NoneLeft p (listAfter e g (qs ++ (q ∷ later))) (itemsOf e g (qs ++ (q ∷ later)))
-  pub full-when : (g : Begun) (qs : List Ask) (q : Ask)
-      → Full (g .capacity) (g .users) (itemsOf e g qs) q (outcomeAfter e g qs q .answer)
+  pub dead-hold-nothing : (g : Begun kind) (qs later : List Ask) (q : Ask) (p : ℕ)
+      → deedAfter kind e g qs q ≡ ends p → anyOpenBy (g .users) p (eventsOf e later (kept (outcomeAfter kind e g qs q))) ≡ false
+      → NoneLeft p (listAfter kind e g (qs ++ (q ∷ later))) (itemsOf kind e g (qs ++ (q ∷ later)))
+  pub full-when : (g : Begun kind) (qs : List Ask) (q : Ask)
+      → Full (g .capacity) (g .users) (itemsOf kind e g qs) q (outcomeAfter kind e g qs q .answer)

@@ -1,14 +1,16 @@
--- "History's groups": the pairs of file and record number divided by eight that had a block at the start or that an accepted
--- 34 or 40 has touched; an accepted Rename carries them over, an accepted Delete drops them. Of a 34 or 40 that was refused
--- the records done count (T-07). Assumes nothing.
+-- "History's groups": the pairs of file and record number divided by eight (by sixteen, on a drive of the second kind) that had a
+-- block at the start or that an accepted 34 or 40 has touched; an accepted Rename carries them over, an accepted Delete drops
+-- them. Of a 34 or 40 that was refused the records done count (T-07). Assumes nothing.
 use Prim.Native.Nat.{ℕ, zero, suc, _+_, _*_, _/_, _%_}
 use mathlib.Core.Bool.{Bool, false, not}
 use mathlib.Core.List.{List, [], _∷_, map}
 use lib.Dec.{leb, eqb}
 use Rattle.words.specs.Tests.{_and_, _or_, _if_else_, count}
 use Rattle.words.specs.Lists.{turns}
+use Rattle.rules.specs.declared.kind.Kind.{Kind}
+use Rattle.rules.specs.Kinds.{blockRecords, entries, numbers}
 use Rattle.rules.specs.declared.file.File.{File}
-use Rattle.rules.specs.Drive.{mapSize, entries, blockRecords, blocks, isEmpty, fileAt, extentAt, mapNumber, blockOf, isUsed}
+use Rattle.rules.specs.Drive.{blocks, isEmpty, fileAt, extentAt, mapNumber, blockOf, isUsed}
 use Rattle.rules.specs.Locks.{sameFile}
 use Rattle.history.specs.History.{Event}
 use Rattle.history.specs.Deeds.{Deed, nothing, opens, closes, locks, unlocks, ends, touches, drops, carries, tells, deed}
@@ -16,13 +18,13 @@ use Rattle.history.specs.Held.{without}
 
 pub record Group : Type 0 where
   pub file : File
-  pub eight : ℕ
+  pub number : ℕ
 
 abbrev pub group : File → ℕ → Group
-group f n = record { file = f; eight = n }
+group f n = record { file = f; number = n }
 
 unfoldable pub sameGroup : Group → Group → Bool
-sameGroup a b = eqb (a .eight) (b .eight) and sameFile (a .file) (b .file)
+sameGroup a b = eqb (a .number) (b .number) and sameFile (a .file) (b .file)
 
 unfoldable pub isCounted : Group → List Group → Bool
 isCounted x [] = false
@@ -31,35 +33,39 @@ isCounted x (y ∷ ys) = sameGroup x y or isCounted x ys
 -- ---- On the image
 
 -- the record has a block
-unfoldable pub hasBlock : List ℕ → File → ℕ → Bool
-hasBlock s f r = not (eqb (blockOf s f r) 0)
+unfoldable pub hasBlock : Kind → List ℕ → File → ℕ → Bool
+hasBlock kind s f r = not (eqb (blockOf kind s f r) 0)
 
 -- the group that it is in
-abbrev pub groupOf : File → ℕ → Group
-groupOf f r = group f (r / blockRecords)
+abbrev pub groupOf : Kind → File → ℕ → Group
+groupOf kind f r = group f (r / blockRecords kind)
 
--- place i of all the maps, sixteen to an entry, holds a block number; the group that it is of
-unfoldable pub isNumbered : List ℕ → ℕ → Bool
-isNumbered s i = not (isEmpty s (i / mapSize)) and not (eqb (mapNumber s (i / mapSize) (i % mapSize)) 0)
+-- so many places have all the maps, sixteen or eight to an entry
+abbrev pub allNumbers : Kind → ℕ
+allNumbers kind = numbers kind * entries kind
 
-unfoldable pub groupAt : List ℕ → ℕ → Group
-groupAt s i = group (fileAt s (i / mapSize)) (mapSize * extentAt s (i / mapSize) + i % mapSize)
+-- place i of them holds a block number; the group that it is of
+unfoldable pub isNumbered : Kind → List ℕ → ℕ → Bool
+isNumbered kind s i = not (isEmpty s (i / numbers kind)) and not (eqb (mapNumber kind s (i / numbers kind) (i % numbers kind)) 0)
+
+unfoldable pub groupAt : Kind → List ℕ → ℕ → Group
+groupAt kind s i = group (fileAt s (i / numbers kind)) (numbers kind * extentAt s (i / numbers kind) + i % numbers kind)
 
 -- those below n
-unfoldable pub groupsBelow : List ℕ → ℕ → List Group
-groupsBelow s zero = []
-groupsBelow s (suc n) = groupAt s n ∷ groupsBelow s n if isNumbered s n else groupsBelow s n
+unfoldable pub groupsBelow : Kind → List ℕ → ℕ → List Group
+groupsBelow kind s zero = []
+groupsBelow kind s (suc n) = groupAt kind s n ∷ groupsBelow kind s n if isNumbered kind s n else groupsBelow kind s n
 
 -- the groups that have a block at the start
-unfoldable pub groupsOf : List ℕ → List Group
-groupsOf s = groupsBelow s (mapSize * entries)
+unfoldable pub groupsOf : Kind → List ℕ → List Group
+groupsOf kind s = groupsBelow kind s (allNumbers kind)
 
 -- the blocks in use, of 2 to n−1
-unfoldable pub isInUse : List ℕ → ℕ → Bool
-isInUse s b = leb 2 b and isUsed s b
+unfoldable pub isInUse : Kind → List ℕ → ℕ → Bool
+isInUse kind s b = leb 2 b and isUsed kind s b
 
-unfoldable pub blocksInUse : List ℕ → ℕ
-blocksInUse s = count (isInUse s) (blocks s)
+unfoldable pub blocksInUse : Kind → List ℕ → ℕ
+blocksInUse kind s = count (isInUse kind s) (blocks kind s)
 
 -- ---- In the history
 
@@ -67,31 +73,31 @@ unfoldable pub touching : Group → List Group → List Group
 touching x g = g if isCounted x g else x ∷ g
 
 -- .. by each record of a run
-unfoldable pub touchingAt : File → ℕ → ℕ → List Group → List Group
-touchingAt f r k g = touching (groupOf f (r + k)) g
+unfoldable pub touchingAt : Kind → File → ℕ → ℕ → List Group → List Group
+touchingAt kind f r k g = touching (groupOf kind f (r + k)) g
 
-unfoldable pub touchingRun : File → ℕ → ℕ → List Group → List Group
-touchingRun f r n g = turns (touchingAt f r) n g
+unfoldable pub touchingRun : Kind → File → ℕ → ℕ → List Group → List Group
+touchingRun kind f r n g = turns (touchingAt kind f r) n g
 
 unfoldable pub ofFile : File → Group → Bool
 ofFile f x = sameFile (x .file) f
 
 unfoldable pub carried : File → File → Group → Group
-carried f h x = group h (x .eight) if ofFile f x else x
+carried f h x = group h (x .number) if ofFile f x else x
 
-unfoldable pub counting : Deed → List Group → List Group
-counting nothing g = g
-counting (opens p f mode) g = g
-counting (closes p f) g = g
-counting (locks p f r n) g = g
-counting (unlocks p f r n) g = g
-counting (ends p) g = g
-counting (touches f r n) g = touchingRun f r n g
-counting (drops f) g = without (ofFile f) g
-counting (carries f h) g = map (carried f h) g
-counting tells g = g
+unfoldable pub counting : Kind → Deed → List Group → List Group
+counting kind nothing g = g
+counting kind (opens p f mode) g = g
+counting kind (closes p f) g = g
+counting kind (locks p f r n) g = g
+counting kind (unlocks p f r n) g = g
+counting kind (ends p) g = g
+counting kind (touches f r n) g = touchingRun kind f r n g
+counting kind (drops f) g = without (ofFile f) g
+counting kind (carries f h) g = map (carried f h) g
+counting kind tells g = g
 
 -- the groups after the events, g before them
-unfoldable pub countedAfter : List ℕ → List Event → List Group → List Group
-countedAfter users [] g = g
-countedAfter users (e ∷ es) g = countedAfter users es (counting (deed users e) g)
+unfoldable pub countedAfter : Kind → List ℕ → List Event → List Group → List Group
+countedAfter kind users [] g = g
+countedAfter kind users (e ∷ es) g = countedAfter kind users es (counting kind (deed users e) g)

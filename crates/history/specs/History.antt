@@ -5,11 +5,12 @@ use mathlib.Core.Path.{_≡_}
 use mathlib.Core.Bool.{true}
 use mathlib.Core.List.{List, [], _∷_}
 use Rattle.words.specs.Tables.{_∕_}
+use Rattle.rules.specs.declared.kind.Kind.{Kind}
 use Rattle.rules.specs.Serves.{Buffers, Outcome, buffers}
 use Rattle.rules.specs.Drive.{highest, soundImage}
 use Rattle.rules.specs.Locks.{start}
 
--- An engine is any function from three numbers and four buffers to an answer and four buffers.
+-- An engine, of drives of one kind, is any function from three numbers and four buffers to an answer and four buffers.
 abbrev pub Engine : Type 0
 Engine = ℕ → ℕ → ℕ → Buffers → Outcome
 
@@ -52,8 +53,8 @@ unfoldable pub eventsOf : Engine → List Ask → State → List Event
 eventsOf e [] s = []
 eventsOf e (q ∷ qs) s = event q (outcomeOf e q s .answer) ∷ eventsOf e qs (kept (outcomeOf e q s))
 
--- A beginning: a fresh list that Start accepted, and a sound image.
-pub record Begun : Type 0 where
+-- A beginning: a fresh list that Start accepted, and a sound image of that kind of drive.
+pub record Begun (kind : Kind) : Type 0 where
   pub capacity : ℕ
   pub openlimit : ℕ
   pub locklimit : ℕ
@@ -61,13 +62,13 @@ pub record Begun : Type 0 where
   pub lent : List ℕ
   pub image : List ℕ
   pub accepted : start capacity openlimit locklimit users lent .answer ≡ 0 ∕ 0
-  pub sound : soundImage highest image ≡ true
+  pub sound : soundImage kind highest image ≡ true
 
-abbrev pub firstState : Begun → State
-firstState g = state (start (g .capacity) (g .openlimit) (g .locklimit) (g .users) (g .lent) .list) (g .image)
+abbrev pub firstState : (kind : Kind) → Begun kind → State
+firstState kind g = state (start (g .capacity) (g .openlimit) (g .locklimit) (g .users) (g .lent) .list) (g .image)
 
-unfoldable pub after : Engine → Begun → List Ask → State
-after e g qs = stateAfter e qs (firstState g)
+unfoldable pub after : (kind : Kind) → Engine → Begun kind → List Ask → State
+after kind e g qs = stateAfter e qs (firstState kind g)
 
-unfoldable pub historyOf : Engine → Begun → List Ask → List Event
-historyOf e g qs = eventsOf e qs (firstState g)
+unfoldable pub historyOf : (kind : Kind) → Engine → Begun kind → List Ask → List Event
+historyOf kind e g qs = eventsOf e qs (firstState kind g)

@@ -21,6 +21,7 @@ use Rattle.rules.specs.declared.list.LockList.{LockList}
 use Rattle.rules.specs.Drive.{highest, lookUp, missing, blockOf}
 use Rattle.rules.specs.Locks.{unpack, placeAt, itemAt, isLow, sameFile, opensNameAt, openOf, isOpened, opensUnlocked, clash, clashAt, isApart, goodOpen, goodLock, goodItem, goodPlace, keepsLimits, zeroAt, soundLocks, soundList}
 use Rattle.listcheck.specs.Check.{openAlone, lockAlone, itemAlone, placeAlone, placeAloneAt, lockOpened, lockOpenedAt, goodHead}
+use Rattle.rules.specs.declared.kind.Kind.{Kind}
 
 -- a name's length, as a callee asks it
 pub eleven : (name : List ℕ) → length name ≡ 11 → 11 ≤ length name
@@ -40,11 +41,11 @@ pub ruleset lows = (alls, low-yes, low-no)
 
 -- ---- what was found of a file on the image
 
-pub missing-as : (s : List ℕ) (f g : File) (x : Found) (r : Bool) → r ≡ missing x → x ≡ lookUp s f → f ≡ g → not r ≡ not (missing (lookUp s g))
-missing-as s f g x r h e d = cc
+pub missing-as : (kind : Kind) (s : List ℕ) (f g : File) (x : Found) (r : Bool) → r ≡ missing kind x → x ≡ lookUp kind s f → f ≡ g → not r ≡ not (missing kind (lookUp kind s g))
+missing-as kind s f g x r h e d = cc
 
-pub block-as : (s : List ℕ) (f g : File) (r b : ℕ) → b ≡ blockOf s f r → f ≡ g → not (eqb b 0) ≡ not (eqb (blockOf s g r) 0)
-block-as s f g r b h e = cc
+pub block-as : (kind : Kind) (s : List ℕ) (f g : File) (r b : ℕ) → b ≡ blockOf kind s f r → f ≡ g → not (eqb b 0) ≡ not (eqb (blockOf kind s g r) 0)
+block-as kind s f g r b h e = cc
 
 pub ruleset found = (choices, missing-as, block-as)
 
@@ -136,9 +137,9 @@ split (suc (suc (suc k))) e c p n w t o m u b =
     let z : leb j 2 ≡ false = lt-leb j 2 (omega arith) in
     rw (x, y, z) (dead c _ _)
 
-pub place-split : (s : List ℕ) (l : LockList) (i : ℕ) → goodPlace highest s l i ≡ (placeAloneAt s l i and lockOpenedAt l i)
+pub place-split : (kind : Kind) (s : List ℕ) (l : LockList) (i : ℕ) → goodPlace kind highest s l i ≡ (placeAloneAt kind s l i and lockOpenedAt l i)
 unfolding goodPlace goodItem goodOpen goodLock placeAloneAt placeAlone itemAlone openAlone lockAlone lockOpenedAt lockOpened
-place-split s l i = split (itemAt l i .kind) _ _ _ _ _ _ _ _ _ _
+place-split kind s l i = split (itemAt l i .kind) _ _ _ _ _ _ _ _ _ _
 
 shuffle : (x y f g : Bool) → ((x and y) and (f and g)) ≡ ((x and f) and (y and g))
 unfolding _and_
@@ -167,18 +168,18 @@ join-two true false x = refl
 join-two false b x = refl
 
 -- the list check in the order of its parts
-pub sound-as : (s list : List ℕ) (l : LockList) (r : Bool) → l ≡ unpack list → r ≡ (all (zeroAt list) 64 and goodHead (l .capacity) (l .openlimit) (l .locklimit) (l .users) and all (placeAloneAt s l) 64 and all (lockOpenedAt l) 64 and all (isApart l) 64 and all (keepsLimits l) 16) → r ≡ soundList highest list s
+pub sound-as : (kind : Kind) (s list : List ℕ) (l : LockList) (r : Bool) → l ≡ unpack list → r ≡ (all (zeroAt list) 64 and goodHead (l .capacity) (l .openlimit) (l .locklimit) (l .users) and all (placeAloneAt kind s l) 64 and all (lockOpenedAt l) 64 and all (isApart l) 64 and all (keepsLimits l) 16) → r ≡ soundList kind highest list s
 unfolding soundList soundLocks goodHead
-sound-as s list l r e h =
-    let g = all-both (goodPlace highest s l) (placeAloneAt s l) (lockOpenedAt l) 64 (place-split s l) in
+sound-as kind s list l r e h =
+    let g = all-both (goodPlace kind highest s l) (placeAloneAt kind s l) (lockOpenedAt l) 64 (place-split kind s l) in
     let rest = join-two _ _ _ ∙ ap (λ (x : Bool). x and all (isApart l) 64 and all (keepsLimits l) 16) (sym g) in
     h ∙ ap (λ (x : Bool). all (zeroAt list) 64 and x) (ap (λ (x : Bool). goodHead (l .capacity) (l .openlimit) (l .locklimit) (l .users) and x) rest ∙ sym (join-four _ _ _ _ _))
-    ∙ ap (λ (m : LockList). all (zeroAt list) 64 and soundLocks highest m s) e
+    ∙ ap (λ (m : LockList). all (zeroAt list) 64 and soundLocks kind highest m s) e
 
 -- its first four parts were found good
-pub sound-after : (s list : List ℕ) (l : LockList) (a b c d r : Bool) → l ≡ unpack list → a ≡ all (zeroAt list) 64 → not a ≡ false → b ≡ goodHead (l .capacity) (l .openlimit) (l .locklimit) (l .users) → not b ≡ false → c ≡ all (placeAloneAt s l) 64 → not c ≡ false → d ≡ all (lockOpenedAt l) 64 → not d ≡ false → r ≡ (all (isApart l) 64 and all (keepsLimits l) 16) → r ≡ soundList highest list s
-sound-after s list l a b c d r e ea ha eb hb ec hc ed hd h =
-    sound-as s list l r e (and-then r _ _ (not-yes a _ ea ha) (and-then r _ _ (not-yes b _ eb hb) (and-then r _ _ (not-yes c _ ec hc) (and-then r _ _ (not-yes d _ ed hd) h))))
+pub sound-after : (kind : Kind) (s list : List ℕ) (l : LockList) (a b c d r : Bool) → l ≡ unpack list → a ≡ all (zeroAt list) 64 → not a ≡ false → b ≡ goodHead (l .capacity) (l .openlimit) (l .locklimit) (l .users) → not b ≡ false → c ≡ all (placeAloneAt kind s l) 64 → not c ≡ false → d ≡ all (lockOpenedAt l) 64 → not d ≡ false → r ≡ (all (isApart l) 64 and all (keepsLimits l) 16) → r ≡ soundList kind highest list s
+sound-after kind s list l a b c d r e ea ha eb hb ec hc ed hd h =
+    sound-as kind s list l r e (and-then r _ _ (not-yes a _ ea ha) (and-then r _ _ (not-yes b _ eb hb) (and-then r _ _ (not-yes c _ ec hc) (and-then r _ _ (not-yes d _ ed hd) h))))
 
 pub ruleset sounds = (and-first, and-then, answers, sound-as)
 

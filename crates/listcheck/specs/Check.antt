@@ -12,32 +12,33 @@ use Rattle.rules.specs.declared.item.Item.{Item}
 use Rattle.rules.specs.declared.list.LockList.{LockList}
 use Rattle.rules.specs.Drive.{highest, legalName, lookUp, missing, blockOf}
 use Rattle.rules.specs.Locks.{unlocked, itemAt, fileOf, isLow, goodEmpty, openOf, opensUnlocked, isKindByAt, isLimit, isUser}
+use Rattle.rules.specs.declared.kind.Kind.{Kind}
 
 -- the file that an item names, of each process's user
 abbrev pub fileBy : List ℕ → Item → File
 fileBy users it = record { user = getD users (it .process) 0; name = it .name }
 
 -- an open: modes 0 to 2, record 0, its file on the image
-unfoldable pub openAlone : List ℕ → List ℕ → Item → Bool
-openAlone s users it = leb (it .mode) 2 and eqb (it .number) 0 and not (missing (lookUp s (fileBy users it)))
+unfoldable pub openAlone : Kind → List ℕ → List ℕ → Item → Bool
+openAlone kind s users it = leb (it .mode) 2 and eqb (it .number) 0 and not (missing kind (lookUp kind s (fileBy users it)))
 
 -- a lock: mode 1, its record has a block
-unfoldable pub lockAlone : List ℕ → List ℕ → Item → Bool
-lockAlone s users it = eqb (it .mode) unlocked and not (eqb (blockOf s (fileBy users it) (it .number)) 0)
+unfoldable pub lockAlone : Kind → List ℕ → List ℕ → Item → Bool
+lockAlone kind s users it = eqb (it .mode) unlocked and not (eqb (blockOf kind s (fileBy users it) (it .number)) 0)
 
 -- an item: a process to 15, a legal name with high bits zero, a record below 262,144
-unfoldable pub itemAlone : List ℕ → List ℕ → Item → Bool
-itemAlone s users it =
+unfoldable pub itemAlone : Kind → List ℕ → List ℕ → Item → Bool
+itemAlone kind s users it =
     leb (it .process) 15 and legalName (it .name) 0 and all (isLow (it .name)) 11 and leb (it .number) highest
-    and (openAlone s users it if eqb (it .kind) 1 else lockAlone s users it)
+    and (openAlone kind s users it if eqb (it .kind) 1 else lockAlone kind s users it)
 
 -- a place: empty, or below the capacity with an item
-unfoldable pub placeAlone : List ℕ → List ℕ → ℕ → ℕ → Item → Bool
-placeAlone s users capacity i it =
-    goodEmpty it if eqb (it .kind) 0 else (ltb i capacity and leb (it .kind) 2 and itemAlone s users it)
+unfoldable pub placeAlone : Kind → List ℕ → List ℕ → ℕ → ℕ → Item → Bool
+placeAlone kind s users capacity i it =
+    goodEmpty it if eqb (it .kind) 0 else (ltb i capacity and leb (it .kind) 2 and itemAlone kind s users it)
 
-unfoldable pub placeAloneAt : List ℕ → LockList → ℕ → Bool
-placeAloneAt s l i = placeAlone s (l .users) (l .capacity) i (itemAt l i)
+unfoldable pub placeAloneAt : Kind → List ℕ → LockList → ℕ → Bool
+placeAloneAt kind s l i = placeAlone kind s (l .users) (l .capacity) i (itemAt l i)
 
 -- a lock's process has that file open unlocked
 unfoldable pub lockOpened : LockList → Item → Bool

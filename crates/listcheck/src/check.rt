@@ -3,11 +3,13 @@ use crate::limits::all_keep;
 use crate::place::place_alone;
 use locklist::start::all_users;
 use locklist::start::is_limit;
+use rules::kind::Kind;
 use rules::list::LockList;
 ghost use mathlib.Core.Path.{_≡_};
-ghost use Prim.Native.Nat.{_<_, _≤_};
+ghost use Prim.Native.Nat.{_*_, _≤_, _<_};
 ghost use lib.ListN.{length};
 ghost use Rattle.words.specs.Tests.{all};
+ghost use Rattle.rules.specs.Kinds.{entries};
 ghost use Rattle.rules.specs.Drive.{highest};
 ghost use Rattle.rules.specs.Locks.{unpack, zeroAt, soundList};
 ghost use Rattle.listcheck.specs.Check.{placeAloneAt, lockOpenedAt, goodHead};
@@ -28,16 +30,16 @@ fn all_zero(list: &[u8]) -> bool
 }
 
 // Each place, by itself.
-fn places_alone(l: LockList, image: &[u8]) -> bool
-    requires { ⌜ 2048 ≤ length (now image) ⌝ }
-    ensures { λ r. ⌜ r ≡ all (placeAloneAt (now (image .entry)) l) 64 ⌝ }
+fn places_alone(kind: Kind, l: LockList, image: &[u8]) -> bool
+    requires { ⌜ 32 * entries kind ≤ length (now image) ⌝ }
+    ensures { λ r. ⌜ r ≡ all (placeAloneAt kind (now (image .entry)) l) 64 ⌝ }
 {
     let users = l.users;
     let capacity = l.capacity;
     let mut i: usize = 0;
     while i < 64 {
         let it = l.items[i];
-        if !place_alone(image, users, capacity, i, it) {
+        if !place_alone(kind, image, users, capacity, i, it) {
             return false;
         }
         i += 1;
@@ -92,9 +94,9 @@ fn good_head(capacity: u8, openlimit: u8, locklimit: u8, users: [u8; 16]) -> boo
 }
 
 // The list check: the list, unpacked and as it stands in its bytes, is sound against a sound image.
-pub fn sound_list(l: LockList, list: &[u8], image: &[u8]) -> bool
-    requires { ⌜ (l ≡ unpack (now list)) × (length (now list) ≡ 1299) × (2048 ≤ length (now image)) ⌝ }
-    ensures { λ r. ⌜ r ≡ soundList highest (now (list .entry)) (now (image .entry)) ⌝ }
+pub fn sound_list(kind: Kind, l: LockList, list: &[u8], image: &[u8]) -> bool
+    requires { ⌜ (l ≡ unpack (now list)) × (length (now list) ≡ 1299) × (32 * entries kind ≤ length (now image)) ⌝ }
+    ensures { λ r. ⌜ r ≡ soundList kind highest (now (list .entry)) (now (image .entry)) ⌝ }
 {
     if !all_zero(list) {
         return false;
@@ -103,7 +105,7 @@ pub fn sound_list(l: LockList, list: &[u8], image: &[u8]) -> bool
     if !good_head(l.capacity, l.openlimit, l.locklimit, users) {
         return false;
     }
-    if !places_alone(l, image) {
+    if !places_alone(kind, l, image) {
         return false;
     }
     if !locks_opened(l) {

@@ -1,15 +1,17 @@
-use drive::find::block_of;
-use drive::find::is_missing;
-use drive::find::look_up;
-use drive::name::legal_name;
+use directory::find::block_of;
+use directory::find::is_missing;
+use directory::find::look_up;
+use directory::name::legal_name;
 use rules::file::File;
 use rules::item::Item;
+use rules::kind::Kind;
 use rules::tests::user_in;
 ghost use mathlib.Core.Path.{_≡_};
-ghost use Prim.Native.Nat.{_≤_};
+ghost use Prim.Native.Nat.{_*_, _≤_};
 ghost use lib.ListN.{length};
 ghost use lib.Dec.{eqb};
 ghost use Rattle.words.specs.Tests.{_if_else_, all};
+ghost use Rattle.rules.specs.Kinds.{entries};
 ghost use Rattle.rules.specs.Locks.{isLow, isZero, goodEmpty};
 ghost use Rattle.listcheck.specs.Check.{fileBy, openAlone, lockAlone, itemAlone, placeAlone};
 
@@ -71,9 +73,9 @@ pub fn file_by(users: [u8; 16], it: Item) -> File
 }
 
 // An open: its mode and record, and its file on the image.
-fn open_alone(image: &[u8], users: [u8; 16], it: Item) -> bool
-    requires { ⌜ 2048 ≤ length (now image) ⌝ }
-    ensures { λ r. ⌜ r ≡ openAlone (now (image .entry)) users it ⌝ }
+fn open_alone(kind: Kind, image: &[u8], users: [u8; 16], it: Item) -> bool
+    requires { ⌜ 32 * entries kind ≤ length (now image) ⌝ }
+    ensures { λ r. ⌜ r ≡ openAlone kind (now (image .entry)) users it ⌝ }
 {
     if 2 < it.mode {
         return false;
@@ -82,37 +84,37 @@ fn open_alone(image: &[u8], users: [u8; 16], it: Item) -> bool
         return false;
     }
     let f = file_by(users, it);
-    let found = look_up(image, f);
-    !is_missing(found)
+    let found = look_up(kind, image, f);
+    !is_missing(kind, found)
 }
 
 // A lock: its mode, and that its record has a block.
-fn lock_alone(image: &[u8], users: [u8; 16], it: Item) -> bool
-    requires { ⌜ 2048 ≤ length (now image) ⌝ }
-    ensures { λ r. ⌜ r ≡ lockAlone (now (image .entry)) users it ⌝ }
+fn lock_alone(kind: Kind, image: &[u8], users: [u8; 16], it: Item) -> bool
+    requires { ⌜ 32 * entries kind ≤ length (now image) ⌝ }
+    ensures { λ r. ⌜ r ≡ lockAlone kind (now (image .entry)) users it ⌝ }
 {
     if it.mode != 1 {
         return false;
     }
     let f = file_by(users, it);
-    block_of(image, f, it.number as usize) != 0
+    block_of(kind, image, f, it.number as usize) != 0
 }
 
 // An open or a lock, by its kind.
-fn kind_alone(image: &[u8], users: [u8; 16], it: Item) -> bool
-    requires { ⌜ 2048 ≤ length (now image) ⌝ }
-    ensures { λ r. ⌜ r ≡ (openAlone (now (image .entry)) users it if eqb (it .kind) 1 else lockAlone (now (image .entry)) users it) ⌝ }
+fn kind_alone(kind: Kind, image: &[u8], users: [u8; 16], it: Item) -> bool
+    requires { ⌜ 32 * entries kind ≤ length (now image) ⌝ }
+    ensures { λ r. ⌜ r ≡ (openAlone kind (now (image .entry)) users it if eqb (it .kind) 1 else lockAlone kind (now (image .entry)) users it) ⌝ }
 {
     if it.kind == 1 {
-        return open_alone(image, users, it);
+        return open_alone(kind, image, users, it);
     }
-    lock_alone(image, users, it)
+    lock_alone(kind, image, users, it)
 }
 
 // An item, by itself.
-fn item_alone(image: &[u8], users: [u8; 16], it: Item) -> bool
-    requires { ⌜ 2048 ≤ length (now image) ⌝ }
-    ensures { λ r. ⌜ r ≡ itemAlone (now (image .entry)) users it ⌝ }
+fn item_alone(kind: Kind, image: &[u8], users: [u8; 16], it: Item) -> bool
+    requires { ⌜ 32 * entries kind ≤ length (now image) ⌝ }
+    ensures { λ r. ⌜ r ≡ itemAlone kind (now (image .entry)) users it ⌝ }
 {
     if 15 < it.process {
         return false;
@@ -127,13 +129,20 @@ fn item_alone(image: &[u8], users: [u8; 16], it: Item) -> bool
     if 262143 < it.number {
         return false;
     }
-    kind_alone(image, users, it)
+    kind_alone(kind, image, users, it)
 }
 
 // A place, by itself: empty, or below the capacity with an item.
-pub fn place_alone(image: &[u8], users: [u8; 16], capacity: u8, i: usize, it: Item) -> bool
-    requires { ⌜ 2048 ≤ length (now image) ⌝ }
-    ensures { λ r. ⌜ r ≡ placeAlone (now (image .entry)) users capacity i it ⌝ }
+pub fn place_alone(
+    kind: Kind,
+    image: &[u8],
+    users: [u8; 16],
+    capacity: u8,
+    i: usize,
+    it: Item,
+) -> bool
+    requires { ⌜ 32 * entries kind ≤ length (now image) ⌝ }
+    ensures { λ r. ⌜ r ≡ placeAlone kind (now (image .entry)) users capacity i it ⌝ }
 {
     if it.kind == 0 {
         return good_empty(it);
@@ -144,5 +153,5 @@ pub fn place_alone(image: &[u8], users: [u8; 16], capacity: u8, i: usize, it: It
     if 2 < it.kind {
         return false;
     }
-    item_alone(image, users, it)
+    item_alone(kind, image, users, it)
 }

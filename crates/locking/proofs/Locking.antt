@@ -24,15 +24,16 @@ use Rattle.rules.specs.Effects.{lockedRun, unlockedRun, terminated, does42, doe
 use Rattle.rules.specs.Call.{askedBy, asked, rowsOf, effectOf, served}
 use Rattle.rules.proofs.Ends.{did-as, did-none, did-refuse, did-pass, served-as}
 use Rattle.locking.specs.By.{by42, by43}
+use Rattle.rules.specs.declared.kind.Kind.{Kind}
 
-pub nonzero-lacking : (s : List ℕ) (f : File) (r n k : ℕ) → noneZero (rowsLacking s f r n k) ≡ true
+pub nonzero-lacking : (kind : Kind) (s : List ℕ) (f : File) (r n k : ℕ) → noneZero (rowsLacking kind s f r n k) ≡ true
 unfolding rowsLacking
-nonzero-lacking s f r n k = search nonzeros depth 20 fits 20000
+nonzero-lacking kind s f r n k = search nonzeros depth 20 fits 20000
 
 -- the capacity of a sound list
-pub capacity-fits : (l : LockList) (list s : List ℕ) → l ≡ unpack list → soundList highest list s ≡ true → l .capacity ≤ 64
+pub capacity-fits : (kind : Kind) (l : LockList) (list s : List ℕ) → l ≡ unpack list → soundList kind highest list s ≡ true → l .capacity ≤ 64
 unfolding soundList soundLocks isLimit
-capacity-fits l list s h g =
+capacity-fits kind l list s h g =
     let k = leb-true (unpack list .capacity) 64 (and-snd _ _ (and-fst _ _ (and-snd (all (zeroAt list) 64) _ g))) in
     let e : l .capacity ≡ unpack list .capacity = ap (λ (m : LockList). m .capacity) h in
     omega arith
@@ -40,18 +41,18 @@ capacity-fits l list s h g =
 module _ (p : ℕ) (l : LockList) (o : ℕ) (f : File) (r n : ℕ) (b : Buffers) where
   -- ---- 42
 
-  module _ (c : ℕ) (hc : c ≡ firstOf (rows42 p l o f r n (b .dma) (b .image))) where
-    pub lock-refused : (c ≡ 0 → ⊥) → Did (by42 p l o f r n b) c (b .fcb) (b .dma) (b .list) (b .image)
+  module _ (kind : Kind) (c : ℕ) (hc : c ≡ firstOf (rows42 kind p l o f r n (b .dma) (b .image))) where
+    pub lock-refused : (c ≡ 0 → ⊥) → Did (by42 kind p l o f r n b) c (b .fcb) (b .dma) (b .list) (b .image)
     unfolding by42
     lock-refused d = did-refuse _ b _ c hc d
 
     module _ (z : c ≡ 0) (t : Bool) (ht : t ≡ eqb (itemAt l o .mode) 1) where
       -- modes 0 and 2
-      pub lock-passed : not t ≡ true → Did (by42 p l o f r n b) 0 (b .fcb) (b .dma) (b .list) (b .image)
+      pub lock-passed : not t ≡ true → Did (by42 kind p l o f r n b) 0 (b .fcb) (b .dma) (b .list) (b .image)
       unfolding by42 does42 _if_else_
       lock-passed y = did-pass _ b _ c hc 0 _ _ _ _ z (let q : eqb (itemAt l o .mode) 1 ≡ false = sym ht ∙ not-true t y in rw q (did-none 0 b))
 
-      pub lock-done : (m : LockList) (list : List ℕ) → not t ≡ false → m ≡ lockedRun p f r n l → list ≡ pack m → Did (by42 p l o f r n b) 0 (b .fcb) (b .dma) list (b .image)
+      pub lock-done : (m : LockList) (list : List ℕ) → not t ≡ false → m ≡ lockedRun p f r n l → list ≡ pack m → Did (by42 kind p l o f r n b) 0 (b .fcb) (b .dma) list (b .image)
       unfolding by42 does42 _if_else_
       lock-done m list y hm hp =
           did-pass _ b _ c hc 0 _ _ _ _ z
@@ -79,18 +80,18 @@ module _ (p : ℕ) (l : LockList) (o : ℕ) (f : File) (r n : ℕ) (b : Buffers)
 
 -- ---- the calls on the buffers
 
-module _ (p c : ℕ) (b : Buffers) (l : LockList) (f : File) (o r a : ℕ) (fcb dma list image : List ℕ) (hl : l ≡ unpack (b .list)) (hf : f ≡ callerFile p l (b .fcb)) (ho : o ≡ openOf l p f) (hr : r ≡ recordOf (b .fcb)) where
-  pub lock-called : Did (by42 p l o f r c b) a fcb dma list image → Did (served (Call Lock) p c b) a fcb dma list image
+module _ (kind : Kind) (p c : ℕ) (b : Buffers) (l : LockList) (f : File) (o r a : ℕ) (fcb dma list image : List ℕ) (hl : l ≡ unpack (b .list)) (hf : f ≡ callerFile p l (b .fcb)) (ho : o ≡ openOf l p f) (hr : r ≡ recordOf (b .fcb)) where
+  pub lock-called : Did (by42 kind p l o f r c b) a fcb dma list image → Did (served kind (Call Lock) p c b) a fcb dma list image
   unfolding by42 rowsOf effectOf askedBy
-  lock-called d = did-as _ _ a fcb dma list image (served-as (Call Lock) p c b l f r hl hf hr) (rw ho at d)
+  lock-called d = did-as _ _ a fcb dma list image (served-as kind (Call Lock) p c b l f r hl hf hr) (rw ho at d)
 
-  pub unlock-called : Did (by43 p l o f r c b) a fcb dma list image → Did (served (Call Unlock) p c b) a fcb dma list image
+  pub unlock-called : Did (by43 p l o f r c b) a fcb dma list image → Did (served kind (Call Unlock) p c b) a fcb dma list image
   unfolding by43 rowsOf effectOf askedBy
-  unlock-called d = did-as _ _ a fcb dma list image (served-as (Call Unlock) p c b l f r hl hf hr) (rw ho at d)
+  unlock-called d = did-as _ _ a fcb dma list image (served-as kind (Call Unlock) p c b l f r hl hf hr) (rw ho at d)
 
-pub terminate-done : (p c : ℕ) (b : Buffers) (l m : LockList) (list : List ℕ) → l ≡ unpack (b .list) → m ≡ terminated p l → list ≡ pack m → Did (served (Call Terminate) p c b) 0 (b .fcb) (b .dma) list (b .image)
+pub terminate-done : (kind : Kind) (p c : ℕ) (b : Buffers) (l m : LockList) (list : List ℕ) → l ≡ unpack (b .list) → m ≡ terminated p l → list ≡ pack m → Did (served kind (Call Terminate) p c b) 0 (b .fcb) (b .dma) list (b .image)
 unfolding served rowsOf effectOf does143 asked askedBy
-terminate-done p c b l m list hl hm hp =
+terminate-done kind p c b l m list hl hm hp =
     did-pass [] b _ 0 (row-none 0 refl) 0 _ _ _ _ refl
     (record {
       gives = refl;

@@ -6,26 +6,28 @@ use locklist::ask::caller_file;
 use locklist::ask::record_of;
 use locklist::pack::pack;
 use rules::file::File;
+use rules::kind::Kind;
 use rules::list::LockList;
 ghost use mathlib.Core.Path.{_≡_};
 ghost use lib.ListN.{length};
 ghost use Rattle.words.specs.Tables.{firstOf};
+ghost use Rattle.rules.specs.Kinds.{entries};
 ghost use Rattle.rules.specs.Serves.{Did, buffers};
 ghost use Rattle.rules.specs.Locks.{unpack};
 ghost use Rattle.rules.specs.Call.{Ready, served};
 ghost use Rattle.rules.specs.declared.routine.Chosen.the-variants.{Call};
-ghost use Prim.Native.Nat.{_+_, _<_, _≤_};
+ghost use Prim.Native.Nat.{_*_, _≤_, _<_};
 ghost use Rattle.rules.specs.declared.routine.Routine.the-variants.{Lock};
 ghost use Rattle.rules.specs.Codes.{rowsLacking, firstLacking, rowsTake, rows42};
 ghost use mathlib.Core.List.{_++_};
 ghost use Rattle.locking.specs.By.{by42};
 
 // The code of the first refusal for the records of the run, or 0.
-fn run_refusal(p: u8, l: LockList, f: File, r: u32, n: u32, image: &[u8]) -> u32
-    requires { ⌜ (l .capacity ≤ 64) × (n ≤ 16) × (r < 16777216) × (2048 ≤ length (now image)) ⌝ }
-    ensures { λ c. ⌜ c ≡ firstOf (rowsLacking (now (image .entry)) f r n (firstLacking (now (image .entry)) f r n) ++ rowsTake p l f r n) ⌝ }
+fn run_refusal(kind: Kind, p: u8, l: LockList, f: File, r: u32, n: u32, image: &[u8]) -> u32
+    requires { ⌜ (l .capacity ≤ 64) × (n ≤ 16) × (r < 16777216) × (32 * entries kind ≤ length (now image)) ⌝ }
+    ensures { λ c. ⌜ c ≡ firstOf (rowsLacking kind (now (image .entry)) f r n (firstLacking kind (now (image .entry)) f r n) ++ rowsTake p l f r n) ⌝ }
 {
-    let code = lacking(image, f, r as usize, n as usize);
+    let code = lacking(kind, image, f, r as usize, n as usize);
     if code != 0 {
         return code;
     }
@@ -34,6 +36,7 @@ fn run_refusal(p: u8, l: LockList, f: File, r: u32, n: u32, image: &[u8]) -> u32
 
 // The code of the first refusal of 42, or 0. The caller's open is at place `o` (64: none); modes 0 and 2 pass.
 fn lock_refusal(
+    kind: Kind,
     p: u8,
     l: LockList,
     o: usize,
@@ -43,8 +46,8 @@ fn lock_refusal(
     dma: &[u8],
     image: &[u8],
 ) -> u32
-    requires { ⌜ (l .capacity ≤ 64) × (1 ≤ n) × (n ≤ 16) × (r < 16777216) × (length (now dma) ≡ 2048) × (2048 ≤ length (now image)) ⌝ }
-    ensures { λ c. ⌜ c ≡ firstOf (rows42 p l o f r n (now (dma .entry)) (now (image .entry))) ⌝ }
+    requires { ⌜ (l .capacity ≤ 64) × (1 ≤ n) × (n ≤ 16) × (r < 16777216) × (length (now dma) ≡ 2048) × (32 * entries kind ≤ length (now image)) ⌝ }
+    ensures { λ c. ⌜ c ≡ firstOf (rows42 kind p l o f r n (now (dma .entry)) (now (image .entry))) ⌝ }
 {
     if 64 <= o {
         return 10;
@@ -58,11 +61,12 @@ fn lock_refusal(
     if 262143 < r + n - 1 {
         return 6;
     }
-    run_refusal(p, l, f, r, n, image)
+    run_refusal(kind, p, l, f, r, n, image)
 }
 
 // 42 on what was found: decide first, then lock the whole run.
 fn lock_by(
+    kind: Kind,
     p: u8,
     l: LockList,
     o: usize,
@@ -74,10 +78,10 @@ fn lock_by(
     list: &mut [u8],
     image: &[u8],
 ) -> u32
-    requires { ⌜ (l .capacity ≤ 64) × (1 ≤ n) × (n ≤ 16) × (r < 16777216) × Ready (buffers (now fcb) (now dma) (now list) (now image)) ⌝ }
-    ensures { λ c. ⌜ Did (by42 p l o f r n (buffers (now (fcb .entry)) (now (dma .entry)) (now (list .entry)) (now (image .entry)))) c (now (fcb .entry)) (now (dma .entry)) (now (list .exit)) (now (image .entry)) ⌝ }
+    requires { ⌜ (l .capacity ≤ 64) × (1 ≤ n) × (n ≤ 16) × (r < 16777216) × Ready kind (buffers (now fcb) (now dma) (now list) (now image)) ⌝ }
+    ensures { λ c. ⌜ Did (by42 kind p l o f r n (buffers (now (fcb .entry)) (now (dma .entry)) (now (list .entry)) (now (image .entry)))) c (now (fcb .entry)) (now (dma .entry)) (now (list .exit)) (now (image .entry)) ⌝ }
 {
-    let refused = lock_refusal(p, l, o, f, r, n, dma, image);
+    let refused = lock_refusal(kind, p, l, o, f, r, n, dma, image);
     if refused != 0 {
         return refused;
     }
@@ -90,6 +94,7 @@ fn lock_by(
 
 // 42 on the buffers.
 pub fn lock_records(
+    kind: Kind,
     p: u8,
     l: LockList,
     count: u32,
@@ -98,11 +103,11 @@ pub fn lock_records(
     list: &mut [u8],
     image: &[u8],
 ) -> u32
-    requires { ⌜ (l ≡ unpack (now list)) × (1 ≤ count) × (count ≤ 16) × Ready (buffers (now fcb) (now dma) (now list) (now image)) ⌝ }
-    ensures { λ c. ⌜ Did (served (Call Lock) p count (buffers (now (fcb .entry)) (now (dma .entry)) (now (list .entry)) (now (image .entry)))) c (now (fcb .entry)) (now (dma .entry)) (now (list .exit)) (now (image .entry)) ⌝ }
+    requires { ⌜ (l ≡ unpack (now list)) × (1 ≤ count) × (count ≤ 16) × Ready kind (buffers (now fcb) (now dma) (now list) (now image)) ⌝ }
+    ensures { λ c. ⌜ Did (served kind (Call Lock) p count (buffers (now (fcb .entry)) (now (dma .entry)) (now (list .entry)) (now (image .entry)))) c (now (fcb .entry)) (now (dma .entry)) (now (list .exit)) (now (image .entry)) ⌝ }
 {
     let f = caller_file(l, p, fcb);
     let o = l.open_of(p, f);
     let r = record_of(fcb);
-    lock_by(p, l, o, f, r, count, fcb, dma, list, image)
+    lock_by(kind, p, l, o, f, r, count, fcb, dma, list, image)
 }

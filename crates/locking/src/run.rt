@@ -1,14 +1,17 @@
-use drive::byte::wide;
-use drive::find::block_of;
-use drive::find::entry_of;
+use directory::byte::wide;
+use directory::find::block_of;
+use directory::find::entry_of;
 use rules::file::File;
+use rules::kind::Kind;
+use rules::kind::entries;
 use rules::list::LockList;
 ghost use mathlib.Core.Path.{_≡_};
-ghost use Prim.Native.Nat.{_+_, _<_, _≤_};
+ghost use Prim.Native.Nat.{_+_, _*_, _≤_, _<_};
 ghost use lib.ListN.{length};
 ghost use lib.Dec.{eqb, ltb};
 ghost use Rattle.words.specs.Tests.{any, count};
 ghost use Rattle.words.specs.Tables.{firstOf};
+ghost use Rattle.rules.specs.Kinds.{entries};
 ghost use Rattle.rules.specs.Locks.{itemAt, locksBy, freePlaces};
 ghost use Rattle.rules.specs.Codes.{isFileId, noExtent, lacks, firstLacking, rowsLacking, isOthers, isNew, rowsTake};
 
@@ -38,29 +41,29 @@ pub fn is_file_id(dma: &[u8], o: usize) -> bool
 }
 
 // Record `r + k` lacks its extent.
-fn no_extent(image: &[u8], f: File, r: usize, k: usize) -> bool
-    requires { ⌜ (r + k < 4294967296) × (2048 ≤ length (now image)) ⌝ }
-    ensures { λ t. ⌜ t ≡ noExtent (now (image .entry)) f r k ⌝ }
+fn no_extent(kind: Kind, image: &[u8], f: File, r: usize, k: usize) -> bool
+    requires { ⌜ (r + k < 4294967296) × (32 * entries kind ≤ length (now image)) ⌝ }
+    ensures { λ t. ⌜ t ≡ noExtent kind (now (image .entry)) f r k ⌝ }
 {
-    64 <= entry_of(image, f, (r + k) / 128)
+    entries(kind) <= entry_of(kind, image, f, (r + k) / 128)
 }
 
 // Record `r + k` lacks its extent or block.
-fn lacks_block(image: &[u8], f: File, r: usize, k: usize) -> bool
-    requires { ⌜ (r + k < 4294967296) × (2048 ≤ length (now image)) ⌝ }
-    ensures { λ t. ⌜ t ≡ lacks (now (image .entry)) f r k ⌝ }
+fn lacks_block(kind: Kind, image: &[u8], f: File, r: usize, k: usize) -> bool
+    requires { ⌜ (r + k < 4294967296) × (32 * entries kind ≤ length (now image)) ⌝ }
+    ensures { λ t. ⌜ t ≡ lacks kind (now (image .entry)) f r k ⌝ }
 {
-    block_of(image, f, r + k) == 0
+    block_of(kind, image, f, r + k) == 0
 }
 
 // How far into the run the first record is that lacks its extent or block, `n` where none does.
-fn first_lacking(image: &[u8], f: File, r: usize, n: usize) -> usize
-    requires { ⌜ (r + n < 4294967296) × (2048 ≤ length (now image)) ⌝ }
-    ensures { λ k. ⌜ (k ≡ firstLacking (now (image .entry)) f r n) × (k ≤ n) ⌝ }
+fn first_lacking(kind: Kind, image: &[u8], f: File, r: usize, n: usize) -> usize
+    requires { ⌜ (r + n < 4294967296) × (32 * entries kind ≤ length (now image)) ⌝ }
+    ensures { λ k. ⌜ (k ≡ firstLacking kind (now (image .entry)) f r n) × (k ≤ n) ⌝ }
 {
     let mut k = 0;
     while k < n {
-        if lacks_block(image, f, r, k) {
+        if lacks_block(kind, image, f, r, k) {
             return k;
         }
         k += 1;
@@ -69,26 +72,26 @@ fn first_lacking(image: &[u8], f: File, r: usize, n: usize) -> usize
 }
 
 // The code for record `r + k`, the first of the run that lacks its extent or block, or 0 where `k` is past the run.
-fn lacking_code(image: &[u8], f: File, r: usize, n: usize, k: usize) -> u32
-    requires { ⌜ (r + k < 4294967296) × (2048 ≤ length (now image)) ⌝ }
-    ensures { λ c. ⌜ c ≡ firstOf (rowsLacking (now (image .entry)) f r n k) ⌝ }
+fn lacking_code(kind: Kind, image: &[u8], f: File, r: usize, n: usize, k: usize) -> u32
+    requires { ⌜ (r + k < 4294967296) × (32 * entries kind ≤ length (now image)) ⌝ }
+    ensures { λ c. ⌜ c ≡ firstOf (rowsLacking kind (now (image .entry)) f r n k) ⌝ }
 {
     if n <= k {
         return 0;
     }
-    if no_extent(image, f, r, k) {
+    if no_extent(kind, image, f, r, k) {
         return 4;
     }
     1
 }
 
 // The code for a run of which a record is not there, or 0.
-pub fn lacking(image: &[u8], f: File, r: usize, n: usize) -> u32
-    requires { ⌜ (r + n < 4294967296) × (2048 ≤ length (now image)) ⌝ }
-    ensures { λ c. ⌜ c ≡ firstOf (rowsLacking (now (image .entry)) f r n (firstLacking (now (image .entry)) f r n)) ⌝ }
+pub fn lacking(kind: Kind, image: &[u8], f: File, r: usize, n: usize) -> u32
+    requires { ⌜ (r + n < 4294967296) × (32 * entries kind ≤ length (now image)) ⌝ }
+    ensures { λ c. ⌜ c ≡ firstOf (rowsLacking kind (now (image .entry)) f r n (firstLacking kind (now (image .entry)) f r n)) ⌝ }
 {
-    let k = first_lacking(image, f, r, n);
-    lacking_code(image, f, r, n, k)
+    let k = first_lacking(kind, image, f, r, n);
+    lacking_code(kind, image, f, r, n, k)
 }
 
 // The caller's records and the run exceed the lock limit.

@@ -1,4 +1,5 @@
 use locklist::pack::pack;
+use rules::kind::Kind;
 use rules::list::LockList;
 ghost use mathlib.Core.Path.{_≡_};
 ghost use Rattle.rules.specs.Serves.{Did, buffers};
@@ -8,9 +9,17 @@ ghost use Rattle.rules.specs.declared.routine.Chosen.the-variants.{Call};
 ghost use Rattle.rules.specs.declared.routine.Routine.the-variants.{Terminate};
 
 // 143 on the buffers: whatever the process holds is taken back.
-pub fn terminate(p: u8, l: LockList, fcb: &[u8], dma: &[u8], list: &mut [u8], image: &[u8]) -> u32
-    requires { ⌜ (l ≡ unpack (now list)) × Ready (buffers (now fcb) (now dma) (now list) (now image)) ⌝ }
-    ensures { λ c. ⌜ Did (served (Call Terminate) p 1 (buffers (now (fcb .entry)) (now (dma .entry)) (now (list .entry)) (now (image .entry)))) c (now (fcb .entry)) (now (dma .entry)) (now (list .exit)) (now (image .entry)) ⌝ }
+pub fn terminate(
+    kind: Kind,
+    p: u8,
+    l: LockList,
+    fcb: &[u8],
+    dma: &[u8],
+    list: &mut [u8],
+    image: &[u8],
+) -> u32
+    requires { ⌜ (l ≡ unpack (now list)) × Ready kind (buffers (now fcb) (now dma) (now list) (now image)) ⌝ }
+    ensures { λ c. ⌜ Did (served kind (Call Terminate) p 1 (buffers (now (fcb .entry)) (now (dma .entry)) (now (list .entry)) (now (image .entry)))) c (now (fcb .entry)) (now (dma .entry)) (now (list .exit)) (now (image .entry)) ⌝ }
 {
     pack(l.terminate(p), list);
     0

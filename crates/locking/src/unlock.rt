@@ -4,6 +4,7 @@ use locklist::ask::caller_file;
 use locklist::ask::record_of;
 use locklist::pack::pack;
 use rules::file::File;
+use rules::kind::Kind;
 use rules::list::LockList;
 ghost use mathlib.Core.Path.{_≡_};
 ghost use lib.ListN.{length};
@@ -12,7 +13,7 @@ ghost use Rattle.rules.specs.Serves.{Did, buffers};
 ghost use Rattle.rules.specs.Locks.{unpack};
 ghost use Rattle.rules.specs.Call.{Ready, served};
 ghost use Rattle.rules.specs.declared.routine.Chosen.the-variants.{Call};
-ghost use Prim.Native.Nat.{_+_, _<_, _≤_};
+ghost use Prim.Native.Nat.{_≤_, _<_};
 ghost use Rattle.rules.specs.declared.routine.Routine.the-variants.{Unlock};
 ghost use Rattle.rules.specs.Codes.{rows43};
 ghost use Rattle.locking.specs.By.{by43};
@@ -39,6 +40,7 @@ fn unlock_refusal(l: LockList, o: usize, r: u32, n: u32, dma: &[u8]) -> u32
 
 // 43 on what was found: decide first, then take the run's locks away.
 fn unlock_by(
+    kind: Kind,
     p: u8,
     l: LockList,
     o: usize,
@@ -50,7 +52,7 @@ fn unlock_by(
     list: &mut [u8],
     image: &[u8],
 ) -> u32
-    requires { ⌜ (1 ≤ n) × (n ≤ 16) × (r < 16777216) × Ready (buffers (now fcb) (now dma) (now list) (now image)) ⌝ }
+    requires { ⌜ (1 ≤ n) × (n ≤ 16) × (r < 16777216) × Ready kind (buffers (now fcb) (now dma) (now list) (now image)) ⌝ }
     ensures { λ c. ⌜ Did (by43 p l o f r n (buffers (now (fcb .entry)) (now (dma .entry)) (now (list .entry)) (now (image .entry)))) c (now (fcb .entry)) (now (dma .entry)) (now (list .exit)) (now (image .entry)) ⌝ }
 {
     let code = unlock_refusal(l, o, r, n, dma);
@@ -66,6 +68,7 @@ fn unlock_by(
 
 // 43 on the buffers.
 pub fn unlock_records(
+    kind: Kind,
     p: u8,
     l: LockList,
     count: u32,
@@ -74,11 +77,11 @@ pub fn unlock_records(
     list: &mut [u8],
     image: &[u8],
 ) -> u32
-    requires { ⌜ (l ≡ unpack (now list)) × (1 ≤ count) × (count ≤ 16) × Ready (buffers (now fcb) (now dma) (now list) (now image)) ⌝ }
-    ensures { λ c. ⌜ Did (served (Call Unlock) p count (buffers (now (fcb .entry)) (now (dma .entry)) (now (list .entry)) (now (image .entry)))) c (now (fcb .entry)) (now (dma .entry)) (now (list .exit)) (now (image .entry)) ⌝ }
+    requires { ⌜ (l ≡ unpack (now list)) × (1 ≤ count) × (count ≤ 16) × Ready kind (buffers (now fcb) (now dma) (now list) (now image)) ⌝ }
+    ensures { λ c. ⌜ Did (served kind (Call Unlock) p count (buffers (now (fcb .entry)) (now (dma .entry)) (now (list .entry)) (now (image .entry)))) c (now (fcb .entry)) (now (dma .entry)) (now (list .exit)) (now (image .entry)) ⌝ }
 {
     let f = caller_file(l, p, fcb);
     let o = l.open_of(p, f);
     let r = record_of(fcb);
-    unlock_by(p, l, o, f, r, count, fcb, dma, list, image)
+    unlock_by(kind, p, l, o, f, r, count, fcb, dma, list, image)
 }

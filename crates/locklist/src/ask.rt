@@ -1,4 +1,4 @@
-use drive::name::file_from;
+use directory::name::file_from;
 use rules::file::File;
 use rules::list::LockList;
 ghost use mathlib.Core.Path.{_≡_};

@@ -3,7 +3,6 @@ use crate::unpack::users_from;
 use rules::item::Item;
 use rules::list::LockList;
 ghost use mathlib.Core.Path.{_≡_};
-ghost use Prim.Native.Nat.{_≤_};
 ghost use lib.ListN.{length};
 ghost use mathlib.Core.Bool.{not};
 ghost use lib.Dec.{eqb};

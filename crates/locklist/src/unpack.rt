@@ -1,5 +1,5 @@
 use crate::mark::kind_of;
-use drive::name::eleven_from;
+use directory::name::eleven_from;
 use rules::item::Item;
 use rules::list::LockList;
 ghost use mathlib.Core.Path.{_≡_};

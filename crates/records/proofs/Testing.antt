@@ -1,5 +1,5 @@
 -- 41 and 46: the outcome at each end of their routines. Assumes nothing.
-use Prim.Native.Nat.{ℕ, _+_, _-_, _*_, _/_}
+use Prim.Native.Nat.{ℕ, _+_, _-_, _*_, _/_, _≤_, _<_}
 use mathlib.Core.Path.{_≡_, refl, sym, ap, _∙_}
 use mathlib.Core.Bool.{Bool, true, false}
 use mathlib.Core.List.{List, []}
@@ -12,22 +12,25 @@ use Rattle.words.specs.Bytes.{put, part, le}
 use Rattle.words.specs.Tables.{firstOf, noneZero}
 use Rattle.words.proofs.Tables.{row-off, row-rest, nonzeros}
 use Rattle.words.proofs.Sets.{row-yes, row-no, row-none, is-yes, is-no, not-of-true, not-of-false}
+use Rattle.rules.specs.Kinds.{blockSize, blockRecords, most, entries}
 use Rattle.rules.specs.declared.file.File.{File}
 use Rattle.rules.specs.declared.list.LockList.{LockList}
 use Rattle.rules.specs.declared.spot.Spot.{Spot}
 use Rattle.rules.specs.declared.routine.Chosen.the-variants.{Call}
 use Rattle.rules.specs.declared.routine.Routine.the-variants.{TestWrite, FreeSpace}
 use Rattle.rules.specs.Serves.{Buffers, Did}
-use Rattle.rules.specs.Drive.{highest, entryOf, lookUp, blockIn, recordAt, freeBlocks, soundImage}
+use Rattle.rules.specs.Drive.{highest, blocks, entryOf, lookUp, blockIn, recordAt, freeBlocks, soundImage}
 use Rattle.rules.specs.Locks.{unpack, openOf}
 use Rattle.rules.specs.Asks.{callerFile, recordOf}
 use Rattle.rules.specs.Codes.{rowsMay, rowsThere, differs, rowsDiffer, rows41}
 use Rattle.rules.specs.Effects.{spotAt, written, does41, does46}
-use Rattle.rules.specs.Call.{unless, askedBy, rowsOf, effectOf, served}
+use Rattle.rules.specs.Call.{unless, askedBy, asked, rowsOf, effectOf, served}
+use Rattle.rules.proofs.Sizes.{records-few, record-room}
 use Rattle.rules.proofs.Room.{Within, there-within}
 use Rattle.rules.proofs.Ends.{did-as, did-refuse, did-pass, did-refuse-first, did-go-on, served-as}
 use Rattle.records.specs.By.{by41}
 use Rattle.records.proofs.Writing.{nonzero-may, may-table}
+use Rattle.rules.specs.declared.kind.Kind.{Kind}
 
 -- ---- the bytes compared
 
@@ -41,67 +44,71 @@ other-byte dma s at k e = not-of-false _ (ne-eqb _ _ e)
 
 -- ---- the ends of 41
 
-nonzero-there : (s : List ℕ) (e r : ℕ) → noneZero (rowsThere s e r) ≡ true
+nonzero-there : (kind : Kind) (s : List ℕ) (e r : ℕ) → noneZero (rowsThere kind s e r) ≡ true
 unfolding rowsThere
-nonzero-there s e r = search nonzeros depth 20 fits 20000
+nonzero-there kind s e r = search nonzeros depth 20 fits 20000
 
 -- a spot that is there has the record's own block
-own-block : (s : List ℕ) (e r c : ℕ) → c ≡ firstOf (rowsThere s e r) → c ≡ 0 → spotAt s e r .block ≡ blockIn s e r
+own-block : (kind : Kind) (s : List ℕ) (e r c : ℕ) → c ≡ firstOf (rowsThere kind s e r) → c ≡ 0 → spotAt kind s e r .block ≡ blockIn kind s e r
 unfolding rowsThere spotAt _if_else_
-own-block s e r c h z =
+own-block kind s e r c h z =
     let rows = sym h ∙ z in
-    let q : leb 64 e ≡ false = row-off 4 _ _ (λ y. omega arith) rows in
-    let y : eqb (blockIn s e r) 0 ≡ false = row-off 1 _ _ (λ y. omega arith) (row-rest 4 _ _ (λ y. omega arith) rows) in
+    let q : leb (entries kind) e ≡ false = row-off 4 _ _ (λ y. omega arith) rows in
+    let y : eqb (blockIn kind s e r) 0 ≡ false = row-off 1 _ _ (λ y. omega arith) (row-rest 4 _ _ (λ y. omega arith) rows) in
     rw (q, y)
 
-module _ (p : ℕ) (l : LockList) (o : ℕ) (f : File) (e₀ r : ℕ) (b : Buffers) (c : ℕ) (hx : e₀ ≡ entryOf (b .image) f 0) (hc : c ≡ firstOf (rowsMay p l o f e₀ r (b .image))) where
-  may : c ≡ firstOf (rowsMay p l o f (entryOf (b .image) f 0) r (b .image))
-  may = may-table p l o f e₀ r (b .image) c hx hc
+-- a record of the file lies in the image with its block
+pub record-at-room : (kind : Kind) (block r size : ℕ) → r < 262144 → blockSize kind * block + blockSize kind ≤ size → recordAt kind block r + 128 ≤ size
+record-at-room kind block r size l h = record-room kind block r size h
+
+module _ (kind : Kind) (p : ℕ) (l : LockList) (o : ℕ) (f : File) (e₀ r : ℕ) (b : Buffers) (c : ℕ) (hx : e₀ ≡ entryOf kind (b .image) f 0) (hc : c ≡ firstOf (rowsMay p l o f e₀ r (b .image))) where
+  may : c ≡ firstOf (rowsMay p l o f (entryOf kind (b .image) f 0) r (b .image))
+  may = may-table kind p l o f e₀ r (b .image) c hx hc
 
   -- not to be written
-  pub test-refused : (c ≡ 0 → ⊥) → Did (by41 p l o f r b) c (b .fcb) (b .dma) (b .list) (b .image)
+  pub test-refused : (c ≡ 0 → ⊥) → Did (by41 kind p l o f r b) c (b .fcb) (b .dma) (b .list) (b .image)
   unfolding by41 rows41
   test-refused n = did-refuse-first _ _ b _ c may n
 
-  module _ (z : c ≡ 0) (e : ℕ) (he : e ≡ entryOf (b .image) f (r / 128)) (d : ℕ) (hd : d ≡ firstOf (rowsThere (b .image) e r)) where
-    there : d ≡ firstOf (rowsThere (b .image) (entryOf (b .image) f (r / 128)) r)
-    there = hd ∙ ap (λ (k : ℕ). firstOf (rowsThere (b .image) k r)) he
+  module _ (z : c ≡ 0) (e : ℕ) (he : e ≡ entryOf kind (b .image) f (r / 128)) (d : ℕ) (hd : d ≡ firstOf (rowsThere kind (b .image) e r)) where
+    there : d ≡ firstOf (rowsThere kind (b .image) (entryOf kind (b .image) f (r / 128)) r)
+    there = hd ∙ ap (λ (k : ℕ). firstOf (rowsThere kind (b .image) k r)) he
 
     -- not there
-    pub test-lacking : (d ≡ 0 → ⊥) → Did (by41 p l o f r b) d (b .fcb) (b .dma) (b .list) (b .image)
+    pub test-lacking : (d ≡ 0 → ⊥) → Did (by41 kind p l o f r b) d (b .fcb) (b .dma) (b .list) (b .image)
     unfolding by41 rows41
     test-lacking n = did-go-on _ _ b _ c may d _ _ _ _ z (nonzero-may p l o f _ r (b .image)) (did-refuse-first _ _ b _ d there n)
 
-    module _ (n : d ≡ 0) (w : Spot) (hw : w ≡ spotAt (b .image) e r) where
+    module _ (n : d ≡ 0) (w : Spot) (hw : w ≡ spotAt kind (b .image) e r) where
       -- the spot lies in the image
-      pub test-within : soundImage highest (b .image) ≡ true → Within w (b .image)
-      test-within h = there-within highest (b .image) h f r w e d he hw hd n
+      pub test-within : soundImage kind highest (b .image) ≡ true → Within kind w (b .image)
+      test-within h = there-within kind highest (b .image) h f r w e d he hw hd n
 
-      spot : w ≡ spotAt (b .image) (entryOf (b .image) f (r / 128)) r
-      spot = hw ∙ ap (λ (k : ℕ). spotAt (b .image) k r) he
+      spot : w ≡ spotAt kind (b .image) (entryOf kind (b .image) f (r / 128)) r
+      spot = hw ∙ ap (λ (k : ℕ). spotAt kind (b .image) k r) he
 
-      own : w .block ≡ blockIn (b .image) (entryOf (b .image) f (r / 128)) r
-      own = ap (λ (v : Spot). v .block) spot ∙ own-block (b .image) (entryOf (b .image) f (r / 128)) r d there n
+      own : w .block ≡ blockIn kind (b .image) (entryOf kind (b .image) f (r / 128)) r
+      own = ap (λ (v : Spot). v .block) spot ∙ own-block kind (b .image) (entryOf kind (b .image) f (r / 128)) r d there n
 
-      module _ (t : Bool) (ht : t ≡ any (differs (b .dma) (b .image) (recordAt (w .block) r)) 128) where
-        test : t ≡ any (differs (b .dma) (b .image) (recordAt (blockIn (b .image) (entryOf (b .image) f (r / 128)) r) r)) 128
-        test = ht ∙ ap (λ (k : ℕ). any (differs (b .dma) (b .image) (recordAt k r)) 128) own
+      module _ (at : ℕ) (ha : at ≡ recordAt kind (w .block) r) (t : Bool) (ht : t ≡ any (differs (b .dma) (b .image) at) 128) where
+        test : t ≡ any (differs (b .dma) (b .image) (recordAt kind (blockIn kind (b .image) (entryOf kind (b .image) f (r / 128)) r) r)) 128
+        test = ht ∙ ap (λ (k : ℕ). any (differs (b .dma) (b .image) k) 128) (ha ∙ ap (λ (k : ℕ). recordAt kind k r) own)
 
-        differ : (k : ℕ) → k ≡ firstOf (rowsDiffer (b .dma) (b .image) (blockIn (b .image) (entryOf (b .image) f (r / 128)) r) r) → (a : ℕ) (image : List ℕ) → Did (unless (rowsDiffer (b .dma) (b .image) (blockIn (b .image) (entryOf (b .image) f (r / 128)) r) r) b (does41 f (entryOf (b .image) f 0) (entryOf (b .image) f (r / 128)) r b)) a (b .fcb) (b .dma) (b .list) image → Did (by41 p l o f r b) a (b .fcb) (b .dma) (b .list) image
+        differ : (k : ℕ) → k ≡ firstOf (rowsDiffer kind (b .dma) (b .image) (blockIn kind (b .image) (entryOf kind (b .image) f (r / 128)) r) r) → (a : ℕ) (image : List ℕ) → Did (unless (rowsDiffer kind (b .dma) (b .image) (blockIn kind (b .image) (entryOf kind (b .image) f (r / 128)) r) r) b (does41 kind f (entryOf kind (b .image) f 0) (entryOf kind (b .image) f (r / 128)) r b)) a (b .fcb) (b .dma) (b .list) image → Did (by41 kind p l o f r b) a (b .fcb) (b .dma) (b .list) image
         unfolding by41 rows41
         differ k hk a image g =
             did-go-on _ _ b _ c may a _ _ _ _ z (nonzero-may p l o f _ r (b .image))
-            (did-go-on _ _ b _ d there a _ _ _ _ n (nonzero-there (b .image) _ r) g)
+            (did-go-on _ _ b _ d there a _ _ _ _ n (nonzero-there kind (b .image) _ r) g)
 
         -- another record than was tested for
-        pub test-differs : t ≡ true → Did (by41 p l o f r b) 7 (b .fcb) (b .dma) (b .list) (b .image)
+        pub test-differs : t ≡ true → Did (by41 kind p l o f r b) 7 (b .fcb) (b .dma) (b .list) (b .image)
         unfolding rowsDiffer
         test-differs y =
             let q = row-yes 7 7 _ [] (is-yes t _ test y) refl in
             differ 7 q 7 (b .image) (did-refuse _ b _ 7 q (λ v. omega arith))
 
         -- written
-        pub test-done : (image : List ℕ) → t ≡ false → image ≡ written false w e₀ f r (take (256 - 128) (drop 128 (b .dma))) (b .image) → Did (by41 p l o f r b) 0 (b .fcb) (b .dma) (b .list) image
+        pub test-done : (image : List ℕ) → t ≡ false → image ≡ written kind false w e₀ f r (take (256 - 128) (drop 128 (b .dma))) (b .image) → Did (by41 kind p l o f r b) 0 (b .fcb) (b .dma) (b .list) image
         unfolding rowsDiffer does41
         test-done image y g =
             let q = row-no 0 7 _ [] (is-no t _ test y) (row-none 0 refl) in
@@ -112,23 +119,32 @@ module _ (p : ℕ) (l : LockList) (o : ℕ) (f : File) (e₀ r : ℕ) (b : Buffe
               leaves-fcb = refl;
               leaves-dma = refl;
               leaves-list = refl;
-              leaves-image = g ∙ ap (λ (v : Spot). written false v e₀ f r (part 128 128 (b .dma)) (b .image)) spot ∙ ap (λ (v : ℕ). written false (spotAt (b .image) (entryOf (b .image) f (r / 128)) r) v f r (part 128 128 (b .dma)) (b .image)) hx;
+              leaves-image = g ∙ ap (λ (v : Spot). written kind false v e₀ f r (part 128 128 (b .dma)) (b .image)) spot ∙ ap (λ (v : ℕ). written kind false (spotAt kind (b .image) (entryOf kind (b .image) f (r / 128)) r) v f r (part 128 128 (b .dma)) (b .image)) hx;
             }))
 
 -- the calls on the buffers
-pub test-called : (p c : ℕ) (b : Buffers) (l : LockList) (f : File) (o r a : ℕ) (fcb dma list image : List ℕ) → l ≡ unpack (b .list) → f ≡ callerFile p l (b .fcb) → o ≡ openOf l p f → r ≡ recordOf (b .fcb) → Did (by41 p l o f r b) a fcb dma list image → Did (served (Call TestWrite) p c b) a fcb dma list image
+pub test-called : (kind : Kind) (p c : ℕ) (b : Buffers) (l : LockList) (f : File) (o r a : ℕ) (fcb dma list image : List ℕ) → l ≡ unpack (b .list) → f ≡ callerFile p l (b .fcb) → o ≡ openOf l p f → r ≡ recordOf (b .fcb) → Did (by41 kind p l o f r b) a fcb dma list image → Did (served kind (Call TestWrite) p c b) a fcb dma list image
 unfolding by41 rowsOf effectOf askedBy lookUp
-test-called p c b l f o r a fcb dma list image hl hf ho hr d =
-    did-as _ _ a fcb dma list image (served-as (Call TestWrite) p c b l f r hl hf hr) (rw ho at d)
+test-called kind p c b l f o r a fcb dma list image hl hf ho hr d =
+    did-as _ _ a fcb dma list image (served-as kind (Call TestWrite) p c b l f r hl hf hr) (rw ho at d)
 
-pub space-done : (p c : ℕ) (b : Buffers) (n : ℕ) (v dma : List ℕ) → n ≡ freeBlocks (b .image) → v ≡ le 3 (8 * n) → dma ≡ put 0 v (b .dma) → Did (served (Call FreeSpace) p c b) 0 (b .fcb) dma (b .list) (b .image)
-unfolding served rowsOf effectOf does46
-space-done p c b n v dma hn hv hd =
+-- ---- 46
+
+module _ (kind : Kind) (s : List ℕ) (n f : ℕ) (hn : n ≡ blockRecords kind) (hf : f ≡ freeBlocks kind s) where
+  pub space-is : n * f ≡ blockRecords kind * freeBlocks kind s
+  space-is = rw (hn, hf)
+
+  pub space-fits : f ≤ blocks kind s → blocks kind s ≤ most kind → n * f < 18446744073709551616
+  space-fits l m = rw hn (let k = records-few kind f (omega arith) in omega arith)
+
+pub space-done : (kind : Kind) (p c : ℕ) (b : Buffers) (n : ℕ) (v dma : List ℕ) → n ≡ blockRecords kind * freeBlocks kind (b .image) → v ≡ le 3 n → dma ≡ put 0 v (b .dma) → Did (served kind (Call FreeSpace) p c b) 0 (b .fcb) dma (b .list) (b .image)
+unfolding served asked askedBy rowsOf effectOf does46
+space-done kind p c b n v dma hn hv hd =
     did-pass [] b _ 0 (row-none 0 refl) 0 _ _ _ _ refl
     (record {
       gives = refl;
       leaves-fcb = refl;
-      leaves-dma = hd ∙ ap (λ (u : List ℕ). put 0 u (b .dma)) (hv ∙ ap (λ (m : ℕ). le 3 (8 * m)) hn);
+      leaves-dma = hd ∙ ap (λ (u : List ℕ). put 0 u (b .dma)) (hv ∙ ap (λ (m : ℕ). le 3 m) hn);
       leaves-list = refl;
       leaves-image = refl;
     })

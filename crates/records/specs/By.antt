@@ -8,6 +8,7 @@ use lib.Dec.{ltb, eqb}
 use Rattle.words.specs.Tests.{_if_else_}
 use Rattle.words.specs.Bytes.{put}
 use Rattle.words.specs.Tables.{Row, _∕_, _when_, firstOf}
+use Rattle.rules.specs.Kinds.{blockSize, entries}
 use Rattle.rules.specs.declared.file.File.{File}
 use Rattle.rules.specs.declared.list.LockList.{LockList}
 use Rattle.rules.specs.Serves.{Buffers, Outcome}
@@ -16,16 +17,17 @@ use Rattle.rules.specs.Locks.{isOpened}
 use Rattle.rules.specs.Codes.{rowsRoom, rows33, rows34, rows41}
 use Rattle.rules.specs.Effects.{spotAt, written, contents, does33, does34, does41}
 use Rattle.rules.specs.Call.{unless}
+use Rattle.rules.specs.declared.kind.Kind.{Kind}
 
 -- ---- One record
 
 -- its block, where it has one, lies in the image; its extent is at entry e
-pub record Inside (s : List ℕ) (e r : ℕ) : Type 0 where
-  pub inside : (blockIn s e r ≡ 0 → ⊥) → 1024 * blockIn s e r + 1024 ≤ length s
+pub record Inside (kind : Kind) (s : List ℕ) (e r : ℕ) : Type 0 where
+  pub inside : (blockIn kind s e r ≡ 0 → ⊥) → blockSize kind * blockIn kind s e r + blockSize kind ≤ length s
 
 -- read to the DMA from a place on, where no row of 33 applies
-unfoldable pub readAt : ℕ → ℕ → ℕ → ℕ → List ℕ → List ℕ → List ℕ
-readAt o e r at s dma = put at (contents s (blockIn s e r) r) dma if eqb (firstOf (rows33 o e r s)) 0 else dma
+unfoldable pub readAt : Kind → ℕ → ℕ → ℕ → ℕ → List ℕ → List ℕ → List ℕ
+readAt kind o e r at s dma = put at (contents kind s (blockIn kind s e r) r) dma if eqb (firstOf (rows33 kind o e r s)) 0 else dma
 
 -- the rows that 34, 40 and 41 share, from the answers to their tests
 unfoldable pub rowsMayBy : ℕ → Bool → ℕ → Bool → List Row
@@ -33,25 +35,25 @@ rowsMayBy o stopped r locked =
     10 ∕ 0 when not (isOpened o) ∷ 255 ∕ 3 when stopped ∷ 6 ∕ 0 when ltb highest r ∷ 8 ∕ 0 when locked ∷ []
 
 -- what a write answers and leaves: the code, the entry where the extent then stands, the image
-pub record OneDid (zeros : Bool) (o : ℕ) (stopped locked : Bool) (f : File) (e₀ e r : ℕ) (v s : List ℕ) (code entry : ℕ) (t : List ℕ) : Type 0 where
-  pub gives : code ≡ firstOf (rowsMayBy o stopped r locked ++ rowsRoom s e r)
-  pub within : entry ≤ 64
-  pub wrote : code ≡ 0 → t ≡ written zeros (spotAt s e r) e₀ f r v s
-  pub at : code ≡ 0 → entry ≡ spotAt s e r .entry
+pub record OneDid (kind : Kind) (zeros : Bool) (o : ℕ) (stopped locked : Bool) (f : File) (e₀ e r : ℕ) (v s : List ℕ) (code entry : ℕ) (t : List ℕ) : Type 0 where
+  pub gives : code ≡ firstOf (rowsMayBy o stopped r locked ++ rowsRoom kind s e r)
+  pub within : entry ≤ entries kind
+  pub wrote : code ≡ 0 → t ≡ written kind zeros (spotAt kind s e r) e₀ f r v s
+  pub at : code ≡ 0 → entry ≡ spotAt kind s e r .entry
   pub kept : (code ≡ 0 → ⊥) → t ≡ s
   pub stays : (code ≡ 0 → ⊥) → entry ≡ e
 
 -- ---- A call's table and effect
 
-unfoldable pub by33 : ℕ → File → ℕ → Buffers → Outcome
-by33 o f r b = unless (rows33 o (entryOf (b .image) f (r / 128)) r (b .image)) b (does33 (entryOf (b .image) f (r / 128)) r b)
+unfoldable pub by33 : Kind → ℕ → File → ℕ → Buffers → Outcome
+by33 kind o f r b = unless (rows33 kind o (entryOf kind (b .image) f (r / 128)) r (b .image)) b (does33 kind (entryOf kind (b .image) f (r / 128)) r b)
 
-unfoldable pub by34 : Bool → ℕ → LockList → ℕ → File → ℕ → Buffers → Outcome
-by34 zeros p l o f r b =
-    unless (rows34 p l o f (entryOf (b .image) f 0) (entryOf (b .image) f (r / 128)) r (b .image)) b
-    (does34 zeros f (entryOf (b .image) f 0) (entryOf (b .image) f (r / 128)) r b)
+unfoldable pub by34 : Kind → Bool → ℕ → LockList → ℕ → File → ℕ → Buffers → Outcome
+by34 kind zeros p l o f r b =
+    unless (rows34 kind p l o f (entryOf kind (b .image) f 0) (entryOf kind (b .image) f (r / 128)) r (b .image)) b
+    (does34 kind zeros f (entryOf kind (b .image) f 0) (entryOf kind (b .image) f (r / 128)) r b)
 
-unfoldable pub by41 : ℕ → LockList → ℕ → File → ℕ → Buffers → Outcome
-by41 p l o f r b =
-    unless (rows41 p l o f (entryOf (b .image) f 0) (entryOf (b .image) f (r / 128)) r (b .dma) (b .image)) b
-    (does41 f (entryOf (b .image) f 0) (entryOf (b .image) f (r / 128)) r b)
+unfoldable pub by41 : Kind → ℕ → LockList → ℕ → File → ℕ → Buffers → Outcome
+by41 kind p l o f r b =
+    unless (rows41 kind p l o f (entryOf kind (b .image) f 0) (entryOf kind (b .image) f (r / 128)) r (b .dma) (b .image)) b
+    (does41 kind f (entryOf kind (b .image) f 0) (entryOf kind (b .image) f (r / 128)) r b)

@@ -1,8 +1,8 @@
-use drive::find::read_only;
+use directory::find::read_only;
 use rules::file::File;
 use rules::list::LockList;
 ghost use mathlib.Core.Path.{_≡_};
-ghost use Prim.Native.Nat.{_≤_};
+ghost use Prim.Native.Nat.{_+_, _*_, _≤_};
 ghost use lib.ListN.{length};
 ghost use lib.Dec.{eqb};
 ghost use Rattle.words.specs.Tests.{_or_};
@@ -13,7 +13,7 @@ ghost use Rattle.records.specs.By.{rowsMayBy};
 
 // The file, whose extent 0 is at entry `e`, has the read-only attribute, or its open is in mode 2.
 pub fn write_stopped(mode: u8, e: usize, image: &[u8]) -> bool
-    requires { ⌜ (e ≤ 64) × (3072 ≤ length (now image)) ⌝ }
+    requires { ⌜ 32 * e + 32 ≤ length (now image) ⌝ }
     ensures { λ t. ⌜ t ≡ (readOnly (now (image .entry)) e or eqb mode 2) ⌝ }
 {
     if read_only(image, e) {
@@ -43,7 +43,7 @@ pub fn may_write_by(o: usize, stopped: bool, r: u32, locked: bool) -> u32
 
 // The same on the list. The file's extent 0 is at entry `e`.
 pub fn may_write(p: u8, l: LockList, o: usize, f: File, e: usize, r: u32, image: &[u8]) -> u32
-    requires { ⌜ (e ≤ 64) × (3072 ≤ length (now image)) ⌝ }
+    requires { ⌜ 32 * e + 32 ≤ length (now image) ⌝ }
     ensures { λ c. ⌜ c ≡ firstOf (rowsMay p l o f e r (now (image .entry))) ⌝ }
 {
     let stopped = write_stopped(l.mode_at(o), e, image);

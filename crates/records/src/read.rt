@@ -1,16 +1,19 @@
 use crate::there::not_there;
-use drive::find::block_in;
-use drive::find::entry_of;
+use directory::find::block_in;
+use directory::find::entry_of;
+use directory::place::record_at;
 use locklist::ask::caller_file;
 use locklist::ask::record_of;
 use rules::bytes::put_bytes;
 use rules::file::File;
+use rules::kind::Kind;
 use rules::list::LockList;
 ghost use mathlib.Core.Path.{_≡_};
-ghost use Prim.Native.Nat.{_+_, _*_, _<_, _≤_};
+ghost use Prim.Native.Nat.{_+_, _*_, _≤_, _<_};
 ghost use lib.ListN.{length};
 ghost use Rattle.words.specs.Bytes.{put};
 ghost use Rattle.words.specs.Tables.{firstOf};
+ghost use Rattle.rules.specs.Kinds.{blockSize, entries};
 ghost use Rattle.rules.specs.Serves.{Did, buffers};
 ghost use Rattle.rules.specs.Codes.{rows33};
 ghost use Rattle.rules.specs.Effects.{contents};
@@ -21,9 +24,9 @@ ghost use Rattle.rules.specs.declared.routine.Routine.the-variants.{Read};
 ghost use Rattle.records.specs.By.{Inside, readAt, by33};
 
 // The code of the first refusal of 33, or 0. The caller's open is at place `o`, the record's extent at entry `e` (64: none).
-fn read_refusal(o: usize, e: usize, r: usize, image: &[u8]) -> u32
-    requires { ⌜ 2048 ≤ length (now image) ⌝ }
-    ensures { λ c. ⌜ c ≡ firstOf (rows33 o e r (now (image .entry))) ⌝ }
+fn read_refusal(kind: Kind, o: usize, e: usize, r: usize, image: &[u8]) -> u32
+    requires { ⌜ 32 * entries kind ≤ length (now image) ⌝ }
+    ensures { λ c. ⌜ c ≡ firstOf (rows33 kind o e r (now (image .entry))) ⌝ }
 {
     if 64 <= o {
         return 10;
@@ -31,35 +34,44 @@ fn read_refusal(o: usize, e: usize, r: usize, image: &[u8]) -> u32
     if 262143 < r {
         return 6;
     }
-    not_there(image, e, r)
+    not_there(kind, image, e, r)
 }
 
 // Record `r` in its block to the 128 bytes of the DMA from `at` on.
-fn copy_record(dma: &mut [u8], at: usize, image: &[u8], block: usize, r: usize)
-    requires { ⌜ (at + 128 ≤ length (now dma)) × (block < 256) × (1024 * block + 1024 ≤ length (now image)) ⌝ }
-    ensures { λ _. ⌜ now (dma .exit) ≡ put at (contents (now (image .entry)) block r) (now (dma .entry)) ⌝ }
+fn copy_record(kind: Kind, dma: &mut [u8], at: usize, image: &[u8], block: usize, r: usize)
+    requires { ⌜ (at + 128 ≤ length (now dma)) × (block < 65536) × (blockSize kind * block + blockSize kind ≤ length (now image)) ⌝ }
+    ensures { λ _. ⌜ now (dma .exit) ≡ put at (contents kind (now (image .entry)) block r) (now (dma .entry)) ⌝ }
 {
-    let start = 1024 * block + 128 * (r % 8);
+    let start = record_at(kind, block, r);
     let end = start + 128;
     put_bytes(dma, at, &image[start..end]);
 }
 
 // One record: decide first, then copy it to the DMA from `at` on.
-pub fn read_one(o: usize, e: usize, r: usize, dma: &mut [u8], at: usize, image: &[u8]) -> u32
-    requires { ⌜ (at + 128 ≤ length (now dma)) × (3072 ≤ length (now image)) × Inside (now image) e r ⌝ }
-    ensures { λ c. ⌜ (c ≡ firstOf (rows33 o e r (now (image .entry)))) × (now (dma .exit) ≡ readAt o e r at (now (image .entry)) (now (dma .entry))) ⌝ }
+pub fn read_one(
+    kind: Kind,
+    o: usize,
+    e: usize,
+    r: usize,
+    dma: &mut [u8],
+    at: usize,
+    image: &[u8],
+) -> u32
+    requires { ⌜ (at + 128 ≤ length (now dma)) × (32 * entries kind + 32 ≤ length (now image)) × Inside kind (now image) e r ⌝ }
+    ensures { λ c. ⌜ (c ≡ firstOf (rows33 kind o e r (now (image .entry)))) × (now (dma .exit) ≡ readAt kind o e r at (now (image .entry)) (now (dma .entry))) ⌝ }
 {
-    let code = read_refusal(o, e, r, image);
+    let code = read_refusal(kind, o, e, r, image);
     if code != 0 {
         return code;
     }
-    let block = block_in(image, e, r);
-    copy_record(dma, at, image, block, r);
+    let block = block_in(kind, image, e, r);
+    copy_record(kind, dma, at, image, block, r);
     0
 }
 
 // 33 on what was found.
 fn read_by(
+    kind: Kind,
     o: usize,
     f: File,
     r: usize,
@@ -68,20 +80,28 @@ fn read_by(
     list: &[u8],
     image: &[u8],
 ) -> u32
-    requires { ⌜ Ready (buffers (now fcb) (now dma) (now list) (now image)) ⌝ }
-    ensures { λ c. ⌜ Did (by33 o f r (buffers (now (fcb .entry)) (now (dma .entry)) (now (list .entry)) (now (image .entry)))) c (now (fcb .entry)) (now (dma .exit)) (now (list .entry)) (now (image .entry)) ⌝ }
+    requires { ⌜ Ready kind (buffers (now fcb) (now dma) (now list) (now image)) ⌝ }
+    ensures { λ c. ⌜ Did (by33 kind o f r (buffers (now (fcb .entry)) (now (dma .entry)) (now (list .entry)) (now (image .entry)))) c (now (fcb .entry)) (now (dma .exit)) (now (list .entry)) (now (image .entry)) ⌝ }
 {
-    let e = entry_of(image, f, r / 128);
-    read_one(o, e, r, dma, 0, image)
+    let e = entry_of(kind, image, f, r / 128);
+    read_one(kind, o, e, r, dma, 0, image)
 }
 
 // 33 on the buffers.
-pub fn read_random(p: u8, l: LockList, fcb: &[u8], dma: &mut [u8], list: &[u8], image: &[u8]) -> u32
-    requires { ⌜ (l ≡ unpack (now list)) × Ready (buffers (now fcb) (now dma) (now list) (now image)) ⌝ }
-    ensures { λ c. ⌜ Did (served (Call Read) p 1 (buffers (now (fcb .entry)) (now (dma .entry)) (now (list .entry)) (now (image .entry)))) c (now (fcb .entry)) (now (dma .exit)) (now (list .entry)) (now (image .entry)) ⌝ }
+pub fn read_random(
+    kind: Kind,
+    p: u8,
+    l: LockList,
+    fcb: &[u8],
+    dma: &mut [u8],
+    list: &[u8],
+    image: &[u8],
+) -> u32
+    requires { ⌜ (l ≡ unpack (now list)) × Ready kind (buffers (now fcb) (now dma) (now list) (now image)) ⌝ }
+    ensures { λ c. ⌜ Did (served kind (Call Read) p 1 (buffers (now (fcb .entry)) (now (dma .entry)) (now (list .entry)) (now (image .entry)))) c (now (fcb .entry)) (now (dma .exit)) (now (list .entry)) (now (image .entry)) ⌝ }
 {
     let f = caller_file(l, p, fcb);
     let o = l.open_of(p, f);
     let r = record_of(fcb) as usize;
-    read_by(o, f, r, fcb, dma, list, image)
+    read_by(kind, o, f, r, fcb, dma, list, image)
 }

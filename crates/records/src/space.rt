@@ -1,8 +1,13 @@
 use drive::free::free_blocks;
 use rules::bytes::put_bytes;
+use rules::kind::Kind;
+use rules::kind::block_records;
 ghost use mathlib.Core.Path.{_≡_};
-ghost use Prim.Native.Nat.{_<_};
+ghost use Prim.Native.Nat.{_*_, _≤_};
+ghost use lib.ListN.{length};
 ghost use Rattle.words.specs.Bytes.{le};
+ghost use Rattle.rules.specs.Kinds.{blockRecords, most, entries};
+ghost use Rattle.rules.specs.Drive.{blocks, freeBlocks};
 ghost use Rattle.rules.specs.Serves.{Did, buffers};
 ghost use Rattle.rules.specs.Call.{Ready, served};
 ghost use Rattle.rules.specs.declared.routine.Chosen.the-variants.{Call};
@@ -19,12 +24,20 @@ fn three_bytes(n: usize) -> [u8; 3]
     ]
 }
 
-// 46 on the buffers.
-pub fn free_space(p: u8, fcb: &[u8], dma: &mut [u8], list: &[u8], image: &[u8]) -> u32
-    requires { ⌜ Ready (buffers (now fcb) (now dma) (now list) (now image)) ⌝ }
-    ensures { λ c. ⌜ Did (served (Call FreeSpace) p 1 (buffers (now (fcb .entry)) (now (dma .entry)) (now (list .entry)) (now (image .entry)))) c (now (fcb .entry)) (now (dma .exit)) (now (list .entry)) (now (image .entry)) ⌝ }
+// The records of all free blocks.
+fn free_records(kind: Kind, image: &[u8]) -> usize
+    requires { ⌜ (32 * entries kind ≤ length (now image)) × (blocks kind (now image) ≤ most kind) ⌝ }
+    ensures { λ r. ⌜ r ≡ blockRecords kind * freeBlocks kind (now (image .entry)) ⌝ }
 {
-    let v = three_bytes(8 * free_blocks(image));
+    block_records(kind) * free_blocks(kind, image)
+}
+
+// 46 on the buffers.
+pub fn free_space(kind: Kind, p: u8, fcb: &[u8], dma: &mut [u8], list: &[u8], image: &[u8]) -> u32
+    requires { ⌜ Ready kind (buffers (now fcb) (now dma) (now list) (now image)) ⌝ }
+    ensures { λ c. ⌜ Did (served kind (Call FreeSpace) p 1 (buffers (now (fcb .entry)) (now (dma .entry)) (now (list .entry)) (now (image .entry)))) c (now (fcb .entry)) (now (dma .exit)) (now (list .entry)) (now (image .entry)) ⌝ }
+{
+    let v = three_bytes(free_records(kind, image));
     put_bytes(dma, 0, &v);
     0
 }

@@ -1,9 +1,11 @@
 use crate::may::may_write;
 use crate::there::not_there;
-use drive::find::entry_of;
+use directory::find::entry_of;
+use directory::place::record_at;
 use locklist::ask::caller_file;
 use locklist::ask::record_of;
 use rules::file::File;
+use rules::kind::Kind;
 use rules::list::LockList;
 use writing::record::write_record;
 use writing::spot::spot_at;
@@ -36,6 +38,7 @@ fn any_differs(dma: &[u8], image: &[u8], at: usize) -> bool
 
 // 41 on what was found: decide first, then write.
 fn test_by(
+    kind: Kind,
     p: u8,
     l: LockList,
     o: usize,
@@ -46,36 +49,44 @@ fn test_by(
     list: &[u8],
     image: &mut [u8],
 ) -> u32
-    requires { ⌜ Ready (buffers (now fcb) (now dma) (now list) (now image)) ⌝ }
-    ensures { λ c. ⌜ Did (by41 p l o f r (buffers (now (fcb .entry)) (now (dma .entry)) (now (list .entry)) (now (image .entry)))) c (now (fcb .entry)) (now (dma .entry)) (now (list .entry)) (now (image .exit)) ⌝ }
+    requires { ⌜ Ready kind (buffers (now fcb) (now dma) (now list) (now image)) ⌝ }
+    ensures { λ c. ⌜ Did (by41 kind p l o f r (buffers (now (fcb .entry)) (now (dma .entry)) (now (list .entry)) (now (image .entry)))) c (now (fcb .entry)) (now (dma .entry)) (now (list .entry)) (now (image .exit)) ⌝ }
 {
-    let first = entry_of(&*image, f, 0);
+    let first = entry_of(kind, &*image, f, 0);
     let refused = may_write(p, l, o, f, first, r, &*image);
     if refused != 0 {
         return refused;
     }
     let number = r as usize;
-    let e = entry_of(&*image, f, number / 128);
-    let lacking = not_there(&*image, e, number);
+    let e = entry_of(kind, &*image, f, number / 128);
+    let lacking = not_there(kind, &*image, e, number);
     if lacking != 0 {
         return lacking;
     }
-    let w = spot_at(&*image, e, number);
+    let w = spot_at(kind, &*image, e, number);
     let block = w.block;
-    if any_differs(dma, &*image, 1024 * block + 128 * (number % 8)) {
+    if any_differs(dma, &*image, record_at(kind, block, number)) {
         return 7;
     }
-    write_record(image, false, w, first, f, number, &dma[128..256]);
+    write_record(kind, image, false, w, first, f, number, &dma[128..256]);
     0
 }
 
 // 41 on the buffers.
-pub fn test_write(p: u8, l: LockList, fcb: &[u8], dma: &[u8], list: &[u8], image: &mut [u8]) -> u32
-    requires { ⌜ (l ≡ unpack (now list)) × Ready (buffers (now fcb) (now dma) (now list) (now image)) ⌝ }
-    ensures { λ c. ⌜ Did (served (Call TestWrite) p 1 (buffers (now (fcb .entry)) (now (dma .entry)) (now (list .entry)) (now (image .entry)))) c (now (fcb .entry)) (now (dma .entry)) (now (list .entry)) (now (image .exit)) ⌝ }
+pub fn test_write(
+    kind: Kind,
+    p: u8,
+    l: LockList,
+    fcb: &[u8],
+    dma: &[u8],
+    list: &[u8],
+    image: &mut [u8],
+) -> u32
+    requires { ⌜ (l ≡ unpack (now list)) × Ready kind (buffers (now fcb) (now dma) (now list) (now image)) ⌝ }
+    ensures { λ c. ⌜ Did (served kind (Call TestWrite) p 1 (buffers (now (fcb .entry)) (now (dma .entry)) (now (list .entry)) (now (image .entry)))) c (now (fcb .entry)) (now (dma .entry)) (now (list .entry)) (now (image .exit)) ⌝ }
 {
     let f = caller_file(l, p, fcb);
     let o = l.open_of(p, f);
     let r = record_of(fcb);
-    test_by(p, l, o, f, r, fcb, dma, list, image)
+    test_by(kind, p, l, o, f, r, fcb, dma, list, image)
 }

@@ -1,22 +1,26 @@
 use crate::may::may_write_by;
 use crate::may::write_stopped;
-use drive::find::entry_of;
+use directory::find::entry_of;
+use directory::place::blocks_in;
 use locklist::ask::caller_file;
 use locklist::ask::record_of;
 use rules::file::File;
+use rules::kind::Kind;
+use rules::kind::entries;
 use rules::list::LockList;
 use rules::spot::Spot;
 use writing::record::write_record;
 use writing::spot::spot_at;
 ghost use mathlib.Core.Path.{_≡_};
 ghost use mathlib.Core.Bool.{true, false};
-ghost use Prim.Native.Nat.{_<_, _≤_, _/_};
+ghost use Prim.Native.Nat.{_+_, _*_, _/_, _≤_};
 ghost use lib.ListN.{length};
 ghost use lib.Dec.{leb};
 ghost use Rattle.words.specs.Tests.{_and_};
 ghost use Rattle.words.specs.Tables.{firstOf};
+ghost use Rattle.rules.specs.Kinds.{most, entries};
 ghost use Rattle.rules.specs.Serves.{Did, buffers};
-ghost use Rattle.rules.specs.Drive.{highest, entryOf, soundImage};
+ghost use Rattle.rules.specs.Drive.{highest, blocks, entryOf, soundImage};
 ghost use Rattle.rules.specs.Effects.{spotAt};
 ghost use Rattle.rules.specs.Codes.{rowsRoom};
 ghost use Rattle.rules.specs.Locks.{unpack};
@@ -25,12 +29,12 @@ ghost use Rattle.rules.specs.declared.routine.Chosen.the-variants.{Call};
 ghost use Rattle.rules.specs.declared.routine.Routine.the-variants.{Write, WriteZeros};
 ghost use Rattle.records.specs.By.{OneDid, by34};
 
-// A new entry is wanted and there is no empty one.
-fn lacks_entry(w: Spot) -> bool
-    ensures { λ t. ⌜ t ≡ (w .fresh and leb 64 (w .entry)) ⌝ }
+// A new entry is wanted and none of the `n` is empty.
+fn lacks_entry(w: Spot, n: usize) -> bool
+    ensures { λ t. ⌜ t ≡ (w .fresh and leb n (w .entry)) ⌝ }
 {
     if w.fresh {
-        return 64 <= w.entry;
+        return n <= w.entry;
     }
     false
 }
@@ -46,14 +50,14 @@ fn lacks_block(w: Spot, n: usize) -> bool
 }
 
 // The code of a refusal for want of room at the spot, or 0.
-fn no_room(w: Spot, image: &[u8], e: usize, r: usize) -> u32
-    requires { ⌜ w ≡ spotAt (now image) e r ⌝ }
-    ensures { λ c. ⌜ c ≡ firstOf (rowsRoom (now (image .entry)) e r) ⌝ }
+fn no_room(kind: Kind, w: Spot, image: &[u8], e: usize, r: usize) -> u32
+    requires { ⌜ w ≡ spotAt kind (now image) e r ⌝ }
+    ensures { λ c. ⌜ c ≡ firstOf (rowsRoom kind (now (image .entry)) e r) ⌝ }
 {
-    if lacks_entry(w) {
+    if lacks_entry(w, entries(kind)) {
         return 5;
     }
-    if lacks_block(w, image.len() / 1024) {
+    if lacks_block(w, blocks_in(kind, image)) {
         return 2;
     }
     0
@@ -67,6 +71,7 @@ pub struct Wrote {
 
 // One record: decide first, then write. The file's extent 0 is at entry `first`, the record's extent at entry `e` (64: missing).
 pub fn write_one(
+    kind: Kind,
     zeros: bool,
     o: usize,
     stopped: bool,
@@ -78,8 +83,8 @@ pub fn write_one(
     v: &[u8],
     image: &mut [u8],
 ) -> Wrote
-    requires { ⌜ (128 ≤ length (now v)) × (3072 ≤ length (now image)) × (length (now image) ≤ 262144) × (first ≤ 64) × (e ≤ 64) × (soundImage highest (now image) ≡ true) × (e ≡ entryOf (now image) f (r / 128)) ⌝ }
-    ensures { λ d. ⌜ OneDid zeros o stopped locked f first e r (now (v .entry)) (now (image .entry)) (d .code) (d .entry) (now (image .exit)) ⌝ }
+    requires { ⌜ (128 ≤ length (now v)) × (32 * entries kind + 32 ≤ length (now image)) × (blocks kind (now image) ≤ most kind) × (first ≤ entries kind) × (e ≤ entries kind) × (soundImage kind highest (now image) ≡ true) × (e ≡ entryOf kind (now image) f (r / 128)) ⌝ }
+    ensures { λ d. ⌜ OneDid kind zeros o stopped locked f first e r (now (v .entry)) (now (image .entry)) (d .code) (d .entry) (now (image .exit)) ⌝ }
 {
     let refused = may_write_by(o, stopped, r, locked);
     if refused != 0 {
@@ -89,15 +94,15 @@ pub fn write_one(
         };
     }
     let at = r as usize;
-    let w = spot_at(&*image, e, at);
-    let full = no_room(w, &*image, e, at);
+    let w = spot_at(kind, &*image, e, at);
+    let full = no_room(kind, w, &*image, e, at);
     if full != 0 {
         return Wrote {
             code: full,
             entry: e,
         };
     }
-    write_record(image, zeros, w, first, f, at, v);
+    write_record(kind, image, zeros, w, first, f, at, v);
     Wrote {
         code: 0,
         entry: w.entry,
@@ -106,6 +111,7 @@ pub fn write_one(
 
 // 34 and 40 on what was found.
 fn write_by(
+    kind: Kind,
     zeros: bool,
     p: u8,
     l: LockList,
@@ -117,19 +123,20 @@ fn write_by(
     list: &[u8],
     image: &mut [u8],
 ) -> u32
-    requires { ⌜ Ready (buffers (now fcb) (now dma) (now list) (now image)) ⌝ }
-    ensures { λ c. ⌜ Did (by34 zeros p l o f r (buffers (now (fcb .entry)) (now (dma .entry)) (now (list .entry)) (now (image .entry)))) c (now (fcb .entry)) (now (dma .entry)) (now (list .entry)) (now (image .exit)) ⌝ }
+    requires { ⌜ Ready kind (buffers (now fcb) (now dma) (now list) (now image)) ⌝ }
+    ensures { λ c. ⌜ Did (by34 kind zeros p l o f r (buffers (now (fcb .entry)) (now (dma .entry)) (now (list .entry)) (now (image .entry)))) c (now (fcb .entry)) (now (dma .entry)) (now (list .entry)) (now (image .exit)) ⌝ }
 {
-    let first = entry_of(&*image, f, 0);
-    let e = entry_of(&*image, f, r as usize / 128);
+    let first = entry_of(kind, &*image, f, 0);
+    let e = entry_of(kind, &*image, f, r as usize / 128);
     let stopped = write_stopped(l.mode_at(o), first, &*image);
     let locked = l.locked_by_other(p, f, r);
-    let did = write_one(zeros, o, stopped, locked, f, first, e, r, dma, image);
+    let did = write_one(kind, zeros, o, stopped, locked, f, first, e, r, dma, image);
     did.code
 }
 
 // 34 on the buffers.
 pub fn write_random(
+    kind: Kind,
     p: u8,
     l: LockList,
     fcb: &[u8],
@@ -137,17 +144,18 @@ pub fn write_random(
     list: &[u8],
     image: &mut [u8],
 ) -> u32
-    requires { ⌜ (l ≡ unpack (now list)) × Ready (buffers (now fcb) (now dma) (now list) (now image)) ⌝ }
-    ensures { λ c. ⌜ Did (served (Call Write) p 1 (buffers (now (fcb .entry)) (now (dma .entry)) (now (list .entry)) (now (image .entry)))) c (now (fcb .entry)) (now (dma .entry)) (now (list .entry)) (now (image .exit)) ⌝ }
+    requires { ⌜ (l ≡ unpack (now list)) × Ready kind (buffers (now fcb) (now dma) (now list) (now image)) ⌝ }
+    ensures { λ c. ⌜ Did (served kind (Call Write) p 1 (buffers (now (fcb .entry)) (now (dma .entry)) (now (list .entry)) (now (image .entry)))) c (now (fcb .entry)) (now (dma .entry)) (now (list .entry)) (now (image .exit)) ⌝ }
 {
     let f = caller_file(l, p, fcb);
     let o = l.open_of(p, f);
     let r = record_of(fcb);
-    write_by(false, p, l, o, f, r, fcb, dma, list, image)
+    write_by(kind, false, p, l, o, f, r, fcb, dma, list, image)
 }
 
 // 40 on the buffers.
 pub fn write_zero_fill(
+    kind: Kind,
     p: u8,
     l: LockList,
     fcb: &[u8],
@@ -155,11 +163,11 @@ pub fn write_zero_fill(
     list: &[u8],
     image: &mut [u8],
 ) -> u32
-    requires { ⌜ (l ≡ unpack (now list)) × Ready (buffers (now fcb) (now dma) (now list) (now image)) ⌝ }
-    ensures { λ c. ⌜ Did (served (Call WriteZeros) p 1 (buffers (now (fcb .entry)) (now (dma .entry)) (now (list .entry)) (now (image .entry)))) c (now (fcb .entry)) (now (dma .entry)) (now (list .entry)) (now (image .exit)) ⌝ }
+    requires { ⌜ (l ≡ unpack (now list)) × Ready kind (buffers (now fcb) (now dma) (now list) (now image)) ⌝ }
+    ensures { λ c. ⌜ Did (served kind (Call WriteZeros) p 1 (buffers (now (fcb .entry)) (now (dma .entry)) (now (list .entry)) (now (image .entry)))) c (now (fcb .entry)) (now (dma .entry)) (now (list .entry)) (now (image .exit)) ⌝ }
 {
     let f = caller_file(l, p, fcb);
     let o = l.open_of(p, f);
     let r = record_of(fcb);
-    write_by(true, p, l, o, f, r, fcb, dma, list, image)
+    write_by(kind, true, p, l, o, f, r, fcb, dma, list, image)
 }

@@ -7,6 +7,7 @@ use borrow.Author.Tests.{eq-eqb, ne-eqb}
 use Rattle.words.specs.Tests.{_if_else_}
 use Rattle.words.specs.Tables.{Row, firstOf, noneZero}
 use Rattle.words.proofs.Tables.{first-then, first-stays}
+use Rattle.rules.specs.declared.kind.Kind.{Kind}
 use Rattle.rules.specs.Serves.{Buffers, Outcome, Did, outcome}
 use Rattle.rules.specs.declared.file.File.{File}
 use Rattle.rules.specs.declared.list.LockList.{LockList}
@@ -46,10 +47,10 @@ module _ (xs ys : List Row) (b : Buffers) (o : Outcome) (code : ℕ) (e : code �
 
 -- ---- a call on the buffers, from what its routine found in them
 
-pub served-as : (k : Chosen) (p c : ℕ) (b : Buffers) (l : LockList) (f : File) (r : ℕ) → l ≡ unpack (b .list) → f ≡ callerFile p l (b .fcb) → r ≡ recordOf (b .fcb) → unless (rowsOf k (askedBy p c l f r (b .image)) b) b (effectOf k (askedBy p c l f r (b .image)) b) ≡ served k p c b
+pub served-as : (kind : Kind) (k : Chosen) (p c : ℕ) (b : Buffers) (l : LockList) (f : File) (r : ℕ) → l ≡ unpack (b .list) → f ≡ callerFile p l (b .fcb) → r ≡ recordOf (b .fcb) → unless (rowsOf k (askedBy kind p c l f r (b .image)) b) b (effectOf k (askedBy kind p c l f r (b .image)) b) ≡ served kind k p c b
 unfolding served asked
-served-as k p c b l f r hl hf hr =
+served-as kind k p c b l f r hl hf hr =
     let g : f ≡ callerFile p (unpack (b .list)) (b .fcb) = hf ∙ ap (λ (m : LockList). callerFile p m (b .fcb)) hl in
-    ap (λ (m : LockList). unless (rowsOf k (askedBy p c m f r (b .image)) b) b (effectOf k (askedBy p c m f r (b .image)) b)) hl
-    ∙ ap (λ (m : File). unless (rowsOf k (askedBy p c (unpack (b .list)) m r (b .image)) b) b (effectOf k (askedBy p c (unpack (b .list)) m r (b .image)) b)) g
-    ∙ ap (λ (m : ℕ). unless (rowsOf k (askedBy p c (unpack (b .list)) (callerFile p (unpack (b .list)) (b .fcb)) m (b .image)) b) b (effectOf k (askedBy p c (unpack (b .list)) (callerFile p (unpack (b .list)) (b .fcb)) m (b .image)) b)) hr
+    ap (λ (m : LockList). unless (rowsOf k (askedBy kind p c m f r (b .image)) b) b (effectOf k (askedBy kind p c m f r (b .image)) b)) hl
+    ∙ ap (λ (m : File). unless (rowsOf k (askedBy kind p c (unpack (b .list)) m r (b .image)) b) b (effectOf k (askedBy kind p c (unpack (b .list)) m r (b .image)) b)) g
+    ∙ ap (λ (m : ℕ). unless (rowsOf k (askedBy kind p c (unpack (b .list)) (callerFile p (unpack (b .list)) (b .fcb)) m (b .image)) b) b (effectOf k (askedBy kind p c (unpack (b .list)) (callerFile p (unpack (b .list)) (b .fcb)) m (b .image)) b)) hr

@@ -13,9 +13,12 @@ use Rattle.words.specs.Bytes.{byte, lowFrom}
 use Rattle.words.proofs.Tests.{and-fst, and-snd, all-ext}
 use Rattle.words.proofs.Lists.{tab-ext}
 use Rattle.words.proofs.Sets.{and-both, not-of-false}
+use Rattle.rules.specs.declared.kind.Kind.{Kind}
+use Rattle.rules.specs.Kinds.{numbers}
 use Rattle.rules.specs.declared.file.File.{File}
-use Rattle.rules.specs.Drive.{highest, goodLength, isEmpty, userByte, nameAt, extentAt, mapNumber, sameLow, isNamed, fileFrom, fileAt, isOf, legalByte, legalAt, legalName, goodUser, goodNumbers, goodFields}
+use Rattle.rules.specs.Drive.{highest, goodLength, blocks, isEmpty, userByte, nameAt, extentAt, mapNumber, sameLow, isNamed, fileFrom, fileAt, isOf, legalByte, legalAt, legalName, goodUser, goodNumbers, goodFields}
 use Rattle.rules.proofs.Sound.{Is, Names, named-is, named-so}
+use Rattle.rules.proofs.Sizes.{map-bytes}
 
 -- entry d of t has the bytes 0 to 14 of entry e of s: all but count and map
 pub record Head (s : List ℕ) (e : ℕ) (t : List ℕ) (d : ℕ) : Type 0 where
@@ -111,11 +114,11 @@ is-same s t f x e h g = record {
   extent = extent-same s e t e h ∙ g .extent;
 }
 
-pub map-same : (s t : List ℕ) (e k : ℕ) → Same s e t e → k < 16 → mapNumber t e k ≡ mapNumber s e k
-map-same s t e k h l = h .at (16 + k) (omega arith)
+pub map-same : (kind : Kind) (s t : List ℕ) (e k : ℕ) → Same s e t e → k < numbers kind → mapNumber kind t e k ≡ mapNumber kind s e k
+map-same kind s t e k h l = map-bytes kind s t e e k l (h .at)
 
-pub names-same : (s t : List ℕ) (e k : ℕ) → isEmpty t e ≡ isEmpty s e → mapNumber t e k ≡ mapNumber s e k → Names t e k → Names s e k
-names-same s t e k u m n = record {
+pub names-same : (kind : Kind) (s t : List ℕ) (e k : ℕ) → isEmpty t e ≡ isEmpty s e → mapNumber kind t e k ≡ mapNumber kind s e k → Names kind t e k → Names kind s e k
+names-same kind s t e k u m n = record {
   entry-there = n .entry-there;
   place-there = n .place-there;
   entry-used = sym u ∙ n .entry-used;
@@ -141,6 +144,6 @@ pub user-is : (s : List ℕ) (f : File) (e : ℕ) → fileAt s e ≡ f → userB
 unfolding fileAt fileFrom
 user-is s f e h = ap (λ (g : File). g .user) h
 
-pub long-same : (s t : List ℕ) → length t ≡ length s → goodLength s ≡ true → goodLength t ≡ true
-unfolding goodLength
-long-same s t e h = rw e h
+pub long-same : (kind : Kind) (s t : List ℕ) → length t ≡ length s → goodLength kind s ≡ true → goodLength kind t ≡ true
+unfolding goodLength blocks
+long-same kind s t e h = rw e h

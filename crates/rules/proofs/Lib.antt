@@ -1,3 +1,4 @@
+pub mod Sizes
 pub mod Answers
 pub mod Tables
 pub mod Packing
@@ -14,3 +15,4 @@ pub mod Passed
 pub mod Singles
 pub mod Several
 pub mod OneRecord
+pub mod Told

@@ -21,6 +21,7 @@ use Rattle.rules.specs.declared.item.Item.{Item}
 use Rattle.rules.specs.declared.list.LockList.{LockList}
 use Rattle.rules.specs.Locks.{blank, emptyPlace, itemAt, withItems, freshLock, isOwnLock, held, isEmptyAt, isKindBy, isKindByAt, opensBy, locksBy, freePlace, goodItem, goodPlace, isLimit, soundLocks}
 use Rattle.rules.specs.Effects.{placed, isOfFile, unlessOfFile, closed, isInRun, unlessInRun, unlockedRun, unlessBy, terminated, lockedAt}
+use Rattle.rules.specs.declared.kind.Kind.{Kind}
 
 -- ---- a number in a run of n from r on, told without adding
 
@@ -201,10 +202,10 @@ one-share (suc zero) q h g = total-ext (λ (p : ℕ). (1 if eqb q p else 0) + 0)
 one-share (suc (suc zero)) q h g = total-ext (λ (p : ℕ). 0 + (1 if eqb q p else 0)) (λ (p : ℕ). 1 if eqb q p else 0) 16 (λ p. omega arith) ∙ total-one q 16 ∙ rw (lt-ltb q 16 (g refl))
 one-share (suc (suc (suc k))) q h g = absurd (omega arith)
 
-module _ (top : ℕ) (l : LockList) (s : List ℕ) (h : soundLocks top l s ≡ true) where
-  sound-place : (i : ℕ) → i < 64 → goodPlace top s l i ≡ true
+module _ (kind : Kind) (top : ℕ) (l : LockList) (s : List ℕ) (h : soundLocks kind top l s ≡ true) where
+  sound-place : (i : ℕ) → i < 64 → goodPlace kind top s l i ≡ true
   unfolding soundLocks
-  sound-place i m = all-at (goodPlace top s l) 64 i (and-fst _ _ (and-snd _ _ (and-snd _ _ (and-snd _ _ (and-snd _ _ h))))) m
+  sound-place i m = all-at (goodPlace kind top s l) 64 i (and-fst _ _ (and-snd _ _ (and-snd _ _ (and-snd _ _ (and-snd _ _ h))))) m
 
   used-place : (i : ℕ) → i < 64 → eqb (itemAt l i .kind) 0 ≡ false → (itemAt l i .kind ≤ 2) × (itemAt l i .process ≤ 15)
   unfolding goodPlace goodItem _if_else_

@@ -18,6 +18,7 @@ use Rattle.words.proofs.Bytes.{part-byte, word-back, word-first, word-second, w
 use Rattle.rules.specs.declared.item.Item.{Item}
 use Rattle.rules.specs.declared.list.LockList.{LockList}
 use Rattle.rules.specs.Locks.{blank, kindOf, firstMark, secondMark, itemFrom, placeOf, placeAt, packItem, pack, unpack, itemAt, goodPlace, zeroAt, soundLocks, soundList}
+use Rattle.rules.specs.declared.kind.Kind.{Kind}
 
 -- ---- unpack (pack k) ≡ k
 
@@ -161,12 +162,12 @@ unfolding unpack
 unpack-at list i l = tab-at (placeOf list) 64 i blank l
 
 -- every sound list of 1,299 bytes, each below 256
-module _ (top : ℕ) (list s : List ℕ) (long : length list ≡ 1299) (small : (i : ℕ) → byte list i < 256) (h : soundList top list s ≡ true) where
-  place-good : (i : ℕ) → i < 64 → goodPlace top s (unpack list) i ≡ true
+module _ (kind : Kind) (top : ℕ) (list s : List ℕ) (long : length list ≡ 1299) (small : (i : ℕ) → byte list i < 256) (h : soundList kind top list s ≡ true) where
+  place-good : (i : ℕ) → i < 64 → goodPlace kind top s (unpack list) i ≡ true
   unfolding soundList soundLocks
   place-good i l =
       let k = and-snd (all (zeroAt list) 64) _ h in
-      all-at (goodPlace top s (unpack list)) 64 i
+      all-at (goodPlace kind top s (unpack list)) 64 i
       (and-fst _ _ (and-snd _ _ (and-snd _ _ (and-snd _ _ (and-snd _ _ k))))) l
 
   kind-fits : (i : ℕ) → i < 64 → itemAt (unpack list) i .kind < 3

@@ -3,7 +3,6 @@ use Prim.Native.Nat.{ℕ, _≤_, _<_}
 use mathlib.Core.Path.{_≡_, ap}
 use mathlib.Core.Bool.{true, false, not}
 use mathlib.Core.List.{List}
-use native.Mathlib.Omega.{arith}
 use lib.ListN.{length}
 use borrow.Author.Tests.{lt-leb, le-ltb, leb-false, ltb-false, eq-eqb, eqb-true, not-false}
 use Rattle.words.specs.Tables.{anyRow}
@@ -14,7 +13,8 @@ use Rattle.rules.specs.Drive.{highest, soundImage}
 use Rattle.rules.specs.Locks.{soundList}
 use Rattle.rules.specs.Codes.{badNumbers, badDrive, rowsInside, rowsAll}
 use Rattle.rules.specs.Call.{Ready}
-use Rattle.rules.proofs.Sound.{sound-length, length-whole, length-long, length-few}
+use Rattle.rules.proofs.Sound.{sound-length, length-long, length-few}
+use Rattle.rules.specs.declared.kind.Kind.{Kind}
 
 -- ---- 255/13
 
@@ -55,44 +55,44 @@ module _ (n p c : ℕ) (fcb dma list : List ℕ) where
 
 -- ---- all of the general table
 
-pub record Passed (p c : ℕ) (b : Buffers) : Type 0 where
+pub record Passed (kind : Kind) (p c : ℕ) (b : Buffers) : Type 0 where
   pub process-fits : p < 16
   pub run-some : 1 ≤ c
   pub run-fits : c ≤ 16
-  pub ready : Ready b
+  pub ready : Ready kind b
 
 -- the image's length follows from its soundness
-pub ready-of : (n p c : ℕ) (b : Buffers) → GoodNumbers n p c (b .fcb) (b .dma) (b .list) → soundImage highest (b .image) ≡ true → soundList highest (b .list) (b .image) ≡ true → Ready b
-ready-of n p c b g image list =
-    let w = sound-length highest (b .image) image in
+pub ready-of : (kind : Kind) (n p c : ℕ) (b : Buffers) → GoodNumbers n p c (b .fcb) (b .dma) (b .list) → soundImage kind highest (b .image) ≡ true → soundList kind highest (b .list) (b .image) ≡ true → Ready kind b
+ready-of kind n p c b g image list =
+    let w = sound-length kind highest (b .image) image in
     record {
       fcb-long = g .fcb-long;
       dma-long = g .dma-long;
       list-long = g .list-long;
-      image-long = length-long (b .image) w;
-      image-short = let a = length-whole (b .image) w in let f = length-few (b .image) w in omega arith;
+      image-long = length-long kind (b .image) w;
+      blocks-few = length-few kind (b .image) w;
       image-sound = image;
       list-sound = list;
     }
 
-module _ (n p c : ℕ) (b : Buffers) (h : anyRow (rowsAll n p c b) ≡ false) where
-  numbers : GoodNumbers n p c (b .fcb) (b .dma) (b .list)
+module _ (kind : Kind) (n p c : ℕ) (b : Buffers) (h : anyRow (rowsAll kind n p c b) ≡ false) where
+  good : GoodNumbers n p c (b .fcb) (b .dma) (b .list)
   unfolding rowsAll anyRow
-  numbers = good-numbers n p c (b .fcb) (b .dma) (b .list) (or-fst _ _ h)
+  good = good-numbers n p c (b .fcb) (b .dma) (b .list) (or-fst _ _ h)
 
-  pub passed : Passed p c b
+  pub passed : Passed kind p c b
   unfolding rowsInside rowsAll anyRow
   passed =
       let h₁ = or-snd _ _ h in
       record {
-        process-fits = numbers .process-fits;
-        run-some = numbers .run-some;
-        run-fits = numbers .run-fits;
-        ready = ready-of n p c b numbers (not-false _ (or-fst _ _ h₁)) (not-false _ (or-fst _ _ (or-snd _ _ h₁)));
+        process-fits = good .process-fits;
+        run-some = good .run-some;
+        run-fits = good .run-fits;
+        ready = ready-of kind n p c b good (not-false _ (or-fst _ _ h₁)) (not-false _ (or-fst _ _ (or-snd _ _ h₁)));
       }
 
   pub known : isUnknown (chosen n) ≡ false
-  known = numbers .known
+  known = good .known
 
   pub drive-good : badDrive n (b .fcb) ≡ false
   unfolding rowsInside rowsAll anyRow

@@ -31,6 +31,7 @@ use Rattle.rules.specs.Call.{Asked, Ready, askedBy, asked, rowsOf, effec
 use Rattle.rules.specs.Several.{servesRun, threeOf, fcbAt, dmaAt, single}
 use Rattle.rules.proofs.Tables.{nonzero-all, accepts, call-served}
 use Rattle.rules.proofs.Passed.{numbers-good}
+use Rattle.rules.specs.declared.kind.Kind.{Kind}
 
 -- ---- the three functions
 
@@ -119,14 +120,14 @@ module _ (i : ℕ) (dma : List ℕ) (h : 128 * i + 128 ≤ length dma) where
 
 -- ---- what it asks for
 
-abbrev pub askedAt : ℕ → ℕ → Buffers → Asked
-askedAt p i b = askedBy p 1 (unpack (b .list)) (callerFile p (unpack (b .list)) (b .fcb)) (recordOf (b .fcb) + i) (b .image)
+abbrev pub askedAt : Kind → ℕ → ℕ → Buffers → Asked
+askedAt kind p i b = askedBy kind p 1 (unpack (b .list)) (callerFile p (unpack (b .list)) (b .fcb)) (recordOf (b .fcb) + i) (b .image)
 
-asked-single : (i p : ℕ) (b : Buffers) → length (b .fcb) ≡ 36 → asked p 1 (single i b) ≡ askedAt p i b
+asked-single : (kind : Kind) (i p : ℕ) (b : Buffers) → length (b .fcb) ≡ 36 → asked kind p 1 (single i b) ≡ askedAt kind p i b
 unfolding asked single
-asked-single i p b long =
-    ap (λ (f : File). askedBy p 1 (unpack (b .list)) f (recordOf (fcbAt i (b .fcb))) (b .image)) (fcb-file i (b .fcb) long p (unpack (b .list)))
-    ∙ ap (λ (r : ℕ). askedBy p 1 (unpack (b .list)) (callerFile p (unpack (b .list)) (b .fcb)) r (b .image)) (fcb-number i (b .fcb) long)
+asked-single kind i p b long =
+    ap (λ (f : File). askedBy kind p 1 (unpack (b .list)) f (recordOf (fcbAt i (b .fcb))) (b .image)) (fcb-file i (b .fcb) long p (unpack (b .list)))
+    ∙ ap (λ (r : ℕ). askedBy kind p 1 (unpack (b .list)) (callerFile p (unpack (b .list)) (b .fcb)) r (b .image)) (fcb-number i (b .fcb) long)
 
 -- a record that is done is not past the end
 end-of : (k : Chosen) → Runs k → (a : Asked) (b : Buffers) → firstOf (rowsOf k a b) ≡ 0 → a .number ≤ highest
@@ -135,23 +136,23 @@ end-of k isRead a b z = ltb-false highest _ (row-off 6 _ _ (λ y. omega arith) (
 end-of k isWrite a b z = ltb-false highest _ (row-off 6 _ _ (λ y. omega arith) (row-rest 1023 _ _ (λ y. omega arith) (row-rest 10 _ _ (λ y. omega arith) z)))
 end-of k isZeros a b z = ltb-false highest _ (row-off 6 _ _ (λ y. omega arith) (row-rest 1023 _ _ (λ y. omega arith) (row-rest 10 _ _ (λ y. omega arith) z)))
 
-pub done-within : (n p i : ℕ) (b : Buffers) → Runs (chosen n) → length (b .fcb) ≡ 36 → firstOf (rowsCall n p 1 (single i b)) ≡ 0 → recordOf (b .fcb) + i ≤ highest
+pub done-within : (kind : Kind) (n p i : ℕ) (b : Buffers) → Runs (chosen n) → length (b .fcb) ≡ 36 → firstOf (rowsCall kind n p 1 (single i b)) ≡ 0 → recordOf (b .fcb) + i ≤ highest
 unfolding rowsCall askedBy
-done-within n p i b runs long z =
-    let own = both-zero (rowsAll n p 1 (single i b)) _ (nonzero-all n p 1 (single i b)) z .1 in
-    ap-le (asked-single i p b long) (end-of (chosen n) runs (asked p 1 (single i b)) (single i b) own)
+done-within kind n p i b runs long z =
+    let own = both-zero (rowsAll kind n p 1 (single i b)) _ (nonzero-all kind n p 1 (single i b)) z .1 in
+    ap-le (asked-single kind i p b long) (end-of (chosen n) runs (asked kind p 1 (single i b)) (single i b) own)
   where
-    ap-le : asked p 1 (single i b) ≡ askedAt p i b → asked p 1 (single i b) .number ≤ highest → recordOf (b .fcb) + i ≤ highest
-    ap-le e h = let q : asked p 1 (single i b) .number ≡ recordOf (b .fcb) + i = ap (λ (a : Asked). a .number) e in omega arith
+    ap-le : asked kind p 1 (single i b) ≡ askedAt kind p i b → asked kind p 1 (single i b) .number ≤ highest → recordOf (b .fcb) + i ≤ highest
+    ap-le e h = let q : asked kind p 1 (single i b) .number ≡ recordOf (b .fcb) + i = ap (λ (a : Asked). a .number) e in omega arith
 
 -- ---- the general table lets it pass
 
-module _ (n p i : ℕ) (b : Buffers) (ok : Ready b) (known : isUnknown (chosen n) ≡ false) (few : p < 16) (drive : badDrive n (b .fcb) ≡ false) (fits : 128 * i + 128 ≤ length (b .dma)) where
+module _ (kind : Kind) (n p i : ℕ) (b : Buffers) (ok : Ready kind b) (known : isUnknown (chosen n) ≡ false) (few : p < 16) (drive : badDrive n (b .fcb) ≡ false) (fits : 128 * i + 128 ≤ length (b .dma)) where
   drives : badDrive n (fcbAt i (b .fcb)) ≡ false
   unfolding badDrive
   drives = ap (λ (x : ℕ). ltb 1 x and not (eqb n 46) and not (eqb n 143)) (fcb-low i (b .fcb) (ok .fcb-long) 0 (omega arith)) ∙ drive
 
-  pub passes : firstOf (rowsAll n p 1 (single i b)) ≡ 0
+  pub passes : firstOf (rowsAll kind n p 1 (single i b)) ≡ 0
   unfolding rowsAll rowsInside single
   passes =
       sym (row-no 0 3583 _ _ good
@@ -174,17 +175,17 @@ module _ (n p i : ℕ) (b : Buffers) (ok : Ready b) (known : isUnknown (chosen n
 
   -- .. and then its own table and effect are on what the run asks for
   module _ (runs : Runs (chosen n)) where
-    rows-at : rowsOf (chosen n) (asked p 1 (single i b)) (single i b) ≡ rowsOf (chosen n) (askedAt p i b) b
+    rows-at : rowsOf (chosen n) (asked kind p 1 (single i b)) (single i b) ≡ rowsOf (chosen n) (askedAt kind p i b) b
     rows-at =
-        ap (λ (a : Asked). rowsOf (chosen n) a (single i b)) (asked-single i p b (ok .fcb-long))
-        ∙ rows-single (chosen n) runs (askedAt p i b) i b
+        ap (λ (a : Asked). rowsOf (chosen n) a (single i b)) (asked-single kind i p b (ok .fcb-long))
+        ∙ rows-single (chosen n) runs (askedAt kind p i b) i b
 
-    pub code-single : firstOf (rowsCall n p 1 (single i b)) ≡ firstOf (rowsOf (chosen n) (askedAt p i b) b)
+    pub code-single : firstOf (rowsCall kind n p 1 (single i b)) ≡ firstOf (rowsOf (chosen n) (askedAt kind p i b) b)
     unfolding rowsCall
-    code-single = first-then (rowsAll n p 1 (single i b)) _ passes (nonzero-all n p 1 (single i b)) ∙ ap firstOf rows-at
+    code-single = first-then (rowsAll kind n p 1 (single i b)) _ passes (nonzero-all kind n p 1 (single i b)) ∙ ap firstOf rows-at
 
-    pub effect-single : firstOf (rowsOf (chosen n) (askedAt p i b) b) ≡ 0 → call n p 1 (single i b) ≡ effectOf (chosen n) (askedAt p i b) (single i b)
+    pub effect-single : firstOf (rowsOf (chosen n) (askedAt kind p i b) b) ≡ 0 → call kind n p 1 (single i b) ≡ effectOf (chosen n) (askedAt kind p i b) (single i b)
     unfolding served
     effect-single z =
-        call-served n p 1 (single i b) passes ∙ accepts _ _ _ (ap firstOf rows-at ∙ z)
-        ∙ ap (λ (a : Asked). effectOf (chosen n) a (single i b)) (asked-single i p b (ok .fcb-long))
+        call-served kind n p 1 (single i b) passes ∙ accepts _ _ _ (ap firstOf rows-at ∙ z)
+        ∙ ap (λ (a : Asked). effectOf (chosen n) a (single i b)) (asked-single kind i p b (ok .fcb-long))

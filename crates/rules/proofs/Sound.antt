@@ -1,5 +1,5 @@
 -- A sound image, said of its entries and block numbers, and back. Assumes nothing.
-use Prim.Native.Nat.{ℕ, _+_, _-_, _*_, _/_, _%_, _≤_, _<_}
+use Prim.Native.Nat.{ℕ, _+_, _-_, _*_, _/_, _≤_, _<_}
 use mathlib.Core.Path.{_≡_, sym, ap, _∙_}
 use mathlib.Core.Bool.{Bool, true, false, not}
 use mathlib.Core.List.{List}
@@ -17,7 +17,10 @@ use Rattle.words.proofs.Counts.{count-split}
 use Rattle.words.proofs.Sets.{and-both, or-none, not-of-false}
 use Rattle.rules.specs.declared.answer.ImageAnswer.the-variants.{Sound}
 use Rattle.rules.specs.declared.file.File.{File}
+use Rattle.rules.specs.declared.kind.Kind.{Kind}
+use Rattle.rules.specs.Kinds.{blockSize, most, entries, numbers}
 use Rattle.rules.specs.Drive.{goodLength, blocks, isEmpty, nameAt, extentAt, mapNumber, mapPlace, sameLow, isNamed, fileFrom, fileAt, isEntry, entryOf, holds, names, isUsed, isFree, freeBlocks, goodFields, inRange, namedBefore, isFirst, isRepeat, goodEntry, isBegun, soundDirectory, soundImage, imageCheck, userByte, blockIn, blockOf}
+use Rattle.rules.proofs.Sizes.{size-whole, size-long, place-fits}
 
 -- ---- entries
 
@@ -69,104 +72,103 @@ entry-is s f x e l h =
     }
 
 -- the entry that is found is used
-pub found-used : (s : List ℕ) (f : File) (x : ℕ) → entryOf s f x < 64 → isEmpty s (entryOf s f x) ≡ false
+pub found-used : (kind : Kind) (s : List ℕ) (f : File) (x : ℕ) → entryOf kind s f x < entries kind → isEmpty s (entryOf kind s f x) ≡ false
 unfolding entryOf isEntry
-found-used s f x h = not-true _ (and-fst _ _ (lowest-holds (isEntry s f x) 64 h))
+found-used kind s f x h = not-true _ (and-fst _ _ (lowest-holds (isEntry s f x) (entries kind) h))
 
-pub found-is : (s : List ℕ) (f : File) (x : ℕ) → length (f .name) ≡ 11 → entryOf s f x < 64 → Is s f x (entryOf s f x)
+pub found-is : (kind : Kind) (s : List ℕ) (f : File) (x : ℕ) → length (f .name) ≡ 11 → entryOf kind s f x < entries kind → Is s f x (entryOf kind s f x)
 unfolding entryOf
-found-is s f x l h = entry-is s f x (entryOf s f x) l (lowest-holds (isEntry s f x) 64 h)
+found-is kind s f x l h = entry-is s f x (entryOf kind s f x) l (lowest-holds (isEntry s f x) (entries kind) h)
 
 -- ---- the parts of a sound image
 
 -- every used entry is good, no two have the same file and extent, each file has an extent 0
-pub record Entries (top : ℕ) (s : List ℕ) : Type 0 where
-  pub fields : (e : ℕ) → e < 64 → isEmpty s e ≡ false → goodFields top s e ≡ true
-  pub single : (d e : ℕ) → d < e → e < 64 → isEmpty s e ≡ false → Is s (fileAt s e) (extentAt s e) d → ⊥
-  pub begun : (e : ℕ) → e < 64 → isEmpty s e ≡ false → (d : ℕ) × (d < 64) × Is s (fileAt s e) 0 d
+pub record Entries (kind : Kind) (top : ℕ) (s : List ℕ) : Type 0 where
+  pub fields : (e : ℕ) → e < entries kind → isEmpty s e ≡ false → goodFields top s e ≡ true
+  pub single : (d e : ℕ) → d < e → e < entries kind → isEmpty s e ≡ false → Is s (fileAt s e) (extentAt s e) d → ⊥
+  pub begun : (e : ℕ) → e < entries kind → isEmpty s e ≡ false → (d : ℕ) × (d < entries kind) × Is s (fileAt s e) 0 d
 
 -- place k of used entry e holds the number of a block
-pub record Names (s : List ℕ) (e k : ℕ) : Type 0 where
-  pub entry-there : e < 64
-  pub place-there : k < 16
+pub record Names (kind : Kind) (s : List ℕ) (e k : ℕ) : Type 0 where
+  pub entry-there : e < entries kind
+  pub place-there : k < numbers kind
   pub entry-used : isEmpty s e ≡ false
-  pub some : mapNumber s e k ≡ 0 → ⊥
+  pub some : mapNumber kind s e k ≡ 0 → ⊥
 
 -- map bytes are 0 or 2 to n−1; no block number other than 0 occurs twice
-pub record Maps (s : List ℕ) : Type 0 where
-  pub range : (e k : ℕ) → Names s e k → (2 ≤ mapNumber s e k) × (mapNumber s e k < blocks s)
-  pub once : (d j e k : ℕ) → Names s d j → Names s e k → mapNumber s d j ≡ mapNumber s e k → (d ≡ e) × (j ≡ k)
+pub record Maps (kind : Kind) (s : List ℕ) : Type 0 where
+  pub range : (e k : ℕ) → Names kind s e k → (2 ≤ mapNumber kind s e k) × (mapNumber kind s e k < blocks kind s)
+  pub once : (d j e k : ℕ) → Names kind s d j → Names kind s e k → mapNumber kind s d j ≡ mapNumber kind s e k → (d ≡ e) × (j ≡ k)
 
-pub record SoundImage (top : ℕ) (s : List ℕ) : Type 0 where
-  pub long : goodLength s ≡ true
-  pub entries : Entries top s
-  pub maps : Maps s
+pub record SoundImage (kind : Kind) (top : ℕ) (s : List ℕ) : Type 0 where
+  pub long : goodLength kind s ≡ true
+  pub files : Entries kind top s
+  pub maps : Maps kind s
 
 -- ---- the length
 
-module _ (s : List ℕ) (h : goodLength s ≡ true) where
-  pub length-whole : 1024 * blocks s ≡ length s
-  unfolding goodLength
-  length-whole = let a : length s % 1024 ≡ 0 = eqb-true _ _ (and-fst _ _ h) in omega arith
+module _ (kind : Kind) (s : List ℕ) (h : goodLength kind s ≡ true) where
+  pub length-whole : blockSize kind * blocks kind s ≡ length s
+  length-whole = size-whole kind s h
 
-  pub length-long : 3072 ≤ length s
+  pub length-long : 32 * entries kind + 32 ≤ length s
   unfolding goodLength
-  length-long = let b : 3 ≤ blocks s = leb-true _ _ (and-fst _ _ (and-snd _ _ h)) in omega arith
+  length-long = size-long kind s (leb-true _ _ (and-fst _ _ (and-snd _ _ h)))
 
-  pub length-few : blocks s ≤ 256
+  pub length-few : blocks kind s ≤ most kind
   unfolding goodLength
   length-few = leb-true _ _ (and-snd _ _ (and-snd _ _ h))
 
 -- ---- from the test to the parts
 
-module _ (top : ℕ) (s : List ℕ) (h : soundImage top s ≡ true) where
-  pub sound-length : goodLength s ≡ true
+module _ (kind : Kind) (top : ℕ) (s : List ℕ) (h : soundImage kind top s ≡ true) where
+  pub sound-length : goodLength kind s ≡ true
   unfolding soundImage
   sound-length = and-fst _ _ h
 
-  entry-of : (e : ℕ) → e < 64 → isEmpty s e ≡ false → (goodFields top s e and all (inRange s e) 16 and all (isFirst s e) 16 and not (isRepeat s e)) ≡ true
+  entry-of : (e : ℕ) → e < entries kind → isEmpty s e ≡ false → (goodFields top s e and all (inRange kind s e) (numbers kind) and all (isFirst kind s e) (numbers kind) and not (isRepeat s e)) ≡ true
   unfolding soundImage soundDirectory goodEntry
-  entry-of e l u = or-so _ _ (all-at (goodEntry top s) 64 e (and-fst _ _ (and-snd _ _ h)) l) u
+  entry-of e l u = or-so _ _ (all-at (goodEntry kind top s) (entries kind) e (and-fst _ _ (and-snd _ _ h)) l) u
 
-  begun-of : (e : ℕ) → e < 64 → isEmpty s e ≡ false → any (isEntry s (fileAt s e) 0) 64 ≡ true
+  begun-of : (e : ℕ) → e < entries kind → isEmpty s e ≡ false → any (isEntry s (fileAt s e) 0) (entries kind) ≡ true
   unfolding soundImage soundDirectory isBegun
-  begun-of e l u = or-so _ _ (all-at (isBegun s) 64 e (and-snd _ _ (and-snd _ _ h)) l) u
+  begun-of e l u = or-so _ _ (all-at (isBegun kind s) (entries kind) e (and-snd _ _ (and-snd _ _ h)) l) u
 
-  range-of : (e k : ℕ) → Names s e k → (leb 2 (mapNumber s e k) and ltb (mapNumber s e k) (blocks s)) ≡ true
+  range-of : (e k : ℕ) → Names kind s e k → (leb 2 (mapNumber kind s e k) and ltb (mapNumber kind s e k) (blocks kind s)) ≡ true
   unfolding inRange
   range-of e k n =
       or-so _ _
-      (all-at (inRange s e) 16 k (and-fst _ _ (and-snd _ _ (entry-of e (n .entry-there) (n .entry-used)))) (n .place-there))
+      (all-at (inRange kind s e) (numbers kind) k (and-fst _ _ (and-snd _ _ (entry-of e (n .entry-there) (n .entry-used)))) (n .place-there))
       (ne-eqb _ _ (n .some))
 
-  before-of : (e k : ℕ) → Names s e k → namedBefore s (mapNumber s e k) e k ≡ false
+  before-of : (e k : ℕ) → Names kind s e k → namedBefore kind s (mapNumber kind s e k) e k ≡ false
   unfolding isFirst
   before-of e k n =
       not-true _
       (or-so _ _
-      (all-at (isFirst s e) 16 k (and-fst _ _ (and-snd _ _ (and-snd _ _ (entry-of e (n .entry-there) (n .entry-used))))) (n .place-there))
+      (all-at (isFirst kind s e) (numbers kind) k (and-fst _ _ (and-snd _ _ (and-snd _ _ (entry-of e (n .entry-there) (n .entry-used))))) (n .place-there))
       (ne-eqb _ _ (n .some)))
 
   -- a number that stands before place k of entry e is another
-  not-before : (d j e k : ℕ) → Names s d j → Names s e k → mapNumber s d j ≡ mapNumber s e k → d < e → ⊥
+  not-before : (d j e k : ℕ) → Names kind s d j → Names kind s e k → mapNumber kind s d j ≡ mapNumber kind s e k → d < e → ⊥
   unfolding namedBefore names holds
   not-before d j e k m n q l =
-      let g = any-at (names s (mapNumber s e k)) e d (or-fst _ _ (before-of e k n)) l in
-      let y = any-found (holds s (mapNumber s e k) d) 16 j (m .place-there) (eq-eqb _ _ q) in
+      let g = any-at (names kind s (mapNumber kind s e k)) e d (or-fst _ _ (before-of e k n)) l in
+      let y = any-found (holds kind s (mapNumber kind s e k) d) (numbers kind) j (m .place-there) (eq-eqb _ _ q) in
       never (and-both _ _ (not-of-false _ (m .entry-used)) y) g
 
-  not-within : (e j k : ℕ) → Names s e k → mapNumber s e j ≡ mapNumber s e k → j < k → ⊥
+  not-within : (e j k : ℕ) → Names kind s e k → mapNumber kind s e j ≡ mapNumber kind s e k → j < k → ⊥
   unfolding namedBefore holds
   not-within e j k n q l =
-      never (eq-eqb _ _ q) (any-at (holds s (mapNumber s e k) e) k j (or-snd _ _ (before-of e k n)) l)
+      never (eq-eqb _ _ q) (any-at (holds kind s (mapNumber kind s e k) e) k j (or-snd _ _ (before-of e k n)) l)
 
-  once-of : (d j e k : ℕ) → Names s d j → Names s e k → mapNumber s d j ≡ mapNumber s e k → (d ≡ e) × (j ≡ k)
+  once-of : (d j e k : ℕ) → Names kind s d j → Names kind s e k → mapNumber kind s d j ≡ mapNumber kind s e k → (d ≡ e) × (j ≡ k)
   once-of d j e k m n q =
       let a : (d < e → ⊥) = not-before d j e k m n q in
       let b : (e < d → ⊥) = not-before e k d j n m (sym q) in
       let c : d ≡ e = same d e a b in
-      let q′ : mapNumber s e j ≡ mapNumber s e k = ap (λ (i : ℕ). mapNumber s i j) (sym c) ∙ q in
-      let m′ : Names s e j = rw c at m in
+      let q′ : mapNumber kind s e j ≡ mapNumber kind s e k = ap (λ (i : ℕ). mapNumber kind s i j) (sym c) ∙ q in
+      let m′ : Names kind s e j = rw c at m in
       (c, same j k (not-within e j k n q′) (not-within e k j m′ (sym q′)))
     where
       same : (a b : ℕ) → (a < b → ⊥) → (b < a → ⊥) → a ≡ b
@@ -177,17 +179,17 @@ module _ (top : ℕ) (s : List ℕ) (h : soundImage top s ≡ true) where
           (λ (y : leb a b ≡ false). absurd (g (leb-false a b y))) (either (leb a b)))
           (λ (x : leb b a ≡ false). absurd (f (leb-false b a x))) (either (leb b a))
 
-  pub sound-of : SoundImage top s
+  pub sound-of : SoundImage kind top s
   unfolding isRepeat
   sound-of = record {
     long = sound-length;
-    entries = record {
+    files = record {
       fields = λ e l u. and-fst _ _ (entry-of e l u);
       single = λ d e m l u q.
           never (entry-so s (fileAt s e) (extentAt s e) d q)
           (any-at (isEntry s (fileAt s e) (extentAt s e)) e d (not-true _ (and-snd _ _ (and-snd _ _ (and-snd _ _ (entry-of e l u))))) m);
       begun = λ e l u.
-          let k = any-some (isEntry s (fileAt s e) 0) 64 (begun-of e l u) in
+          let k = any-some (isEntry s (fileAt s e) 0) (entries kind) (begun-of e l u) in
           (k .0, k .1, entry-is s (fileAt s e) 0 (k .0) (file-long s e) (k .2));
     };
     maps = record {
@@ -198,83 +200,83 @@ module _ (top : ℕ) (s : List ℕ) (h : soundImage top s ≡ true) where
 
 -- ---- and back
 
-module _ (top : ℕ) (s : List ℕ) (g : SoundImage top s) where
-  named : (e k : ℕ) → e < 64 → k < 16 → isEmpty s e ≡ false → eqb (mapNumber s e k) 0 ≡ false → Names s e k
+module _ (kind : Kind) (top : ℕ) (s : List ℕ) (g : SoundImage kind top s) where
+  named : (e k : ℕ) → e < entries kind → k < numbers kind → isEmpty s e ≡ false → eqb (mapNumber kind s e k) 0 ≡ false → Names kind s e k
   named e k l m u z = record { entry-there = l; place-there = m; entry-used = u; some = eqb-false _ _ z }
 
-  range-so : (e : ℕ) → e < 64 → isEmpty s e ≡ false → all (inRange s e) 16 ≡ true
+  range-so : (e : ℕ) → e < entries kind → isEmpty s e ≡ false → all (inRange kind s e) (numbers kind) ≡ true
   unfolding inRange
   range-so e l u =
-      all-make (inRange s e) 16 (λ k m. or-case _ _ (λ z.
+      all-make (inRange kind s e) (numbers kind) (λ k m. or-case _ _ (λ z.
       let r = g .maps .range e k (named e k l m u z) in and-both _ _ (le-leb _ _ (r .0)) (lt-ltb _ _ (r .1))))
 
-  first-so : (e : ℕ) → e < 64 → isEmpty s e ≡ false → all (isFirst s e) 16 ≡ true
+  first-so : (e : ℕ) → e < entries kind → isEmpty s e ≡ false → all (isFirst kind s e) (numbers kind) ≡ true
   unfolding isFirst namedBefore names holds
   first-so e l u =
-      all-make (isFirst s e) 16 (λ k m. or-case _ _ (λ z.
+      all-make (isFirst kind s e) (numbers kind) (λ k m. or-case _ _ (λ z.
       let n = named e k l m u z in
       not-of-false _ (or-none _ _
-      (any-never (names s (mapNumber s e k)) e (λ d i. ⊎-elim
-      (λ (y : names s (mapNumber s e k) d ≡ true).
-      let w = any-some (holds s (mapNumber s e k) d) 16 (and-snd _ _ y) in
+      (any-never (names kind s (mapNumber kind s e k)) e (λ d i. ⊎-elim
+      (λ (y : names kind s (mapNumber kind s e k) d ≡ true).
+      let w = any-some (holds kind s (mapNumber kind s e k) d) (numbers kind) (and-snd _ _ y) in
       let q = eqb-true _ _ (w .2) in
-      let v : Names s d (w .0) = record { entry-there = omega arith; place-there = w .1; entry-used = not-true _ (and-fst _ _ y); some = λ (x : mapNumber s d (w .0) ≡ 0). n .some (sym q ∙ x) } in
+      let v : Names kind s d (w .0) = record { entry-there = omega arith; place-there = w .1; entry-used = not-true _ (and-fst _ _ y); some = λ (x : mapNumber kind s d (w .0) ≡ 0). n .some (sym q ∙ x) } in
       let o : d ≡ e = g .maps .once d (w .0) e k v n q .0 in absurd (omega arith))
-      (λ (y : names s (mapNumber s e k) d ≡ false). y) (either (names s (mapNumber s e k) d))))
-      (any-never (holds s (mapNumber s e k) e) k (λ j i. ne-eqb _ _ (λ (q : mapNumber s e j ≡ mapNumber s e k).
-      let v : Names s e j = record { entry-there = l; place-there = omega arith; entry-used = u; some = λ (x : mapNumber s e j ≡ 0). n .some (sym q ∙ x) } in
+      (λ (y : names kind s (mapNumber kind s e k) d ≡ false). y) (either (names kind s (mapNumber kind s e k) d))))
+      (any-never (holds kind s (mapNumber kind s e k) e) k (λ j i. ne-eqb _ _ (λ (q : mapNumber kind s e j ≡ mapNumber kind s e k).
+      let v : Names kind s e j = record { entry-there = l; place-there = omega arith; entry-used = u; some = λ (x : mapNumber kind s e j ≡ 0). n .some (sym q ∙ x) } in
       let o : j ≡ k = g .maps .once e j e k v n q .1 in absurd (omega arith)))))))
 
-  repeat-so : (e : ℕ) → e < 64 → isEmpty s e ≡ false → isRepeat s e ≡ false
+  repeat-so : (e : ℕ) → e < entries kind → isEmpty s e ≡ false → isRepeat s e ≡ false
   unfolding isRepeat
   repeat-so e l u =
       any-never (isEntry s (fileAt s e) (extentAt s e)) e (λ d m. ⊎-elim
-      (λ (q : isEntry s (fileAt s e) (extentAt s e) d ≡ true). absurd (g .entries .single d e m l u (entry-is s (fileAt s e) (extentAt s e) d (file-long s e) q)))
+      (λ (q : isEntry s (fileAt s e) (extentAt s e) d ≡ true). absurd (g .files .single d e m l u (entry-is s (fileAt s e) (extentAt s e) d (file-long s e) q)))
       (λ (q : isEntry s (fileAt s e) (extentAt s e) d ≡ false). q) (either (isEntry s (fileAt s e) (extentAt s e) d)))
 
-  pub sound-so : soundImage top s ≡ true
+  pub sound-so : soundImage kind top s ≡ true
   unfolding soundImage soundDirectory goodEntry isBegun
   sound-so =
       and-both _ _ (g .long) (and-both _ _
-      (all-make (goodEntry top s) 64 (λ e l. or-case _ _ (λ u.
-      and-both _ _ (g .entries .fields e l u) (and-both _ _ (range-so e l u) (and-both _ _ (first-so e l u) (not-of-false _ (repeat-so e l u)))))))
-      (all-make (isBegun s) 64 (λ e l. or-case _ _ (λ u.
-      let k = g .entries .begun e l u in
-      any-found (isEntry s (fileAt s e) 0) 64 (k .0) (k .1) (entry-so s (fileAt s e) 0 (k .0) (k .2))))))
+      (all-make (goodEntry kind top s) (entries kind) (λ e l. or-case _ _ (λ u.
+      and-both _ _ (g .files .fields e l u) (and-both _ _ (range-so e l u) (and-both _ _ (first-so e l u) (not-of-false _ (repeat-so e l u)))))))
+      (all-make (isBegun kind s) (entries kind) (λ e l. or-case _ _ (λ u.
+      let k = g .files .begun e l u in
+      any-found (isEntry s (fileAt s e) 0) (entries kind) (k .0) (k .1) (entry-so s (fileAt s e) 0 (k .0) (k .2))))))
 
 -- ---- the check and the test
 
-pub check-sound : (top : ℕ) (s : List ℕ) → soundImage top s ≡ true → imageCheck top s ≡ Sound
+pub check-sound : (kind : Kind) (top : ℕ) (s : List ℕ) → soundImage kind top s ≡ true → imageCheck kind top s ≡ Sound
 unfolding imageCheck soundImage _if_else_
-check-sound top s h = rw (and-fst _ _ h, and-snd _ _ h)
+check-sound kind top s h = rw (and-fst _ _ h, and-snd _ _ h)
 
 -- ---- blocks
 
 -- a used block of the drive
-unfoldable pub isUsedData : List ℕ → ℕ → Bool
-isUsedData s b = leb 2 b and isUsed s b
+unfoldable pub isUsedData : Kind → List ℕ → ℕ → Bool
+isUsedData kind s b = leb 2 b and isUsed kind s b
 
 -- the free and the used blocks add up to n − 2
-pub add-up : (s : List ℕ) → freeBlocks s + count (isUsedData s) (blocks s) ≡ blocks s - 2
+pub add-up : (kind : Kind) (s : List ℕ) → freeBlocks kind s + count (isUsedData kind s) (blocks kind s) ≡ blocks kind s - 2
 unfolding freeBlocks isFree isUsedData
-add-up s = count-split 2 (blocks s) (isUsed s)
+add-up kind s = count-split 2 (blocks kind s) (isUsed kind s)
 
 -- a record that has a block: where its number stands
-module _ (top : ℕ) (s : List ℕ) (f : File) (r : ℕ) (some : blockOf s f r ≡ 0 → ⊥) where
-  extent-there : leb 64 (entryOf s f (r / 128)) ≡ false
+module _ (kind : Kind) (top : ℕ) (s : List ℕ) (f : File) (r : ℕ) (some : blockOf kind s f r ≡ 0 → ⊥) where
+  extent-there : leb (entries kind) (entryOf kind s f (r / 128)) ≡ false
   unfolding blockOf blockIn _if_else_
   extent-there =
-      ⊎-elim (λ (q : leb 64 (entryOf s f (r / 128)) ≡ true). absurd (some (rw q))) (λ q. q) (either (leb 64 (entryOf s f (r / 128))))
+      ⊎-elim (λ (q : leb (entries kind) (entryOf kind s f (r / 128)) ≡ true). absurd (some (rw q))) (λ q. q) (either (leb (entries kind) (entryOf kind s f (r / 128))))
 
-  pub block-is : blockOf s f r ≡ mapNumber s (entryOf s f (r / 128)) (mapPlace r)
+  pub block-is : blockOf kind s f r ≡ mapNumber kind s (entryOf kind s f (r / 128)) (mapPlace kind r)
   unfolding blockOf blockIn _if_else_
   block-is = rw extent-there
 
-  pub block-named : Names s (entryOf s f (r / 128)) (mapPlace r)
+  pub block-named : Names kind s (entryOf kind s f (r / 128)) (mapPlace kind r)
   block-named =
-      let l = leb-false 64 _ extent-there in
-      record { entry-there = l; place-there = omega arith; entry-used = found-used s f (r / 128) l; some = λ q. some (block-is ∙ q) }
+      let l = leb-false (entries kind) _ extent-there in
+      record { entry-there = l; place-there = place-fits kind r; entry-used = found-used kind s f (r / 128) l; some = λ q. some (block-is ∙ q) }
 
   -- it is a data block
-  pub block-within : soundImage top s ≡ true → (2 ≤ blockOf s f r) × (blockOf s f r < blocks s)
-  block-within h = rw block-is (sound-of top s h .maps .range _ _ block-named)
+  pub block-within : soundImage kind top s ≡ true → (2 ≤ blockOf kind s f r) × (blockOf kind s f r < blocks kind s)
+  block-within h = rw block-is (sound-of kind top s h .maps .range _ _ block-named)

@@ -12,6 +12,8 @@ use Rattle.words.specs.Tests.{_and_, _if_else_, all}
 use Rattle.words.proofs.Tests.{either, equal?, never, fails-too, all-at, all-make, any-at, any-found, any-never, lowest-holds, lowest-below, and-fst, and-snd}
 use Rattle.words.proofs.Lists.{length-tab}
 use Rattle.words.proofs.Sets.{and-both, not-of-false}
+use Rattle.rules.specs.declared.kind.Kind.{Kind}
+use Rattle.rules.specs.Kinds.{entries}
 use Rattle.rules.specs.declared.file.File.{File}
 use Rattle.rules.specs.declared.item.Item.{Item}
 use Rattle.rules.specs.declared.list.LockList.{LockList}
@@ -44,26 +46,26 @@ pub record Holder (l : LockList) (p : ℕ) (name : List ℕ) : Type 0 where
   pub opens : opensName p name (itemAt l place) ≡ true
   pub mode : itemAt l place .mode ≡ 1
 
-pub record GoodOpen (s : List ℕ) (l : LockList) (it : Item) : Type 0 where
+pub record GoodOpen (kind : Kind) (s : List ℕ) (l : LockList) (it : Item) : Type 0 where
   pub kind-one : it .kind ≡ 1
   pub mode-fits : it .mode ≤ 2
   pub number-zero : it .number ≡ 0
-  pub there : entryOf s (fileOf l it) 0 < 64
+  pub there : entryOf kind s (fileOf l it) 0 < entries kind
 
-pub record GoodLock (s : List ℕ) (l : LockList) (it : Item) : Type 0 where
+pub record GoodLock (kind : Kind) (s : List ℕ) (l : LockList) (it : Item) : Type 0 where
   pub kind-two : it .kind ≡ 2
   pub mode-one : it .mode ≡ 1
   pub holder : Holder l (it .process) (it .name)
-  pub block : blockOf s (fileOf l it) (it .number) ≡ 0 → ⊥
+  pub block : blockOf kind s (fileOf l it) (it .number) ≡ 0 → ⊥
 
 -- processes to 15; names legal, high bits zero; records below 262,144
 unfoldable pub isPlain : Item → Bool
 isPlain it = leb (it .process) 15 and legalName (it .name) 0 and all (isLow (it .name)) 11 and leb (it .number) highest
 
-pub record Used (s : List ℕ) (l : LockList) (i : ℕ) : Type 0 where
+pub record Used (kind : Kind) (s : List ℕ) (l : LockList) (i : ℕ) : Type 0 where
   pub below : i < l .capacity
   pub plain : isPlain (itemAt l i) ≡ true
-  pub good : GoodOpen s l (itemAt l i) ⊎ GoodLock s l (itemAt l i)
+  pub good : GoodOpen kind s l (itemAt l i) ⊎ GoodLock kind s l (itemAt l i)
 
 pub record Vacant (l : LockList) (i : ℕ) : Type 0 where
   pub kind-zero : itemAt l i .kind ≡ 0
@@ -75,9 +77,9 @@ pub record Limits (l : LockList) : Type 0 where
   pub lock-good : isLimit (l .locklimit) ≡ true
   pub users-good : all (isUser (l .users)) 16 ≡ true
 
-pub record SoundLocks (l : LockList) (s : List ℕ) : Type 0 where
+pub record SoundLocks (kind : Kind) (l : LockList) (s : List ℕ) : Type 0 where
   pub limits : Limits l
-  pub place : (i : ℕ) → i < 64 → Vacant l i ⊎ Used s l i
+  pub place : (i : ℕ) → i < 64 → Vacant l i ⊎ Used kind s l i
   pub apart : (i j : ℕ) → i < 64 → j < 64 → (i ≡ j → ⊥) → clashAt l i j ≡ false
   pub keeps : (p : ℕ) → p < 16 → keepsLimits l p ≡ true
 
@@ -91,7 +93,7 @@ user-fits l p h k = leb-true _ _ (all-at (isUser (l .users)) 16 p (h .users-good
 
 -- ---- from the test
 
-module _ (l : LockList) (s : List ℕ) (h : soundLocks highest l s ≡ true) where
+module _ (kind : Kind) (l : LockList) (s : List ℕ) (h : soundLocks kind highest l s ≡ true) where
   pub limits-of : Limits l
   unfolding soundLocks
   limits-of = record {
@@ -101,11 +103,11 @@ module _ (l : LockList) (s : List ℕ) (h : soundLocks highest l s ≡ true) whe
     users-good = and-fst _ _ (and-snd _ _ (and-snd _ _ (and-snd _ _ h)));
   }
 
-  places-of : (all (goodPlace highest s l) 64 and all (isApart l) 64 and all (keepsLimits l) 16) ≡ true
+  places-of : (all (goodPlace kind highest s l) 64 and all (isApart l) 64 and all (keepsLimits l) 16) ≡ true
   unfolding soundLocks
   places-of = and-snd _ _ (and-snd _ _ (and-snd _ _ (and-snd _ _ h)))
 
-  open-of : (it : Item) → eqb (it .kind) 1 ≡ true → goodOpen s l it ≡ true → GoodOpen s l it
+  open-of : (it : Item) → eqb (it .kind) 1 ≡ true → goodOpen kind s l it ≡ true → GoodOpen kind s l it
   unfolding goodOpen missing lookUp
   open-of it k g = record {
     kind-one = eqb-true _ _ k;
@@ -120,7 +122,7 @@ module _ (l : LockList) (s : List ℕ) (h : soundLocks highest l s ≡ true) whe
       let k = ltb-true _ _ (and-fst _ _ g) in
       record { place = openOf l p f; below = k; opens = lowest-holds (opensNameAt l p (f .name)) 64 k; mode = eqb-true _ _ (and-snd _ _ g) }
 
-  lock-of : (it : Item) → it .kind ≡ 2 → goodLock s l it ≡ true → GoodLock s l it
+  lock-of : (it : Item) → it .kind ≡ 2 → goodLock kind s l it ≡ true → GoodLock kind s l it
   unfolding goodLock
   lock-of it k g = record {
     kind-two = k;
@@ -129,7 +131,7 @@ module _ (l : LockList) (s : List ℕ) (h : soundLocks highest l s ≡ true) whe
     block = eqb-false _ _ (not-true _ (and-snd _ _ (and-snd _ _ g)));
   }
 
-  used-of : (i : ℕ) → eqb (itemAt l i .kind) 0 ≡ false → (ltb i (l .capacity) and leb (itemAt l i .kind) 2 and goodItem highest s l (itemAt l i)) ≡ true → Used s l i
+  used-of : (i : ℕ) → eqb (itemAt l i .kind) 0 ≡ false → (ltb i (l .capacity) and leb (itemAt l i .kind) 2 and goodItem kind highest s l (itemAt l i)) ≡ true → Used kind s l i
   unfolding goodItem isPlain _if_else_
   used-of i z g =
       let it = itemAt l i in
@@ -155,10 +157,10 @@ module _ (l : LockList) (s : List ℕ) (h : soundLocks highest l s ≡ true) whe
       two (suc zero) a b c = absurd (b refl)
       two (suc (suc k)) a b c = omega arith
 
-  place-of : (i : ℕ) → i < 64 → Vacant l i ⊎ Used s l i
+  place-of : (i : ℕ) → i < 64 → Vacant l i ⊎ Used kind s l i
   unfolding goodPlace _if_else_
   place-of i m =
-      let g = all-at (goodPlace highest s l) 64 i (and-fst _ _ places-of) m in
+      let g = all-at (goodPlace kind highest s l) 64 i (and-fst _ _ places-of) m in
       ⊎-elim
       (λ (q : eqb (itemAt l i .kind) 0 ≡ true). inl (record { kind-zero = eqb-true _ _ q; zeros = rw q at g }))
       (λ (q : eqb (itemAt l i .kind) 0 ≡ false). inr (used-of i q (rw q at g)))
@@ -179,7 +181,7 @@ module _ (l : LockList) (s : List ℕ) (h : soundLocks highest l s ≡ true) whe
       less : (a b : ℕ) → a ≤ b → (a ≡ b → ⊥) → a < b
       less a b w n = ⊎-elim (λ (q : ltb a b ≡ true). ltb-true _ _ q) (λ (q : ltb a b ≡ false). let v = ltb-false a b q in absurd (n (omega arith))) (either (ltb a b))
 
-  pub locks-of : SoundLocks l s
+  pub locks-of : SoundLocks kind l s
   locks-of = record {
     limits = limits-of;
     place = place-of;
@@ -190,9 +192,9 @@ module _ (l : LockList) (s : List ℕ) (h : soundLocks highest l s ≡ true) whe
 -- ---- and back
 
 -- two opens of one name by one process stand at one place
-pub one-open : (l : LockList) (s : List ℕ) (i j p : ℕ) (name : List ℕ) → SoundLocks l s → i < 64 → j < 64 → opensName p name (itemAt l i) ≡ true → opensName p name (itemAt l j) ≡ true → i ≡ j
+pub one-open : (kind : Kind) (l : LockList) (s : List ℕ) (i j p : ℕ) (name : List ℕ) → SoundLocks kind l s → i < 64 → j < 64 → opensName p name (itemAt l i) ≡ true → opensName p name (itemAt l j) ≡ true → i ≡ j
 unfolding clashAt sameFile
-one-open l s i j p name g m k a b =
+one-open kind l s i j p name g m k a b =
     let x = open-is p name (itemAt l i) a in
     let y = open-is p name (itemAt l j) b in
     let q : itemAt l i .process ≡ itemAt l j .process = x .by ∙ sym (y .by) in
@@ -203,12 +205,12 @@ one-open l s i j p name g m k a b =
     (g .apart i j m k z)))
     (equal? i j)
 
-module _ (l : LockList) (s : List ℕ) (g : SoundLocks l s) where
+module _ (kind : Kind) (l : LockList) (s : List ℕ) (g : SoundLocks kind l s) where
   pub holder-open : (p : ℕ) (f : File) → (h : Holder l p (f .name)) → h .place ≡ openOf l p f
   unfolding openOf opensNameAt
   holder-open p f h =
       let k = lowest-below (opensNameAt l p (f .name)) 64 (any-found (opensNameAt l p (f .name)) 64 (h .place) (h .below) (h .opens)) in
-      one-open l s (h .place) (openOf l p f) p (f .name) g (h .below) k (h .opens) (lowest-holds (opensNameAt l p (f .name)) 64 k)
+      one-open kind l s (h .place) (openOf l p f) p (f .name) g (h .below) k (h .opens) (lowest-holds (opensNameAt l p (f .name)) 64 k)
 
   holder-so : (p : ℕ) (f : File) → Holder l p (f .name) → opensUnlocked l (openOf l p f) ≡ true
   unfolding opensUnlocked isOpened
@@ -216,38 +218,38 @@ module _ (l : LockList) (s : List ℕ) (g : SoundLocks l s) where
       let q = holder-open p f h in
       rw (← q) (and-both _ _ (lt-ltb _ _ (h .below)) (eq-eqb _ _ (h .mode)))
 
-  item-so : (it : Item) → isPlain it ≡ true → GoodOpen s l it ⊎ GoodLock s l it → (leb (it .kind) 2 and goodItem highest s l it) ≡ true
+  item-so : (it : Item) → isPlain it ≡ true → GoodOpen kind s l it ⊎ GoodLock kind s l it → (leb (it .kind) 2 and goodItem kind highest s l it) ≡ true
   unfolding goodItem isPlain goodOpen goodLock missing lookUp _if_else_
   item-so it h c =
       let h₁ = and-snd _ _ h in
       let h₂ = and-snd _ _ h₁ in
       ⊎-elim
-      (λ (o : GoodOpen s l it).
+      (λ (o : GoodOpen kind s l it).
       rw (o .kind-one) (and-both _ _ refl (and-both _ _ (and-fst _ _ h) (and-both _ _ (and-fst _ _ h₁) (and-both _ _ (and-fst _ _ h₂) (and-both _ _ (and-snd _ _ h₂)
       (and-both _ _ (le-leb _ _ (o .mode-fits)) (and-both _ _ (eq-eqb _ _ (o .number-zero)) (not-of-false _ (lt-leb _ _ (o .there))))))))))
       )
-      (λ (o : GoodLock s l it).
+      (λ (o : GoodLock kind s l it).
       rw (o .kind-two) (and-both _ _ refl (and-both _ _ (and-fst _ _ h) (and-both _ _ (and-fst _ _ h₁) (and-both _ _ (and-fst _ _ h₂) (and-both _ _ (and-snd _ _ h₂)
       (and-both _ _ (eq-eqb _ _ (o .mode-one)) (and-both _ _ (holder-so (it .process) (fileOf l it) (o .holder)) (not-of-false _ (ne-eqb _ _ (o .block)))))))))
       )) c
 
-  place-so : (i : ℕ) → i < 64 → goodPlace highest s l i ≡ true
+  place-so : (i : ℕ) → i < 64 → goodPlace kind highest s l i ≡ true
   unfolding goodPlace _if_else_
   place-so i m =
       ⊎-elim
       (λ (v : Vacant l i). rw (eq-eqb _ _ (v .kind-zero)) (v .zeros))
-      (λ (v : Used s l i).
+      (λ (v : Used kind s l i).
       let z : eqb (itemAt l i .kind) 0 ≡ false = ⊎-elim
-      (λ (o : GoodOpen s l (itemAt l i)). ne-eqb _ _ (λ (q : itemAt l i .kind ≡ 0). let w = o .kind-one in absurd (omega arith)))
-      (λ (o : GoodLock s l (itemAt l i)). ne-eqb _ _ (λ (q : itemAt l i .kind ≡ 0). let w = o .kind-two in absurd (omega arith))) (v .good) in
+      (λ (o : GoodOpen kind s l (itemAt l i)). ne-eqb _ _ (λ (q : itemAt l i .kind ≡ 0). let w = o .kind-one in absurd (omega arith)))
+      (λ (o : GoodLock kind s l (itemAt l i)). ne-eqb _ _ (λ (q : itemAt l i .kind ≡ 0). let w = o .kind-two in absurd (omega arith))) (v .good) in
       rw z (and-both _ _ (lt-ltb _ _ (v .below)) (item-so (itemAt l i) (v .plain) (v .good))))
       (g .place i m)
 
-  pub locks-so : soundLocks highest l s ≡ true
+  pub locks-so : soundLocks kind highest l s ≡ true
   unfolding soundLocks isApart
   locks-so =
       and-both _ _ (g .limits .capacity-good) (and-both _ _ (g .limits .open-good) (and-both _ _ (g .limits .lock-good) (and-both _ _ (g .limits .users-good)
-      (and-both _ _ (all-make (goodPlace highest s l) 64 place-so)
+      (and-both _ _ (all-make (goodPlace kind highest s l) 64 place-so)
       (and-both _ _
       (all-make (isApart l) 64 (λ i m. not-of-false _ (any-never (clashAt l i) i (λ j k. g .apart i j m (omega arith) (λ (q : i ≡ j). absurd (omega arith))))))
       (all-make (keepsLimits l) 16 (λ p k. g .keeps p k)))))))
@@ -261,9 +263,9 @@ module _ (l : LockList) (s : List ℕ) (g : SoundLocks l s) where
       let n : itemAt l i .number ≡ 0 = eqb-true _ _ (and-snd _ _ (and-snd _ _ (and-snd _ _ (v .zeros)))) in
       let k = v .kind-zero in
       (omega arith, omega arith))
-      (λ (v : Used s l i).
+      (λ (v : Used kind s l i).
       let n : itemAt l i .number ≤ 262143 = leb-true _ _ (and-snd _ _ (and-snd _ _ (and-snd _ _ (v .plain)))) in
-      (⊎-elim (λ (o : GoodOpen s l (itemAt l i)). let w = o .kind-one in omega arith) (λ (o : GoodLock s l (itemAt l i)). let w = o .kind-two in omega arith) (v .good), omega arith))
+      (⊎-elim (λ (o : GoodOpen kind s l (itemAt l i)). let w = o .kind-one in omega arith) (λ (o : GoodLock kind s l (itemAt l i)). let w = o .kind-two in omega arith) (v .good), omega arith))
       (g .place i m)
 
   pub in-range : Shape l → ListInRange l
@@ -275,14 +277,14 @@ module _ (l : LockList) (s : List ℕ) (g : SoundLocks l s) where
 
 -- ---- a list in bytes and its places
 
-pub list-sound-of : (list s : List ℕ) → soundList highest list s ≡ true → SoundLocks (unpack list) s
+pub list-sound-of : (kind : Kind) (list s : List ℕ) → soundList kind highest list s ≡ true → SoundLocks kind (unpack list) s
 unfolding soundList
-list-sound-of list s h = locks-of (unpack list) s (and-snd _ _ h)
+list-sound-of kind list s h = locks-of kind (unpack list) s (and-snd _ _ h)
 
-module _ (l : LockList) (s : List ℕ) (g : SoundLocks l s) (h : Shape l) where
+module _ (kind : Kind) (l : LockList) (s : List ℕ) (g : SoundLocks kind l s) (h : Shape l) where
   pub unpacked : unpack (pack l) ≡ l
-  unpacked = unpack-pack l (in-range l s g h)
+  unpacked = unpack-pack l (in-range kind l s g h)
 
-  pub list-sound-so : soundList highest (pack l) s ≡ true
+  pub list-sound-so : soundList kind highest (pack l) s ≡ true
   unfolding soundList
-  list-sound-so = and-both _ _ (zero-packed l (h .items-long)) (rw unpacked (locks-so l s g))
+  list-sound-so = and-both _ _ (zero-packed l (h .items-long)) (rw unpacked (locks-so kind l s g))

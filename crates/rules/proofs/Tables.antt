@@ -11,6 +11,7 @@ use Rattle.words.specs.Tests.{_if_else_}
 use Rattle.words.specs.Tables.{Row, _∕_, _when_, firstOf, anyRow, noneZero}
 use Rattle.words.proofs.Tests.{either}
 use Rattle.words.proofs.Tables.{none-applies, first-applies, some-applies, first-then, first-stays, nonzeros, nonzero-append, codesBelow, first-below, below-append, belows}
+use Rattle.rules.specs.declared.kind.Kind.{Kind}
 use Rattle.rules.specs.declared.routine.Routine.the-variants.{Open, Close, Delete, Make, Rename, Read, Write, WriteZeros, TestWrite, Lock, Unlock, FreeSpace, Terminate}
 use Rattle.rules.specs.declared.routine.Chosen.{Chosen}
 use Rattle.rules.specs.declared.routine.Chosen.the-variants.{Call, Unknown}
@@ -22,9 +23,9 @@ use Rattle.rules.specs.Call.{Asked, ends, unless, asked, rowsOf, effectO
 
 -- ---- no row has the answer 0/0
 
-pub nonzero-all : (n p c : ℕ) (b : Buffers) → noneZero (rowsAll n p c b) ≡ true
+pub nonzero-all : (kind : Kind) (n p c : ℕ) (b : Buffers) → noneZero (rowsAll kind n p c b) ≡ true
 unfolding rowsInside rowsAll
-nonzero-all n p c b = search nonzeros depth 20 fits 20000
+nonzero-all kind n p c b = search nonzeros depth 20 fits 20000
 
 pub nonzero-of : (k : Chosen) (a : Asked) (b : Buffers) → noneZero (rowsOf k a b) ≡ true
 unfolding rowsOf rowsNew rows15 rows16 rows19 rows22 rows23 rows33 rows34 rows41 rows42 rows43 rowsThere rowsMay rowsRoom rowsDiffer rowsRun rowsLacking rowsTake
@@ -43,15 +44,15 @@ nonzero-of (Call FreeSpace) a b = search nonzeros depth 20 fits 20000
 nonzero-of (Call Terminate) a b = search nonzeros depth 20 fits 20000
 nonzero-of Unknown a b = search nonzeros depth 20 fits 20000
 
-pub nonzero-call : (n p c : ℕ) (b : Buffers) → noneZero (rowsCall n p c b) ≡ true
+pub nonzero-call : (kind : Kind) (n p c : ℕ) (b : Buffers) → noneZero (rowsCall kind n p c b) ≡ true
 unfolding rowsCall
-nonzero-call n p c b = nonzero-append (rowsAll n p c b) _ (nonzero-all n p c b) (nonzero-of (chosen n) (asked p c b) b)
+nonzero-call kind n p c b = nonzero-append (rowsAll kind n p c b) _ (nonzero-all kind n p c b) (nonzero-of (chosen n) (asked kind p c b) b)
 
 -- ---- .. and the high four bits of H are zero in each
 
-below-all : (n p c : ℕ) (b : Buffers) → codesBelow 4096 (rowsAll n p c b) ≡ true
+below-all : (kind : Kind) (n p c : ℕ) (b : Buffers) → codesBelow 4096 (rowsAll kind n p c b) ≡ true
 unfolding rowsInside rowsAll
-below-all n p c b = search belows depth 20 fits 20000
+below-all kind n p c b = search belows depth 20 fits 20000
 
 below-of : (k : Chosen) (a : Asked) (b : Buffers) → codesBelow 4096 (rowsOf k a b) ≡ true
 unfolding rowsOf rowsNew rows15 rows16 rows19 rows22 rows23 rows33 rows34 rows41 rows42 rows43 rowsThere rowsMay rowsRoom rowsDiffer rowsRun rowsLacking rowsTake
@@ -70,15 +71,15 @@ below-of (Call FreeSpace) a b = search belows depth 20 fits 20000
 below-of (Call Terminate) a b = search belows depth 20 fits 20000
 below-of Unknown a b = search belows depth 20 fits 20000
 
-pub all-below : (n p c : ℕ) (b : Buffers) → firstOf (rowsAll n p c b) < 4096
-all-below n p c b = first-below 4096 _ (omega arith) (below-all n p c b)
+pub all-below : (kind : Kind) (n p c : ℕ) (b : Buffers) → firstOf (rowsAll kind n p c b) < 4096
+all-below kind n p c b = first-below 4096 _ (omega arith) (below-all kind n p c b)
 
 pub of-below : (k : Chosen) (a : Asked) (b : Buffers) → firstOf (rowsOf k a b) < 4096
 of-below k a b = first-below 4096 _ (omega arith) (below-of k a b)
 
-pub call-below : (n p c : ℕ) (b : Buffers) → firstOf (rowsCall n p c b) < 4096
+pub call-below : (kind : Kind) (n p c : ℕ) (b : Buffers) → firstOf (rowsCall kind n p c b) < 4096
 unfolding rowsCall
-call-below n p c b = first-below 4096 _ (omega arith) (below-append 4096 (rowsAll n p c b) _ (below-all n p c b) (below-of (chosen n) (asked p c b) b))
+call-below kind n p c b = first-below 4096 _ (omega arith) (below-append 4096 (rowsAll kind n p c b) _ (below-all kind n p c b) (below-of (chosen n) (asked kind p c b) b))
 
 -- ---- a table and an effect
 
@@ -95,21 +96,21 @@ module _ (rows : List Row) (b : Buffers) (done : Outcome) where
 
 -- ---- every call
 
-module _ (n p c : ℕ) (b : Buffers) where
+module _ (kind : Kind) (n p c : ℕ) (b : Buffers) where
   -- no row applies: the effect
-  pub accepted : anyRow (rowsCall n p c b) ≡ false → call n p c b ≡ effectOf (chosen n) (asked p c b) b
+  pub accepted : anyRow (rowsCall kind n p c b) ≡ false → call kind n p c b ≡ effectOf (chosen n) (asked kind p c b) b
   unfolding call
-  accepted h = accepts _ b _ (none-applies (rowsCall n p c b) h)
+  accepted h = accepts _ b _ (none-applies (rowsCall kind n p c b) h)
 
-  first-real : anyRow (rowsCall n p c b) ≡ true → firstOf (rowsCall n p c b) ≡ 0 → ⊥
-  first-real h = eqb-false _ _ (some-applies (rowsCall n p c b) (nonzero-call n p c b) h)
+  first-real : anyRow (rowsCall kind n p c b) ≡ true → firstOf (rowsCall kind n p c b) ≡ 0 → ⊥
+  first-real h = eqb-false _ _ (some-applies (rowsCall kind n p c b) (nonzero-call kind n p c b) h)
 
   -- some row applies: the first that does, and all four buffers as they were
-  pub refused : anyRow (rowsCall n p c b) ≡ true → call n p c b ≡ outcome (firstOf (rowsCall n p c b)) b
+  pub refused : anyRow (rowsCall kind n p c b) ≡ true → call kind n p c b ≡ outcome (firstOf (rowsCall kind n p c b)) b
   unfolding call
   refused h = refuses _ b _ (first-real h)
 
-  pub refused-first : (before after : List Row) (code : ℕ) → rowsCall n p c b ≡ before ++ (code when true ∷ after) → anyRow before ≡ false → anyRow (rowsCall n p c b) ≡ true → call n p c b ≡ outcome code b
+  pub refused-first : (before after : List Row) (code : ℕ) → rowsCall kind n p c b ≡ before ++ (code when true ∷ after) → anyRow before ≡ false → anyRow (rowsCall kind n p c b) ≡ true → call kind n p c b ≡ outcome code b
   refused-first before after code e h k =
       refused k ∙ ap (λ (a : ℕ). outcome a b) (ap firstOf e ∙ first-applies before after code h)
 
@@ -136,37 +137,37 @@ effect-zero (Call FreeSpace) a b = refl
 effect-zero (Call Terminate) a b = refl
 effect-zero Unknown a b = refl
 
-module _ (n p c : ℕ) (b : Buffers) where
+module _ (kind : Kind) (n p c : ℕ) (b : Buffers) where
   -- the answer is 0/0 exactly where no row applies
-  pub zero-accepted : call n p c b .answer ≡ 0 ∕ 0 → anyRow (rowsCall n p c b) ≡ false
+  pub zero-accepted : call kind n p c b .answer ≡ 0 ∕ 0 → anyRow (rowsCall kind n p c b) ≡ false
   zero-accepted z =
       ⊎-elim
-      (λ (h : anyRow (rowsCall n p c b) ≡ true).
-      absurd (first-real n p c b h (sym (ap (λ (o : Outcome). o .answer) (refused n p c b h)) ∙ z)))
-      (λ (h : anyRow (rowsCall n p c b) ≡ false). h) (either (anyRow (rowsCall n p c b)))
+      (λ (h : anyRow (rowsCall kind n p c b) ≡ true).
+      absurd (first-real kind n p c b h (sym (ap (λ (o : Outcome). o .answer) (refused kind n p c b h)) ∙ z)))
+      (λ (h : anyRow (rowsCall kind n p c b) ≡ false). h) (either (anyRow (rowsCall kind n p c b)))
 
-  pub accepted-zero : anyRow (rowsCall n p c b) ≡ false → call n p c b .answer ≡ 0 ∕ 0
-  accepted-zero h = ap (λ (o : Outcome). o .answer) (accepted n p c b h) ∙ effect-zero (chosen n) (asked p c b) b
+  pub accepted-zero : anyRow (rowsCall kind n p c b) ≡ false → call kind n p c b .answer ≡ 0 ∕ 0
+  accepted-zero h = ap (λ (o : Outcome). o .answer) (accepted kind n p c b h) ∙ effect-zero (chosen n) (asked kind p c b) b
 
   -- the answer is the table's
-  pub answer-is : call n p c b .answer ≡ firstOf (rowsCall n p c b)
+  pub answer-is : call kind n p c b .answer ≡ firstOf (rowsCall kind n p c b)
   answer-is =
       ⊎-elim
-      (λ (h : anyRow (rowsCall n p c b) ≡ true). ap (λ (o : Outcome). o .answer) (refused n p c b h))
-      (λ (h : anyRow (rowsCall n p c b) ≡ false). accepted-zero h ∙ sym (none-applies (rowsCall n p c b) h)) (either (anyRow (rowsCall n p c b)))
+      (λ (h : anyRow (rowsCall kind n p c b) ≡ true). ap (λ (o : Outcome). o .answer) (refused kind n p c b h))
+      (λ (h : anyRow (rowsCall kind n p c b) ≡ false). accepted-zero h ∙ sym (none-applies (rowsCall kind n p c b) h)) (either (anyRow (rowsCall kind n p c b)))
 
   -- the general table first, then the call's own
-  pub call-refused : (firstOf (rowsAll n p c b) ≡ 0 → ⊥) → call n p c b ≡ outcome (firstOf (rowsAll n p c b)) b
+  pub call-refused : (firstOf (rowsAll kind n p c b) ≡ 0 → ⊥) → call kind n p c b ≡ outcome (firstOf (rowsAll kind n p c b)) b
   unfolding call rowsCall
   call-refused h =
-      let e = first-stays (rowsAll n p c b) (rowsOf (chosen n) (asked p c b) b) h in
+      let e = first-stays (rowsAll kind n p c b) (rowsOf (chosen n) (asked kind p c b) b) h in
       refuses _ b _ (λ q. h (sym e ∙ q)) ∙ ap (λ (a : ℕ). outcome a b) e
 
-  pub call-served : firstOf (rowsAll n p c b) ≡ 0 → call n p c b ≡ served (chosen n) p c b
+  pub call-served : firstOf (rowsAll kind n p c b) ≡ 0 → call kind n p c b ≡ served kind (chosen n) p c b
   unfolding call rowsCall served unless
   call-served h =
-      ap (λ (a : ℕ). ends a b (effectOf (chosen n) (asked p c b) b))
-      (first-then (rowsAll n p c b) (rowsOf (chosen n) (asked p c b) b) h (nonzero-all n p c b))
+      ap (λ (a : ℕ). ends a b (effectOf (chosen n) (asked kind p c b) b))
+      (first-then (rowsAll kind n p c b) (rowsOf (chosen n) (asked kind p c b) b) h (nonzero-all kind n p c b))
 
 -- ---- a contract that says `Did` leaves one outcome
 

@@ -1,6 +1,6 @@
 -- "Codes, in the order tested": the general table, and the table of each call. A row applies where its test holds and none
 -- before it does. l is the list, f the caller's file, x what looking it up tells, o the place of the caller's open of it (64:
--- none), e the entry of its extent with the record r (64: missing), s the image. Each table names the buffers that it reads. Assumes nothing.
+-- none), e the entry of its extent with the record r (the number of entries: missing), s the image. Each table names the buffers that it reads. Assumes nothing.
 use Prim.Native.Nat.{ℕ, _+_, _/_}
 use mathlib.Core.Bool.{Bool, not}
 use mathlib.Core.List.{List, [], _∷_, _++_}
@@ -9,12 +9,14 @@ use lib.Dec.{leb, ltb, eqb}
 use Rattle.words.specs.Tests.{_and_, _or_, any, lowest, count}
 use Rattle.words.specs.Bytes.{byte}
 use Rattle.words.specs.Tables.{Row, _∕_, _when_, onlyIf}
+use Rattle.rules.specs.declared.kind.Kind.{Kind}
+use Rattle.rules.specs.Kinds.{entries}
 use Rattle.rules.specs.declared.file.File.{File}
 use Rattle.rules.specs.declared.file.Found.{Found}
 use Rattle.rules.specs.declared.item.Item.{Item}
 use Rattle.rules.specs.declared.list.LockList.{LockList}
 use Rattle.rules.specs.Serves.{Buffers, chosen, isUnknown, processes, fcbSize, dmaSize, listSize}
-use Rattle.rules.specs.Drive.{highest, entries, blocks, extentRecords, recordSize, legalName, entryOf, missing, readOnly, freeEntry, freeBlock, blockIn, blockOf, recordAt, soundImage}
+use Rattle.rules.specs.Drive.{highest, blocks, extentRecords, recordSize, legalName, entryOf, missing, readOnly, freeEntry, freeBlock, blockIn, blockOf, recordAt, soundImage}
 use Rattle.rules.specs.Locks.{itemAt, locked, unlocked, readonly, isOpened, anyOpen, opensFileAt, lockedByOther, held, opensBy, locksBy, freePlace, freePlaces, soundList}
 use Rattle.rules.specs.Asks.{openMode, lastOf}
 
@@ -31,17 +33,17 @@ unfoldable pub badDrive : ℕ → List ℕ → Bool
 badDrive n fcb = ltb 1 (byte fcb 0) and not (eqb n 46) and not (eqb n 143)
 
 -- the rows that look into the buffers
-unfoldable pub rowsInside : ℕ → List ℕ → List ℕ → List ℕ → List Row
-rowsInside n fcb list s =
-    255 ∕ 1 when not (soundImage highest s)
-    ∷ 255 ∕ 12 when not (soundList highest list s)
+unfoldable pub rowsInside : Kind → ℕ → List ℕ → List ℕ → List ℕ → List Row
+rowsInside kind n fcb list s =
+    255 ∕ 1 when not (soundImage kind highest s)
+    ∷ 255 ∕ 12 when not (soundList kind highest list s)
     ∷ 255 ∕ 4 when badDrive n fcb
     ∷ []
 
-unfoldable pub rowsAll : ℕ → ℕ → ℕ → Buffers → List Row
-rowsAll n p c b =
+unfoldable pub rowsAll : Kind → ℕ → ℕ → ℕ → Buffers → List Row
+rowsAll kind n p c b =
     255 ∕ 13 when badNumbers n p c (b .fcb) (b .dma) (b .list)
-    ∷ rowsInside n (b .fcb) (b .list) (b .image)
+    ∷ rowsInside kind n (b .fcb) (b .list) (b .image)
 
 -- ---- 15
 
@@ -61,22 +63,22 @@ rowsNew p l f fcb =
     ∷ []
 
 -- Where the caller has it open in the same mode, that is success: the rows after it are then no more looked at.
-unfoldable pub rows15 : ℕ → LockList → ℕ → File → Found → List ℕ → List Row
-rows15 p l o f x fcb =
+unfoldable pub rows15 : Kind → ℕ → LockList → ℕ → File → Found → List ℕ → List Row
+rows15 kind p l o f x fcb =
     255 ∕ 9 when not (legalName fcb 1)
-    ∷ 255 ∕ 0 when missing x
+    ∷ 255 ∕ 0 when missing kind x
     ∷ 255 ∕ 5 when (isOpened o and not (eqb (itemAt l o .mode) (openMode fcb)))
     ∷ onlyIf (not (isOpened o)) (rowsNew p l f fcb)
 
 -- ---- 22
 
-unfoldable pub rows22 : ℕ → LockList → Found → List ℕ → List ℕ → List Row
-rows22 p l x fcb s =
+unfoldable pub rows22 : Kind → ℕ → LockList → Found → List ℕ → List ℕ → List Row
+rows22 kind p l x fcb s =
     255 ∕ 9 when not (legalName fcb 1)
-    ∷ 255 ∕ 8 when not (missing x)
+    ∷ 255 ∕ 8 when not (missing kind x)
     ∷ 255 ∕ 10 when leb (l .openlimit) (opensBy l p)
     ∷ 255 ∕ 11 when leb (l .capacity) (freePlace l)
-    ∷ 255 ∕ 0 when leb entries (freeEntry s)
+    ∷ 255 ∕ 0 when leb (entries kind) (freeEntry kind s)
     ∷ []
 
 -- ---- 16
@@ -90,10 +92,10 @@ rows16 o = 255 ∕ 6 when not (isOpened o) ∷ []
 unfoldable pub stopsDelete : LockList → File → Bool
 stopsDelete l f = anyOpen l f
 
-unfoldable pub rows19 : LockList → File → Found → List ℕ → List ℕ → List Row
-rows19 l f x fcb s =
+unfoldable pub rows19 : Kind → LockList → File → Found → List ℕ → List ℕ → List Row
+rows19 kind l f x fcb s =
     255 ∕ 9 when not (legalName fcb 1)
-    ∷ 255 ∕ 0 when missing x
+    ∷ 255 ∕ 0 when missing kind x
     ∷ 255 ∕ 5 when stopsDelete l f
     ∷ 255 ∕ 3 when readOnly s (x .entry)
     ∷ []
@@ -105,24 +107,24 @@ unfoldable pub stopsRename : LockList → File → Bool
 stopsRename l f = anyOpen l f
 
 -- y is what looking up the new name tells
-unfoldable pub rows23 : LockList → File → Found → Found → List ℕ → List ℕ → List Row
-rows23 l f x y fcb s =
+unfoldable pub rows23 : Kind → LockList → File → Found → Found → List ℕ → List ℕ → List Row
+rows23 kind l f x y fcb s =
     255 ∕ 9 when (not (legalName fcb 1) or not (legalName fcb 17))
-    ∷ 255 ∕ 0 when missing x
+    ∷ 255 ∕ 0 when missing kind x
     ∷ 255 ∕ 5 when stopsRename l f
     ∷ 255 ∕ 3 when readOnly s (x .entry)
-    ∷ 255 ∕ 8 when not (missing y)
+    ∷ 255 ∕ 8 when not (missing kind y)
     ∷ []
 
 -- ---- 33
 
 -- 4/0 no such extent; 1/0 no block
-unfoldable pub rowsThere : List ℕ → ℕ → ℕ → List Row
-rowsThere s e r = 4 ∕ 0 when leb entries e ∷ 1 ∕ 0 when eqb (blockIn s e r) 0 ∷ []
+unfoldable pub rowsThere : Kind → List ℕ → ℕ → ℕ → List Row
+rowsThere kind s e r = 4 ∕ 0 when leb (entries kind) e ∷ 1 ∕ 0 when eqb (blockIn kind s e r) 0 ∷ []
 
 -- byte 35 above 3: for bytes, that the record number is 262,144 or more
-unfoldable pub rows33 : ℕ → ℕ → ℕ → List ℕ → List Row
-rows33 o e r s = 10 ∕ 0 when not (isOpened o) ∷ 6 ∕ 0 when ltb highest r ∷ rowsThere s e r
+unfoldable pub rows33 : Kind → ℕ → ℕ → ℕ → List ℕ → List Row
+rows33 kind o e r s = 10 ∕ 0 when not (isOpened o) ∷ 6 ∕ 0 when ltb highest r ∷ rowsThere kind s e r
 
 -- ---- 34, 40
 
@@ -136,14 +138,14 @@ rowsMay p l o f e₀ r s =
     ∷ []
 
 -- 5/0 extent missing and no empty entry; 2/0 block missing and none free
-unfoldable pub rowsRoom : List ℕ → ℕ → ℕ → List Row
-rowsRoom s e r =
-    5 ∕ 0 when (leb entries e and leb entries (freeEntry s))
-    ∷ 2 ∕ 0 when (eqb (blockIn s e r) 0 and leb (blocks s) (freeBlock s))
+unfoldable pub rowsRoom : Kind → List ℕ → ℕ → ℕ → List Row
+rowsRoom kind s e r =
+    5 ∕ 0 when (leb (entries kind) e and leb (entries kind) (freeEntry kind s))
+    ∷ 2 ∕ 0 when (eqb (blockIn kind s e r) 0 and leb (blocks kind s) (freeBlock kind s))
     ∷ []
 
-unfoldable pub rows34 : ℕ → LockList → ℕ → File → ℕ → ℕ → ℕ → List ℕ → List Row
-rows34 p l o f e₀ e r s = rowsMay p l o f e₀ r s ++ rowsRoom s e r
+unfoldable pub rows34 : Kind → ℕ → LockList → ℕ → File → ℕ → ℕ → ℕ → List ℕ → List Row
+rows34 kind p l o f e₀ e r s = rowsMay p l o f e₀ r s ++ rowsRoom kind s e r
 
 -- ---- 41
 
@@ -152,11 +154,11 @@ unfoldable pub differs : List ℕ → List ℕ → ℕ → ℕ → Bool
 differs dma s at k = not (eqb (byte dma k) (byte s (at + k)))
 
 -- first 128 DMA bytes differ from the record
-unfoldable pub rowsDiffer : List ℕ → List ℕ → ℕ → ℕ → List Row
-rowsDiffer dma s block r = 7 ∕ 0 when any (differs dma s (recordAt block r)) recordSize ∷ []
+unfoldable pub rowsDiffer : Kind → List ℕ → List ℕ → ℕ → ℕ → List Row
+rowsDiffer kind dma s block r = 7 ∕ 0 when any (differs dma s (recordAt kind block r)) recordSize ∷ []
 
-unfoldable pub rows41 : ℕ → LockList → ℕ → File → ℕ → ℕ → ℕ → List ℕ → List ℕ → List Row
-rows41 p l o f e₀ e r dma s = rowsMay p l o f e₀ r s ++ (rowsThere s e r ++ rowsDiffer dma s (blockIn s e r) r)
+unfoldable pub rows41 : Kind → ℕ → LockList → ℕ → File → ℕ → ℕ → ℕ → List ℕ → List ℕ → List Row
+rows41 kind p l o f e₀ e r dma s = rowsMay p l o f e₀ r s ++ (rowsThere kind s e r ++ rowsDiffer kind dma s (blockIn kind s e r) r)
 
 -- ---- 42, 43
 
@@ -174,18 +176,18 @@ rowsRun l o r n dma more =
     ∷ more)
 
 -- record r + k lacks its extent; .. its extent or block
-unfoldable pub noExtent : List ℕ → File → ℕ → ℕ → Bool
-noExtent s f r k = leb entries (entryOf s f ((r + k) / extentRecords))
+unfoldable pub noExtent : Kind → List ℕ → File → ℕ → ℕ → Bool
+noExtent kind s f r k = leb (entries kind) (entryOf kind s f ((r + k) / extentRecords))
 
-unfoldable pub lacks : List ℕ → File → ℕ → ℕ → Bool
-lacks s f r k = eqb (blockOf s f (r + k)) 0
+unfoldable pub lacks : Kind → List ℕ → File → ℕ → ℕ → Bool
+lacks kind s f r k = eqb (blockOf kind s f (r + k)) 0
 
 -- in rising order the first record lacking its extent (4/0) or block (1/0): how far into the run it is, n where there is none
-unfoldable pub firstLacking : List ℕ → File → ℕ → ℕ → ℕ
-firstLacking s f r n = lowest (lacks s f r) n
+unfoldable pub firstLacking : Kind → List ℕ → File → ℕ → ℕ → ℕ
+firstLacking kind s f r n = lowest (lacks kind s f r) n
 
-unfoldable pub rowsLacking : List ℕ → File → ℕ → ℕ → ℕ → List Row
-rowsLacking s f r n k = 4 ∕ 0 when (ltb k n and noExtent s f r k) ∷ 1 ∕ 0 when ltb k n ∷ []
+unfoldable pub rowsLacking : Kind → List ℕ → File → ℕ → ℕ → ℕ → List Row
+rowsLacking kind s f r n k = 4 ∕ 0 when (ltb k n and noExtent kind s f r k) ∷ 1 ∕ 0 when ltb k n ∷ []
 
 unfoldable pub isOthers : LockList → ℕ → File → ℕ → ℕ → Bool
 isOthers l p f r k = lockedByOther l p f (r + k)
@@ -200,8 +202,8 @@ rowsTake p l f r n =
     ∷ 14 ∕ 0 when ltb (freePlaces l) (count (isNew l p f r) n)
     ∷ []
 
-unfoldable pub rows42 : ℕ → LockList → ℕ → File → ℕ → ℕ → List ℕ → List ℕ → List Row
-rows42 p l o f r n dma s = rowsRun l o r n dma (rowsLacking s f r n (firstLacking s f r n) ++ rowsTake p l f r n)
+unfoldable pub rows42 : Kind → ℕ → LockList → ℕ → File → ℕ → ℕ → List ℕ → List ℕ → List Row
+rows42 kind p l o f r n dma s = rowsRun l o r n dma (rowsLacking kind s f r n (firstLacking kind s f r n) ++ rowsTake p l f r n)
 
 unfoldable pub rows43 : LockList → ℕ → ℕ → ℕ → List ℕ → List Row
 rows43 l o r n dma = rowsRun l o r n dma []

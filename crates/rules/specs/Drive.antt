@@ -6,35 +6,22 @@ use lib.ListN.{length}
 use lib.Dec.{leb, ltb, eqb}
 use Rattle.words.specs.Tests.{_and_, _or_, _if_else_, all, any, lowest, count}
 use Rattle.words.specs.Lists.{tab}
-use Rattle.words.specs.Bytes.{byte, lowFrom}
+use Rattle.words.specs.Bytes.{byte, lowFrom, numberAt}
+use Rattle.rules.specs.declared.kind.Kind.{Kind}
+use Rattle.rules.specs.Kinds.{blockSize, blockRecords, fewest, most, entries, numbers, width}
 use Rattle.rules.specs.declared.answer.ImageAnswer.{ImageAnswer}
 use Rattle.rules.specs.declared.answer.ImageAnswer.the-variants.{Sound, WrongLength, UnsoundDirectory}
 use Rattle.rules.specs.declared.file.File.{File}
 use Rattle.rules.specs.declared.file.Found.{Found}
 
--- ---- Sizes
+-- ---- Sizes that both kinds have (those of each kind: Kinds)
 
 abbrev pub recordSize : ℕ
 recordSize = 128
 
-abbrev pub blockSize : ℕ
-blockSize = 1024
-
--- each eight records of 128 bytes
-abbrev pub blockRecords : ℕ
-blockRecords = 8
-
--- block numbers to an entry
-abbrev pub mapSize : ℕ
-mapSize = 16
-
--- an extent covers records 128·extent to 128·extent + 127, eight to each map byte
+-- an extent covers records 128·extent to 128·extent + 127
 abbrev pub extentRecords : ℕ
 extentRecords = 128
-
--- 64 entries of 32 bytes
-abbrev pub entries : ℕ
-entries = 64
 
 abbrev pub entrySize : ℕ
 entrySize = 32
@@ -43,12 +30,12 @@ entrySize = 32
 abbrev pub highest : ℕ
 highest = 262143
 
--- The image is 1,024·n bytes, n from 3 to 256.
-abbrev pub blocks : List ℕ → ℕ
-blocks s = length s / blockSize
+-- The image is 1,024·n bytes, n from 3 to 256; 2,048·n bytes, n from 257 to 4,096, on a drive of the second kind.
+unfoldable pub blocks : Kind → List ℕ → ℕ
+blocks kind s = length s / blockSize kind
 
-unfoldable pub goodLength : List ℕ → Bool
-goodLength s = eqb (length s % blockSize) 0 and leb 3 (blocks s) and leb (blocks s) 256
+unfoldable pub goodLength : Kind → List ℕ → Bool
+goodLength kind s = eqb (length s % blockSize kind) 0 and leb (fewest kind) (blocks kind s) and leb (blocks kind s) (most kind)
 
 -- ---- Entry
 
@@ -71,13 +58,16 @@ nameAt e = entrySize * e + 1
 abbrev pub extentAt : List ℕ → ℕ → ℕ
 extentAt s e = entryByte s e 12 + 32 * entryByte s e 14
 
--- 16 to 31 block numbers: the number in place k of the entry's map
-abbrev pub mapNumber : List ℕ → ℕ → ℕ → ℕ
-mapNumber s e k = entryByte s e (16 + k)
+-- 16 to 31 block numbers, low byte first: where the number in place k of the entry's map stands, and the number
+abbrev pub mapAt : Kind → ℕ → ℕ → ℕ
+mapAt kind e k = entrySize * e + (16 + width kind * k)
+
+unfoldable pub mapNumber : Kind → List ℕ → ℕ → ℕ → ℕ
+mapNumber kind s e k = numberAt (width kind) s (mapAt kind e k)
 
 -- the place of a record in its extent's map
-abbrev pub mapPlace : ℕ → ℕ
-mapPlace r = r % extentRecords / blockRecords
+unfoldable pub mapPlace : Kind → ℕ → ℕ
+mapPlace kind r = r % extentRecords / blockRecords kind
 
 -- ---- Names and files
 
@@ -118,60 +108,60 @@ isEntry s f x e = not (isEmpty s e) and eqb (userByte s e) (f .user) and eqb (ex
 
 -- ---- Finding
 
--- where an extent of a file stands, 64 where it is missing
-unfoldable pub entryOf : List ℕ → File → ℕ → ℕ
-entryOf s f x = lowest (isEntry s f x) entries
+-- where an extent of a file stands, the number of entries where it is missing
+unfoldable pub entryOf : Kind → List ℕ → File → ℕ → ℕ
+entryOf kind s f x = lowest (isEntry s f x) (entries kind)
 
-unfoldable pub lookUp : List ℕ → File → Found
-lookUp s f = record { entry = entryOf s f 0 }
+unfoldable pub lookUp : Kind → List ℕ → File → Found
+lookUp kind s f = record { entry = entryOf kind s f 0 }
 
 -- no such file
-unfoldable pub missing : Found → Bool
-missing x = leb entries (x .entry)
+unfoldable pub missing : Kind → Found → Bool
+missing kind x = leb (entries kind) (x .entry)
 
 -- The file's attributes are those of extent 0, which stands at entry e; the high bit of byte 9 is read-only.
 unfoldable pub readOnly : List ℕ → ℕ → Bool
 readOnly s e = leb 128 (entryByte s e 9)
 
--- the lowest empty entry, 64 where there is none
-unfoldable pub freeEntry : List ℕ → ℕ
-freeEntry s = lowest (isEmpty s) entries
+-- the lowest empty entry, the number of entries where there is none
+unfoldable pub freeEntry : Kind → List ℕ → ℕ
+freeEntry kind s = lowest (isEmpty s) (entries kind)
 
 -- the block of record r, whose extent is at entry e: 0 meaning none, as where the extent is missing
-unfoldable pub blockIn : List ℕ → ℕ → ℕ → ℕ
-blockIn s e r = 0 if leb entries e else mapNumber s e (mapPlace r)
+unfoldable pub blockIn : Kind → List ℕ → ℕ → ℕ → ℕ
+blockIn kind s e r = 0 if leb (entries kind) e else mapNumber kind s e (mapPlace kind r)
 
-unfoldable pub blockOf : List ℕ → File → ℕ → ℕ
-blockOf s f r = blockIn s (entryOf s f (r / extentRecords)) r
+unfoldable pub blockOf : Kind → List ℕ → File → ℕ → ℕ
+blockOf kind s f r = blockIn kind s (entryOf kind s f (r / extentRecords)) r
 
 -- where a record begins in its block of the image
-abbrev pub recordAt : ℕ → ℕ → ℕ
-recordAt block r = blockSize * block + recordSize * (r % blockRecords)
+unfoldable pub recordAt : Kind → ℕ → ℕ → ℕ
+recordAt kind block r = blockSize kind * block + recordSize * (r % blockRecords kind)
 
 -- ---- Blocks in use and free
 
 -- place k of entry e's map holds number b
-unfoldable pub holds : List ℕ → ℕ → ℕ → ℕ → Bool
-holds s b e k = eqb (mapNumber s e k) b
+unfoldable pub holds : Kind → List ℕ → ℕ → ℕ → ℕ → Bool
+holds kind s b e k = eqb (mapNumber kind s e k) b
 
 -- entry e is in use and names block b
-unfoldable pub names : List ℕ → ℕ → ℕ → Bool
-names s b e = not (isEmpty s e) and any (holds s b e) mapSize
+unfoldable pub names : Kind → List ℕ → ℕ → ℕ → Bool
+names kind s b e = not (isEmpty s e) and any (holds kind s b e) (numbers kind)
 
-unfoldable pub isUsed : List ℕ → ℕ → Bool
-isUsed s b = any (names s b) entries
+unfoldable pub isUsed : Kind → List ℕ → ℕ → Bool
+isUsed kind s b = any (names kind s b) (entries kind)
 
 -- Data blocks are 2 to n−1.
-unfoldable pub isFree : List ℕ → ℕ → Bool
-isFree s b = leb 2 b and not (isUsed s b)
+unfoldable pub isFree : Kind → List ℕ → ℕ → Bool
+isFree kind s b = leb 2 b and not (isUsed kind s b)
 
 -- the lowest free block, n where there is none
-unfoldable pub freeBlock : List ℕ → ℕ
-freeBlock s = lowest (isFree s) (blocks s)
+unfoldable pub freeBlock : Kind → List ℕ → ℕ
+freeBlock kind s = lowest (isFree kind s) (blocks kind s)
 
 -- how many blocks are free
-unfoldable pub freeBlocks : List ℕ → ℕ
-freeBlocks s = count (isFree s) (blocks s)
+unfoldable pub freeBlocks : Kind → List ℕ → ℕ
+freeBlocks kind s = count (isFree kind s) (blocks kind s)
 
 -- ---- Sound image, to a highest record
 
@@ -188,42 +178,42 @@ goodNumbers top s e =
 unfoldable pub goodFields : ℕ → List ℕ → ℕ → Bool
 goodFields top s e = goodUser s e and legalName s (nameAt e) and goodNumbers top s e
 
--- map bytes 0 or 2 to n−1
-unfoldable pub inRange : List ℕ → ℕ → ℕ → Bool
-inRange s e k = eqb (mapNumber s e k) 0 or (leb 2 (mapNumber s e k) and ltb (mapNumber s e k) (blocks s))
+-- block numbers 0 or 2 to n−1
+unfoldable pub inRange : Kind → List ℕ → ℕ → ℕ → Bool
+inRange kind s e k = eqb (mapNumber kind s e k) 0 or (leb 2 (mapNumber kind s e k) and ltb (mapNumber kind s e k) (blocks kind s))
 
 -- number b stands in an entry before e, or in entry e before place k
-unfoldable pub namedBefore : List ℕ → ℕ → ℕ → ℕ → Bool
-namedBefore s b e k = any (names s b) e or any (holds s b e) k
+unfoldable pub namedBefore : Kind → List ℕ → ℕ → ℕ → ℕ → Bool
+namedBefore kind s b e k = any (names kind s b) e or any (holds kind s b e) k
 
 -- no block number other than 0 occurs twice
-unfoldable pub isFirst : List ℕ → ℕ → ℕ → Bool
-isFirst s e k = eqb (mapNumber s e k) 0 or not (namedBefore s (mapNumber s e k) e k)
+unfoldable pub isFirst : Kind → List ℕ → ℕ → ℕ → Bool
+isFirst kind s e k = eqb (mapNumber kind s e k) 0 or not (namedBefore kind s (mapNumber kind s e k) e k)
 
 -- no two used entries have the same file and extent: an entry before e has those of entry e
 unfoldable pub isRepeat : List ℕ → ℕ → Bool
 isRepeat s e = any (isEntry s (fileAt s e) (extentAt s e)) e
 
-unfoldable pub goodEntry : ℕ → List ℕ → ℕ → Bool
-goodEntry top s e =
+unfoldable pub goodEntry : Kind → ℕ → List ℕ → ℕ → Bool
+goodEntry kind top s e =
     isEmpty s e
-    or (goodFields top s e and all (inRange s e) mapSize and all (isFirst s e) mapSize and not (isRepeat s e))
+    or (goodFields top s e and all (inRange kind s e) (numbers kind) and all (isFirst kind s e) (numbers kind) and not (isRepeat s e))
 
 -- each file has an extent 0
-unfoldable pub isBegun : List ℕ → ℕ → Bool
-isBegun s e = isEmpty s e or any (isEntry s (fileAt s e) 0) entries
+unfoldable pub isBegun : Kind → List ℕ → ℕ → Bool
+isBegun kind s e = isEmpty s e or any (isEntry s (fileAt s e) 0) (entries kind)
 
-unfoldable pub soundDirectory : ℕ → List ℕ → Bool
-soundDirectory top s = all (goodEntry top s) entries and all (isBegun s) entries
+unfoldable pub soundDirectory : Kind → ℕ → List ℕ → Bool
+soundDirectory kind top s = all (goodEntry kind top s) (entries kind) and all (isBegun kind s) (entries kind)
 
-unfoldable pub soundImage : ℕ → List ℕ → Bool
-soundImage top s = goodLength s and soundDirectory top s
+unfoldable pub soundImage : Kind → ℕ → List ℕ → Bool
+soundImage kind top s = goodLength kind s and soundDirectory kind top s
 
 -- The image check answers 0 sound, 1 wrong length, 2 unsound directory.
-unfoldable pub imageCheck : ℕ → List ℕ → ImageAnswer
-imageCheck top s =
-    WrongLength if not (goodLength s) else
-    UnsoundDirectory if not (soundDirectory top s) else
+unfoldable pub imageCheck : Kind → ℕ → List ℕ → ImageAnswer
+imageCheck kind top s =
+    WrongLength if not (goodLength kind s) else
+    UnsoundDirectory if not (soundDirectory kind top s) else
     Sound
 
 unfoldable pub imageNumber : ImageAnswer → ℕ

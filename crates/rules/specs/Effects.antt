@@ -8,13 +8,15 @@ use Rattle.words.specs.Tests.{_and_, _if_else_}
 use Rattle.words.specs.Lists.{tab, turns}
 use Rattle.words.specs.Bytes.{byte, byteFrom, part, put, le}
 use Rattle.words.specs.Tables.{_∕_}
+use Rattle.rules.specs.declared.kind.Kind.{Kind}
+use Rattle.rules.specs.Kinds.{entries, blockSize, blockRecords, width}
 use Rattle.rules.specs.declared.file.File.{File}
 use Rattle.rules.specs.declared.file.Found.{Found}
 use Rattle.rules.specs.declared.item.Item.{Item}
 use Rattle.rules.specs.declared.list.LockList.{LockList}
 use Rattle.rules.specs.declared.spot.Spot.{Spot}
 use Rattle.rules.specs.Serves.{Buffers, Outcome, buffers, outcome, withDma, withList, withImage}
-use Rattle.rules.specs.Drive.{entrySize, entries, blockSize, blockRecords, recordSize, extentRecords, mapPlace, nameAt, entryByte, isOf, freeEntry, freeBlock, freeBlocks, blockIn, recordAt}
+use Rattle.rules.specs.Drive.{entrySize, recordSize, extentRecords, mapPlace, nameAt, entryByte, isOf, freeEntry, freeBlock, freeBlocks, blockIn, recordAt, mapAt}
 use Rattle.rules.specs.Locks.{itemAt, withItems, unlocked, emptyPlace, freshOpen, freshLock, isOpened, sameName, held, freePlace, pack}
 use Rattle.rules.specs.Asks.{openMode, makeMode}
 
@@ -64,8 +66,8 @@ unfoldable pub makes : ℕ → LockList → File → ℕ → Buffers → Outcome
 makes p l f e b =
     accept (buffers (fcbOpened (made e f (b .image)) e (makeMode (b .fcb)) (freePlace l) (b .fcb)) (b .dma) (pack (opened p f (makeMode (b .fcb)) l)) (made e f (b .image)))
 
-unfoldable pub does22 : ℕ → LockList → File → Buffers → Outcome
-does22 p l f b = makes p l f (freeEntry (b .image)) b
+unfoldable pub does22 : Kind → ℕ → LockList → File → Buffers → Outcome
+does22 kind p l f b = makes p l f (freeEntry kind (b .image)) b
 
 -- ---- Delete and Rename
 
@@ -73,11 +75,11 @@ does22 p l f b = makes p l f (freeEntry (b .image)) b
 unfoldable pub erasedAt : File → ℕ → List ℕ → List ℕ
 erasedAt f e s = set s (entrySize * e) 0xE5 if isOf s f e else s
 
-unfoldable pub erased : File → List ℕ → List ℕ
-erased f s = turns (erasedAt f) entries s
+unfoldable pub erased : Kind → File → List ℕ → List ℕ
+erased kind f s = turns (erasedAt f) (entries kind) s
 
-unfoldable pub does19 : File → Buffers → Outcome
-does19 f b = accept (withImage b (erased f (b .image)))
+unfoldable pub does19 : Kind → File → Buffers → Outcome
+does19 kind f b = accept (withImage b (erased kind f (b .image)))
 
 -- Rename changes the low seven bits of the eleven bytes in each.
 unfoldable pub lowChanged : List ℕ → ℕ → List ℕ → ℕ → ℕ
@@ -86,23 +88,23 @@ lowChanged s at name k = byte s (at + k) / 128 * 128 + byte name k
 unfoldable pub renamedAt : File → List ℕ → ℕ → List ℕ → List ℕ
 renamedAt f name e s = put (nameAt e) (tab (lowChanged s (nameAt e) name) 11) s if isOf s f e else s
 
-unfoldable pub renamed : File → List ℕ → List ℕ → List ℕ
-renamed f name s = turns (renamedAt f name) entries s
+unfoldable pub renamed : Kind → File → List ℕ → List ℕ → List ℕ
+renamed kind f name s = turns (renamedAt f name) (entries kind) s
 
-unfoldable pub does23 : File → File → Buffers → Outcome
-does23 f new b = accept (withImage b (renamed f (new .name) (b .image)))
+unfoldable pub does23 : Kind → File → File → Buffers → Outcome
+does23 kind f new b = accept (withImage b (renamed kind f (new .name) (b .image)))
 
 -- ---- Reading and writing records
 
 abbrev pub spot : ℕ → Bool → ℕ → Bool → Spot
 spot e fresh block taken = record { entry = e; fresh = fresh; block = block; taken = taken }
 
--- A missing extent takes the lowest empty entry; a missing block is the lowest free one. e is the extent's entry (64: missing).
-unfoldable pub spotAt : List ℕ → ℕ → ℕ → Spot
-spotAt s e r =
-    spot (freeEntry s) true (freeBlock s) true if leb entries e else
-    spot e false (freeBlock s) true if eqb (blockIn s e r) 0 else
-    spot e false (blockIn s e r) false
+-- A missing extent takes the lowest empty entry; a missing block is the lowest free one. e is the extent's entry (the number of entries: missing).
+unfoldable pub spotAt : Kind → List ℕ → ℕ → ℕ → Spot
+spotAt kind s e r =
+    spot (freeEntry kind s) true (freeBlock kind s) true if leb (entries kind) e else
+    spot e false (freeBlock kind s) true if eqb (blockIn kind s e r) 0 else
+    spot e false (blockIn kind s e r) false
 
 -- with the caller's user, the eleven bytes of extent 0, the ex and module of the extent and the rest zeros
 unfoldable pub newEntry : List ℕ → ℕ → File → ℕ → List ℕ
@@ -113,8 +115,8 @@ unfoldable pub entered : Spot → ℕ → File → ℕ → List ℕ → List ℕ
 entered w e₀ f r s = put (entrySize * w .entry) (newEntry s e₀ f (r / extentRecords)) s if w .fresh else s
 
 -- .. with a block that was taken in the extent's map
-unfoldable pub mapped : Spot → ℕ → List ℕ → List ℕ
-mapped w r s = set s (entrySize * w .entry + (16 + mapPlace r)) (w .block) if w .taken else s
+unfoldable pub mapped : Kind → Spot → ℕ → List ℕ → List ℕ
+mapped kind w r s = put (mapAt kind (w .entry) (mapPlace kind r)) (le (width kind) (w .block)) s if w .taken else s
 
 -- the record's place in its extent plus one
 abbrev pub countTo : ℕ → ℕ
@@ -124,34 +126,34 @@ countTo r = r % extentRecords + 1
 unfoldable pub counted : Spot → ℕ → List ℕ → List ℕ
 counted w r s = set s (entrySize * w .entry + 15) (countTo r) if ltb (entryByte s (w .entry) 15) (countTo r) else s
 
--- Function 40 clears the other seven records of a block it has just taken (the written one is stored after that).
-unfoldable pub cleared : Bool → Spot → List ℕ → List ℕ
-cleared zeros w s = put (blockSize * w .block) (replicate blockSize 0) s if zeros and w .taken else s
+-- Function 40 clears the other seven records, or fifteen, of a block it has just taken (the written one is stored after that).
+unfoldable pub cleared : Kind → Bool → Spot → List ℕ → List ℕ
+cleared kind zeros w s = put (blockSize kind * w .block) (replicate (blockSize kind) 0) s if zeros and w .taken else s
 
 -- .. with the record's 128 bytes
-unfoldable pub stored : Spot → ℕ → List ℕ → List ℕ → List ℕ
-stored w r v s = put (recordAt (w .block) r) (take recordSize v) s
+unfoldable pub stored : Kind → Spot → ℕ → List ℕ → List ℕ → List ℕ
+stored kind w r v s = put (recordAt kind (w .block) r) (take recordSize v) s
 
-unfoldable pub written : Bool → Spot → ℕ → File → ℕ → List ℕ → List ℕ → List ℕ
-written zeros w e₀ f r v s = stored w r v (cleared zeros w (counted w r (mapped w r (entered w e₀ f r s))))
+unfoldable pub written : Kind → Bool → Spot → ℕ → File → ℕ → List ℕ → List ℕ → List ℕ
+written kind zeros w e₀ f r v s = stored kind w r v (cleared kind zeros w (counted w r (mapped kind w r (entered w e₀ f r s))))
 
 -- the record in a block of the image
-unfoldable pub contents : List ℕ → ℕ → ℕ → List ℕ
-contents s block r = part (recordAt block r) recordSize s
+unfoldable pub contents : Kind → List ℕ → ℕ → ℕ → List ℕ
+contents kind s block r = part (recordAt kind block r) recordSize s
 
 -- 33 copies the record to DMA bytes 0 to 127.
-unfoldable pub does33 : ℕ → ℕ → Buffers → Outcome
-does33 e r b = accept (withDma b (put 0 (contents (b .image) (blockIn (b .image) e r) r) (b .dma)))
+unfoldable pub does33 : Kind → ℕ → ℕ → Buffers → Outcome
+does33 kind e r b = accept (withDma b (put 0 (contents kind (b .image) (blockIn kind (b .image) e r) r) (b .dma)))
 
 -- 34 and 40 take it from there; ..
-unfoldable pub does34 : Bool → File → ℕ → ℕ → ℕ → Buffers → Outcome
-does34 zeros f e₀ e r b =
-    accept (withImage b (written zeros (spotAt (b .image) e r) e₀ f r (b .dma) (b .image)))
+unfoldable pub does34 : Kind → Bool → File → ℕ → ℕ → ℕ → Buffers → Outcome
+does34 kind zeros f e₀ e r b =
+    accept (withImage b (written kind zeros (spotAt kind (b .image) e r) e₀ f r (b .dma) (b .image)))
 
 -- .. 41 from bytes 128 to 255.
-unfoldable pub does41 : File → ℕ → ℕ → ℕ → Buffers → Outcome
-does41 f e₀ e r b =
-    accept (withImage b (written false (spotAt (b .image) e r) e₀ f r (part recordSize recordSize (b .dma)) (b .image)))
+unfoldable pub does41 : Kind → File → ℕ → ℕ → ℕ → Buffers → Outcome
+does41 kind f e₀ e r b =
+    accept (withImage b (written kind false (spotAt kind (b .image) e r) e₀ f r (part recordSize recordSize (b .dma)) (b .image)))
 
 -- ---- Items gone: Close, 43, 143
 
@@ -207,6 +209,6 @@ does43 p l o f r n b = accept (withList b (pack (unlockedRun p f r n l))) if eqb
 
 -- ---- 46
 
--- 46 puts eight times the number of free blocks in DMA bytes 0 to 2, low byte first.
-unfoldable pub does46 : Buffers → Outcome
-does46 b = accept (withDma b (put 0 (le 3 (blockRecords * freeBlocks (b .image))) (b .dma)))
+-- 46 puts eight times, or sixteen times, the number of free blocks in DMA bytes 0 to 2, low byte first.
+unfoldable pub does46 : Kind → Buffers → Outcome
+does46 kind b = accept (withDma b (put 0 (le 3 (blockRecords kind * freeBlocks kind (b .image))) (b .dma)))

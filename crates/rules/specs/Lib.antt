@@ -1,3 +1,4 @@
+pub mod Kinds
 pub mod Serves
 pub mod Drive
 pub mod Locks
@@ -7,3 +8,4 @@ pub mod Effects
 pub mod Look
 pub mod Call
 pub mod Several
+pub mod Told

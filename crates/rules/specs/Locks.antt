@@ -8,6 +8,7 @@ use Rattle.words.specs.Tests.{_and_, _or_, _if_else_, all, any, lowest, count}
 use Rattle.words.specs.Lists.{tab, flat}
 use Rattle.words.specs.Bytes.{byte, byteFrom, part, le, word}
 use Rattle.words.specs.Tables.{Row, _∕_, _when_, firstOf}
+use Rattle.rules.specs.declared.kind.Kind.{Kind}
 use Rattle.rules.specs.declared.file.File.{File}
 use Rattle.rules.specs.declared.item.Item.{Item}
 use Rattle.rules.specs.declared.list.LockList.{LockList}
@@ -218,30 +219,30 @@ unfoldable pub goodEmpty : Item → Bool
 goodEmpty it = eqb (it .process) 0 and all (isZero (it .name)) 11 and eqb (it .mode) 0 and eqb (it .number) 0
 
 -- Modes 0 to 2; an open has record 0; each open's file is on the image.
-unfoldable pub goodOpen : List ℕ → LockList → Item → Bool
-goodOpen s l it = leb (it .mode) 2 and eqb (it .number) 0 and not (missing (lookUp s (fileOf l it)))
+unfoldable pub goodOpen : Kind → List ℕ → LockList → Item → Bool
+goodOpen kind s l it = leb (it .mode) 2 and eqb (it .number) 0 and not (missing kind (lookUp kind s (fileOf l it)))
 
 -- the open at place o is unlocked
 unfoldable pub opensUnlocked : LockList → ℕ → Bool
 opensUnlocked l o = isOpened o and eqb (itemAt l o .mode) unlocked
 
 -- A lock has mode 1; each lock's process has that file open unlocked, its record has a block.
-unfoldable pub goodLock : List ℕ → LockList → Item → Bool
-goodLock s l it =
+unfoldable pub goodLock : Kind → List ℕ → LockList → Item → Bool
+goodLock kind s l it =
     eqb (it .mode) unlocked and opensUnlocked l (openOf l (it .process) (fileOf l it))
-    and not (eqb (blockOf s (fileOf l it) (it .number)) 0)
+    and not (eqb (blockOf kind s (fileOf l it) (it .number)) 0)
 
 -- Processes to 15; names legal; records below 262,144.
-unfoldable pub goodItem : ℕ → List ℕ → LockList → Item → Bool
-goodItem top s l it =
+unfoldable pub goodItem : Kind → ℕ → List ℕ → LockList → Item → Bool
+goodItem kind top s l it =
     leb (it .process) 15 and legalName (it .name) 0 and all (isLow (it .name)) 11 and leb (it .number) top
-    and (goodOpen s l it if eqb (it .kind) 1 else goodLock s l it)
+    and (goodOpen kind s l it if eqb (it .kind) 1 else goodLock kind s l it)
 
 -- Places from the capacity on empty.
-unfoldable pub goodPlace : ℕ → List ℕ → LockList → ℕ → Bool
-goodPlace top s l i =
+unfoldable pub goodPlace : Kind → ℕ → List ℕ → LockList → ℕ → Bool
+goodPlace kind top s l i =
     goodEmpty (itemAt l i) if eqb (itemAt l i .kind) 0 else
-    (ltb i (l .capacity) and leb (itemAt l i .kind) 2 and goodItem top s l (itemAt l i))
+    (ltb i (l .capacity) and leb (itemAt l i .kind) 2 and goodItem kind top s l (itemAt l i))
 
 -- A process has at most one open per file; opens of one file by different processes are all unlocked or all read-only.
 unfoldable pub standBeside : Item → Item → Bool
@@ -264,17 +265,17 @@ isApart l i = not (any (clashAt l i) i)
 unfoldable pub keepsLimits : LockList → ℕ → Bool
 keepsLimits l p = leb (opensBy l p) (l .openlimit) and leb (locksBy l p) (l .locklimit)
 
-unfoldable pub soundLocks : ℕ → LockList → List ℕ → Bool
-soundLocks top l s =
+unfoldable pub soundLocks : Kind → ℕ → LockList → List ℕ → Bool
+soundLocks kind top l s =
     isLimit (l .capacity) and isLimit (l .openlimit) and isLimit (l .locklimit) and all (isUser (l .users)) processes
-    and all (goodPlace top s l) places and all (isApart l) places and all (keepsLimits l) processes
+    and all (goodPlace kind top s l) places and all (isApart l) places and all (keepsLimits l) processes
 
 -- the zero in each place
 unfoldable pub zeroAt : List ℕ → ℕ → Bool
 zeroAt list i = eqb (byte (part (placeAt i) placeSize list) 15) 0
 
-unfoldable pub soundList : ℕ → List ℕ → List ℕ → Bool
-soundList top list s = all (zeroAt list) places and soundLocks top (unpack list) s
+unfoldable pub soundList : Kind → ℕ → List ℕ → List ℕ → Bool
+soundList kind top list s = all (zeroAt list) places and soundLocks kind top (unpack list) s
 
 -- ---- Start
 

@@ -13,6 +13,7 @@ use Rattle.rules.specs.Drive.{recordSize}
 use Rattle.rules.specs.Asks.{recordOf}
 use Rattle.rules.specs.Codes.{rowsAll}
 use Rattle.rules.specs.Call.{unless, rowsCall, call}
+use Rattle.rules.specs.declared.kind.Kind.{Kind}
 
 -- Count now serves 33, 34 and 40 also.
 unfoldable pub servesRun : ℕ → Bool
@@ -56,14 +57,14 @@ unfoldable pub goesOn : ℕ → Buffers → ℕ → Buffers → Run
 goesOn i b code left = run 0 (suc i) (backAt i b left) if eqb code 0 else run code i b
 
 -- The first refusal stops the call, what was done stays done.
-unfoldable pub turnAt : ℕ → ℕ → ℕ → Run → Run
-turnAt n p i g =
-    goesOn i (g .left) (firstOf (rowsCall n p 1 (single i (g .left)))) (call n p 1 (single i (g .left)) .left)
+unfoldable pub turnAt : Kind → ℕ → ℕ → ℕ → Run → Run
+turnAt kind n p i g =
+    goesOn i (g .left) (firstOf (rowsCall kind n p 1 (single i (g .left)))) (call kind n p 1 (single i (g .left)) .left)
     if eqb (g .code) 0 else g
 
 -- Records go in rising order.
-unfoldable pub several : ℕ → ℕ → ℕ → Buffers → Run
-several n p c b = turns (turnAt n p) c (run 0 0 b)
+unfoldable pub several : Kind → ℕ → ℕ → ℕ → Buffers → Run
+several kind n p c b = turns (turnAt kind n p) c (run 0 0 b)
 
 -- ---- The call
 
@@ -76,9 +77,9 @@ unfoldable pub told : Run → Outcome
 told g = outcome (0 ∕ 0) (g .left) if eqb (g .code) 0 else outcome (g .code + 0 ∕ (16 * g .done)) (g .left)
 
 -- Refusals: those of 01, per record; general ones before any record.
-unfoldable pub callRun : ℕ → ℕ → ℕ → Buffers → Outcome
-callRun n p c b = unless (rowsAll n p c b) b (told (several n p c b)) if servesRun n else call n p c b
+unfoldable pub callRun : Kind → ℕ → ℕ → ℕ → Buffers → Outcome
+callRun kind n p c b = unless (rowsAll kind n p c b) b (told (several kind n p c b)) if servesRun n else call kind n p c b
 
 -- the same made by the plain engine, without those four bits
-unfoldable pub callSingly : ℕ → ℕ → ℕ → Buffers → Outcome
-callSingly n p c b = unless (rowsAll n p c b) b (singly (several n p c b)) if servesRun n else call n p c b
+unfoldable pub callSingly : Kind → ℕ → ℕ → ℕ → Buffers → Outcome
+callSingly kind n p c b = unless (rowsAll kind n p c b) b (singly (several kind n p c b)) if servesRun n else call kind n p c b

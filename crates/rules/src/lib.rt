@@ -3,6 +3,7 @@ pub mod answer;
 pub mod bytes;
 pub mod file;
 pub mod item;
+pub mod kind;
 pub mod list;
 pub mod routine;
 pub mod spot;

@@ -3,7 +3,7 @@ use rules::bytes::put_bytes;
 ghost use mathlib.Core.Path.{_≡_};
 ghost use Prim.Native.Nat.{_+_, _≤_};
 ghost use lib.ListN.{length};
-ghost use Rattle.script.specs.Lines.{Holds, Added, field, headerLine, callLine, endLine, badLine, badStartLine, badCallLine, longImageLine};
+ghost use Rattle.script.specs.Lines.{Holds, Added, field, headerLine, callLine, endLine, badStartLine, badCallLine, longImageLine};
 
 // Adds bytes to a line of n bytes, and answers how many it has then.
 fn add(line: &mut [u8; 128], n: usize, v: &[u8]) -> usize

@@ -4,6 +4,7 @@ use mathlib.Core.Path.{_≡_}
 use mathlib.Core.List.{List, [], _∷_, _++_}
 use lib.ListN.{replicate}
 use Rattle.words.specs.Tables.{_∕_}
+use Rattle.rules.specs.declared.kind.Kind.the-variants.{Small}
 use Rattle.rules.specs.Serves.{Outcome, buffers, outcome}
 use Rattle.rules.specs.Several.{callRun}
 
@@ -142,5 +143,5 @@ session =
 unfoldable pub AsListed : List ℕ → List ℕ → List Line → Type 0
 AsListed l i [] = Unit {0}
 AsListed l i (x ∷ xs) =
-    (callRun (x .asks .function) (x .asks .process) (x .asks .count) (buffers (fcbWith (x .asks .number)) (dmaWith (x .asks .id)) l i) ≡ x .gives)
+    (callRun Small (x .asks .function) (x .asks .process) (x .asks .count) (buffers (fcbWith (x .asks .number)) (dmaWith (x .asks .id)) l i) ≡ x .gives)
     × AsListed (x .gives .left .list) (x .gives .left .image) xs

@@ -16,6 +16,7 @@ use Rattle.words.specs.Tables.{Row, firstOf, anyRow, noneZero}
 use Rattle.words.proofs.Tests.{either, equal?, or-fst, or-snd, lowest-holds, lowest-least}
 use Rattle.words.proofs.Tables.{nonzeros, zero-none, first-below, belows}
 use Rattle.words.proofs.Bytes.{part-long}
+use Rattle.rules.specs.Kinds.{most, entries}
 use Rattle.rules.specs.declared.file.File.{File}
 use Rattle.rules.specs.declared.list.LockList.{LockList}
 use Rattle.rules.specs.declared.spot.Spot.{Spot}
@@ -24,14 +25,14 @@ use Rattle.rules.specs.declared.routine.Chosen.the-variants.{Call}
 use Rattle.rules.specs.declared.routine.Routine.{Routine}
 use Rattle.rules.specs.declared.routine.Routine.the-variants.{Write, WriteZeros}
 use Rattle.rules.specs.Serves.{Buffers, Outcome, Did, buffers, outcome, chosen, isUnknown, withImage}
-use Rattle.rules.specs.Drive.{highest, blocks, goodLength, entryOf, lookUp, readOnly, blockIn, freeEntry, freeBlock}
+use Rattle.rules.specs.Drive.{highest, blocks, goodLength, entryOf, lookUp, readOnly, blockIn, freeEntry, freeBlock, soundImage}
 use Rattle.rules.specs.Locks.{itemAt, unpack, openOf, lockedByOther}
 use Rattle.rules.specs.Asks.{callerFile, recordOf}
 use Rattle.rules.specs.Codes.{rowsMay, rowsRoom, rows34, isOthers}
 use Rattle.rules.specs.Effects.{spotAt, stored, written, does34}
 use Rattle.rules.specs.Call.{Ready, askedBy, rowsOf, effectOf, call}
 use Rattle.rules.specs.Several.{dmaAt, single, backAt, run, several, told}
-use Rattle.rules.proofs.Sound.{SoundImage, sound-of, sound-length, length-long, length-few, length-whole, found-is}
+use Rattle.rules.proofs.Sound.{SoundImage, sound-of, sound-length, length-long, length-few, found-is}
 use Rattle.rules.proofs.SoundList.{unpack-shape, list-sound-of}
 use Rattle.rules.proofs.Passed.{Passed}
 use Rattle.rules.proofs.Ends.{did-as, did-none}
@@ -46,17 +47,18 @@ use Rattle.records.specs.By.{rowsMayBy, OneDid}
 use Rattle.records.proofs.Writing.{may-by}
 use Rattle.several.specs.So.{Asks, writeNumber, StopsAt, Writing}
 use Rattle.several.proofs.Extents.{known-none, known-more}
+use Rattle.rules.specs.declared.kind.Kind.{Kind}
 
 -- ---- the record's bytes of the DMA
 
-module _ (i : ℕ) (dma : List ℕ) (h : 128 * i + 128 ≤ length dma) where
+module _ (kind : Kind) (i : ℕ) (dma : List ℕ) (h : 128 * i + 128 ≤ length dma) where
   front-again : take 128 (part (128 * i) 128 dma) ≡ part (128 * i) 128 dma
   front-again =
       let n : length (part (128 * i) 128 dma) ≡ 128 = part-long dma (128 * i) 128 h in
       ap (λ (m : ℕ). take m (part (128 * i) 128 dma)) (sym n) ∙ take-length (part (128 * i) 128 dma)
 
   -- a record is written from the first 128 bytes alone
-  written-front : (zeros : Bool) (w : Spot) (e₀ : ℕ) (f : File) (r : ℕ) (s : List ℕ) → written zeros w e₀ f r (dmaAt i dma) s ≡ written zeros w e₀ f r (part (128 * i) 128 dma) s
+  written-front : (zeros : Bool) (w : Spot) (e₀ : ℕ) (f : File) (r : ℕ) (s : List ℕ) → written kind zeros w e₀ f r (dmaAt i dma) s ≡ written kind zeros w e₀ f r (part (128 * i) 128 dma) s
   unfolding written stored
   written-front zeros w e₀ f r s = rw (dma-front i dma h, front-again) refl
 
@@ -66,6 +68,10 @@ lent-long dma i c h g n₀ =
     let k : 128 * i + 128 - 128 * i ≡ 128 = omega arith in
     let n : length (part (128 * i) 128 dma) ≡ 128 = part-long dma (128 * i) 128 (omega arith) in
     rw k (omega arith)
+
+-- a sound image has no more blocks than its kind of drive
+pub few-of : (kind : Kind) (s : List ℕ) → soundImage kind highest s ≡ true → blocks kind s ≤ most kind
+few-of kind s h = length-few kind s (sound-length kind highest s h)
 
 -- ---- another's lock
 
@@ -83,23 +89,23 @@ module _ (l : LockList) (p : ℕ) (f : File) (r c i locked : ℕ) (is : locked �
 
 -- ---- no row of the table applies
 
-record Passes (p : ℕ) (l : LockList) (o : ℕ) (f : File) (e r : ℕ) (s : List ℕ) : Type 0 where
+record Passes (kind : Kind) (p : ℕ) (l : LockList) (o : ℕ) (f : File) (e r : ℕ) (s : List ℕ) : Type 0 where
   is-open : o < 64
   far : r < 262144
   free : lockedByOther l p f r ≡ false
-  entry-room : (leb 64 e and leb 64 (freeEntry s)) ≡ false
-  block-room : (eqb (blockIn s e r) 0 and leb (blocks s) (freeBlock s)) ≡ false
+  entry-room : (leb (entries kind) e and leb (entries kind) (freeEntry kind s)) ≡ false
+  block-room : (eqb (blockIn kind s e r) 0 and leb (blocks kind s) (freeBlock kind s)) ≡ false
 
-module _ (p : ℕ) (l : LockList) (o : ℕ) (f : File) (e₀ e r : ℕ) (s : List ℕ) where
-  real-34 : noneZero (rows34 p l o f e₀ e r s) ≡ true
+module _ (kind : Kind) (p : ℕ) (l : LockList) (o : ℕ) (f : File) (e₀ e r : ℕ) (s : List ℕ) where
+  real-34 : noneZero (rows34 kind p l o f e₀ e r s) ≡ true
   unfolding rows34 rowsMay rowsRoom
   real-34 = search nonzeros depth 20 fits 20000
 
-  passes-34 : firstOf (rows34 p l o f e₀ e r s) ≡ 0 → Passes p l o f e r s
+  passes-34 : firstOf (rows34 kind p l o f e₀ e r s) ≡ 0 → Passes kind p l o f e r s
   unfolding rows34 rowsMay rowsRoom anyRow
   passes-34 z =
-      let h = zero-none (rows34 p l o f e₀ e r s) real-34 z in
-      let g = any-append (rowsMay p l o f e₀ r s) (rowsRoom s e r) h in
+      let h = zero-none (rows34 kind p l o f e₀ e r s) real-34 z in
+      let g = any-append (rowsMay p l o f e₀ r s) (rowsRoom kind s e r) h in
       let a = or-snd _ _ (or-snd _ _ (g .0)) in
       let b : r ≤ 262143 = ltb-false highest r (or-fst _ _ a) in
       record {
@@ -111,9 +117,9 @@ module _ (p : ℕ) (l : LockList) (o : ℕ) (f : File) (e₀ e r : ℕ) (s : Lis
       }
 
 -- the code of one record's write leaves the high four bits of H free
-pub below-34 : (zeros : Bool) (o : ℕ) (stopped locked : Bool) (f : File) (e₀ e r : ℕ) (v s : List ℕ) (code entry : ℕ) (t : List ℕ) → OneDid zeros o stopped locked f e₀ e r v s code entry t → code < 4096
+pub below-34 : (kind : Kind) (zeros : Bool) (o : ℕ) (stopped locked : Bool) (f : File) (e₀ e r : ℕ) (v s : List ℕ) (code entry : ℕ) (t : List ℕ) → OneDid kind zeros o stopped locked f e₀ e r v s code entry t → code < 4096
 unfolding rowsMayBy rowsRoom
-below-34 zeros o stopped locked f e₀ e r v s code entry t d =
+below-34 kind zeros o stopped locked f e₀ e r v s code entry t d =
     rw (d .gives) (first-below 4096 _ (omega arith) (search belows depth 20 fits 20000))
 
 -- ---- a turn
@@ -132,7 +138,7 @@ unfolding routineOf
 write-runs false = isWrite
 write-runs true = isZeros
 
-module _ (zeros : Bool) (p c : ℕ) (f : File) (e₀ o r locked : ℕ) (b : Buffers) (a : Asks (writeNumber zeros) p c f o r b) (i e₁ : ℕ) (s : List ℕ) (w : Writing zeros p f e₀ r locked b i e₁ s) (below : i < c) where
+module _ (kind : Kind) (zeros : Bool) (p c : ℕ) (f : File) (e₀ o r locked : ℕ) (b : Buffers) (a : Asks kind (writeNumber zeros) p c f o r b) (i e₁ : ℕ) (s : List ℕ) (w : Writing kind zeros p f e₀ r locked b i e₁ s) (below : i < c) where
   abbrev n : ℕ
   n = writeNumber zeros
 
@@ -142,7 +148,7 @@ module _ (zeros : Bool) (p c : ℕ) (f : File) (e₀ o r locked : ℕ) (b : Buff
   abbrev b′ : Buffers
   b′ = withImage b s
 
-  abbrev ok : Ready b
+  abbrev ok : Ready kind b
   ok = a .ready
 
   abbrev q : ℕ
@@ -154,16 +160,16 @@ module _ (zeros : Bool) (p c : ℕ) (f : File) (e₀ o r locked : ℕ) (b : Buff
   room : 128 * i + 128 ≤ length (b .dma)
   room = let k = a .run-fits in let m = ok .dma-long in omega arith
 
-  long : goodLength s ≡ true
-  long = sound-length highest s (w .image-sound)
+  long : goodLength kind s ≡ true
+  long = sound-length kind highest s (w .image-sound)
 
-  again : Ready b′
+  again : Ready kind b′
   again = record {
     fcb-long = ok .fcb-long;
     dma-long = ok .dma-long;
     list-long = ok .list-long;
-    image-long = length-long s long;
-    image-short = let k = length-whole s long in let m = length-few s long in omega arith;
+    image-long = length-long kind s long;
+    blocks-few = length-few kind s long;
     image-sound = w .image-sound;
     list-sound = w .list-sound;
   }
@@ -176,180 +182,180 @@ module _ (zeros : Bool) (p c : ℕ) (f : File) (e₀ o r locked : ℕ) (b : Buff
   known = ap isUnknown (write-chosen zeros)
 
   -- the single call of this record is 34's table and effect on what was found
-  module _ (e : ℕ) (he : e ≡ entryOf s f (q / 128)) where
-    table : (z : Bool) → firstOf (rowsOf (Call (routineOf z)) (askedAt p i b′) b′) ≡ firstOf (rows34 p l (openOf l p (callerFile p l (b .fcb))) (callerFile p l (b .fcb)) (entryOf s (callerFile p l (b .fcb)) 0) (entryOf s (callerFile p l (b .fcb)) ((recordOf (b .fcb) + i) / 128)) (recordOf (b .fcb) + i) s)
+  module _ (e : ℕ) (he : e ≡ entryOf kind s f (q / 128)) where
+    table : (z : Bool) → firstOf (rowsOf (Call (routineOf z)) (askedAt kind p i b′) b′) ≡ firstOf (rows34 kind p l (openOf l p (callerFile p l (b .fcb))) (callerFile p l (b .fcb)) (entryOf kind s (callerFile p l (b .fcb)) 0) (entryOf kind s (callerFile p l (b .fcb)) ((recordOf (b .fcb) + i) / 128)) (recordOf (b .fcb) + i) s)
     unfolding rowsOf askedBy lookUp routineOf
     table false = refl
     table true = refl
 
-    rows-found : firstOf (rowsOf (chosen n) (askedAt p i b′) b′) ≡ firstOf (rows34 p l o f e₀ e q s)
+    rows-found : firstOf (rowsOf (chosen n) (askedAt kind p i b′) b′) ≡ firstOf (rows34 kind p l o f e₀ e q s)
     rows-found =
-        ap (λ (k : Chosen). firstOf (rowsOf k (askedAt p i b′) b′)) (write-chosen zeros)
+        ap (λ (k : Chosen). firstOf (rowsOf k (askedAt kind p i b′) b′)) (write-chosen zeros)
         ∙ table zeros
-        ∙ ap (λ (g : File). firstOf (rows34 p l (openOf l p g) g (entryOf s g 0) (entryOf s g ((recordOf (b .fcb) + i) / 128)) (recordOf (b .fcb) + i) s)) (sym (a .file))
-        ∙ ap (λ (m : ℕ). firstOf (rows34 p l (openOf l p f) f (entryOf s f 0) (entryOf s f ((m + i) / 128)) (m + i) s)) (sym (a .number))
-        ∙ ap (λ (m : ℕ). firstOf (rows34 p l m f (entryOf s f 0) (entryOf s f (q / 128)) q s)) (sym (a .place))
-        ∙ ap (λ (m : ℕ). firstOf (rows34 p l o f m (entryOf s f (q / 128)) q s)) (sym (w .first))
-        ∙ ap (λ (m : ℕ). firstOf (rows34 p l o f e₀ m q s)) (sym he)
+        ∙ ap (λ (g : File). firstOf (rows34 kind p l (openOf l p g) g (entryOf kind s g 0) (entryOf kind s g ((recordOf (b .fcb) + i) / 128)) (recordOf (b .fcb) + i) s)) (sym (a .file))
+        ∙ ap (λ (m : ℕ). firstOf (rows34 kind p l (openOf l p f) f (entryOf kind s f 0) (entryOf kind s f ((m + i) / 128)) (m + i) s)) (sym (a .number))
+        ∙ ap (λ (m : ℕ). firstOf (rows34 kind p l m f (entryOf kind s f 0) (entryOf kind s f (q / 128)) q s)) (sym (a .place))
+        ∙ ap (λ (m : ℕ). firstOf (rows34 kind p l o f m (entryOf kind s f (q / 128)) q s)) (sym (w .first))
+        ∙ ap (λ (m : ℕ). firstOf (rows34 kind p l o f e₀ m q s)) (sym he)
 
-    effects : (z : Bool) → effectOf (Call (routineOf z)) (askedAt p i b′) (single i b′) ≡ does34 z (callerFile p l (b .fcb)) (entryOf s (callerFile p l (b .fcb)) 0) (entryOf s (callerFile p l (b .fcb)) ((recordOf (b .fcb) + i) / 128)) (recordOf (b .fcb) + i) (single i b′)
+    effects : (z : Bool) → effectOf (Call (routineOf z)) (askedAt kind p i b′) (single i b′) ≡ does34 kind z (callerFile p l (b .fcb)) (entryOf kind s (callerFile p l (b .fcb)) 0) (entryOf kind s (callerFile p l (b .fcb)) ((recordOf (b .fcb) + i) / 128)) (recordOf (b .fcb) + i) (single i b′)
     unfolding effectOf askedBy lookUp routineOf
     effects false = refl
     effects true = refl
 
-    effect-found : effectOf (chosen n) (askedAt p i b′) (single i b′) ≡ does34 zeros f e₀ e q (single i b′)
+    effect-found : effectOf (chosen n) (askedAt kind p i b′) (single i b′) ≡ does34 kind zeros f e₀ e q (single i b′)
     effect-found =
-        ap (λ (k : Chosen). effectOf k (askedAt p i b′) (single i b′)) (write-chosen zeros)
+        ap (λ (k : Chosen). effectOf k (askedAt kind p i b′) (single i b′)) (write-chosen zeros)
         ∙ effects zeros
-        ∙ ap (λ (g : File). does34 zeros g (entryOf s g 0) (entryOf s g ((recordOf (b .fcb) + i) / 128)) (recordOf (b .fcb) + i) (single i b′)) (sym (a .file))
-        ∙ ap (λ (m : ℕ). does34 zeros f (entryOf s f 0) (entryOf s f ((m + i) / 128)) (m + i) (single i b′)) (sym (a .number))
-        ∙ ap (λ (m : ℕ). does34 zeros f m (entryOf s f (q / 128)) q (single i b′)) (sym (w .first))
-        ∙ ap (λ (m : ℕ). does34 zeros f e₀ m q (single i b′)) (sym he)
+        ∙ ap (λ (g : File). does34 kind zeros g (entryOf kind s g 0) (entryOf kind s g ((recordOf (b .fcb) + i) / 128)) (recordOf (b .fcb) + i) (single i b′)) (sym (a .file))
+        ∙ ap (λ (m : ℕ). does34 kind zeros f (entryOf kind s f 0) (entryOf kind s f ((m + i) / 128)) (m + i) (single i b′)) (sym (a .number))
+        ∙ ap (λ (m : ℕ). does34 kind zeros f m (entryOf kind s f (q / 128)) q (single i b′)) (sym (w .first))
+        ∙ ap (λ (m : ℕ). does34 kind zeros f e₀ m q (single i b′)) (sym he)
 
-    module _ (code : ℕ) (hc : code ≡ firstOf (rows34 p l o f e₀ e q s)) where
-      code-is : codeAt n p i b′ ≡ code
-      code-is = code-single n p i b′ again known (a .process-fits) (a .drive) room runs ∙ rows-found ∙ sym hc
+    module _ (code : ℕ) (hc : code ≡ firstOf (rows34 kind p l o f e₀ e q s)) where
+      code-is : codeAt kind n p i b′ ≡ code
+      code-is = code-single kind n p i b′ again known (a .process-fits) (a .drive) room runs ∙ rows-found ∙ sym hc
 
       module _ (z : code ≡ 0) where
         abbrev t : List ℕ
-        t = written zeros (spotAt s e q) e₀ f q v s
+        t = written kind zeros (spotAt kind s e q) e₀ f q v s
 
-        done : call n p 1 (single i b′) ≡ does34 zeros f e₀ e q (single i b′)
-        done = effect-single n p i b′ again known (a .process-fits) (a .drive) room runs (rows-found ∙ sym hc ∙ z) ∙ effect-found
+        done : call kind n p 1 (single i b′) ≡ does34 kind zeros f e₀ e q (single i b′)
+        done = effect-single kind n p i b′ again known (a .process-fits) (a .drive) room runs (rows-found ∙ sym hc ∙ z) ∙ effect-found
 
-        front : written zeros (spotAt s e q) e₀ f q (dmaAt i (b .dma)) s ≡ t
-        front = written-front i (b .dma) room zeros (spotAt s e q) e₀ f q s
+        front : written kind zeros (spotAt kind s e q) e₀ f q (dmaAt i (b .dma)) s ≡ t
+        front = written-front kind i (b .dma) room zeros (spotAt kind s e q) e₀ f q s
 
-        turn-writes : several n p (suc i) b ≡ run 0 (suc i) (withImage b t)
+        turn-writes : several kind n p (suc i) b ≡ run 0 (suc i) (withImage b t)
         unfolding backAt single does34
         turn-writes =
-            several-more n p i b b′ (w .so-far) (code-is ∙ z)
+            several-more kind n p i b b′ (w .so-far) (code-is ∙ z)
             ∙ ap (λ (x : Outcome). run 0 (suc i) (backAt i b′ (x .left))) done
-            ∙ ap (λ (d : List ℕ). run 0 (suc i) (buffers (b .fcb) d (b .list) (written zeros (spotAt s e q) e₀ f q (dmaAt i (b .dma)) s))) (dma-still i (b .dma) room)
+            ∙ ap (λ (d : List ℕ). run 0 (suc i) (buffers (b .fcb) d (b .list) (written kind zeros (spotAt kind s e q) e₀ f q (dmaAt i (b .dma)) s))) (dma-still i (b .dma) room)
             ∙ ap (λ (d : List ℕ). run 0 (suc i) (withImage b d)) front
 
-        both : SoundBoth (b .list) t
+        both : SoundBoth kind (b .list) t
         unfolding single does34
         both =
-            let k = call-sound n p 1 (single i b′) (record { image-sound = w .image-sound; list-long = ok .list-long; list-sound = w .list-sound }) in
-            let m : SoundBoth (b .list) (written zeros (spotAt s e q) e₀ f q (dmaAt i (b .dma)) s) = subst (λ (y : Outcome). SoundBoth (y .left .list) (y .left .image)) done k in
-            subst (λ (y : List ℕ). SoundBoth (b .list) y) front m
+            let k = call-sound kind n p 1 (single i b′) (record { image-sound = w .image-sound; list-long = ok .list-long; list-sound = w .list-sound }) in
+            let m : SoundBoth kind (b .list) (written kind zeros (spotAt kind s e q) e₀ f q (dmaAt i (b .dma)) s) = subst (λ (y : Outcome). SoundBoth kind (y .left .list) (y .left .image)) done k in
+            subst (λ (y : List ℕ). SoundBoth kind (b .list) y) front m
 
-        passes : Passes p l o f e q s
-        passes = passes-34 p l o f e₀ e q s (sym hc ∙ z)
+        passes : Passes kind p l o f e q s
+        passes = passes-34 kind p l o f e₀ e q s (sym hc ∙ z)
 
         named : length (f .name) ≡ 11
         named = rw (a .file) (caller-long p l (b .fcb))
 
         -- the file is on the image, since the caller has it open
-        there : entryOf s f 0 < 64
+        there : entryOf kind s f 0 < entries kind
         there =
             let o₁ : openOf l p f < 64 = (let k = a .place in let m = passes .is-open in omega arith) in
             let o₂ : openOf l p (callerFile p l (b .fcb)) < 64 = subst (λ (y : File). openOf l p y < 64) (a .file) o₁ in
-            let all : Passed p 1 b′ = record { process-fits = a .process-fits; run-some = omega arith; run-fits = omega arith; ready = again } in
-            subst (λ (y : File). entryOf s y 0 < 64) (sym (a .file)) (own-there s p 1 b′ all (unpack-shape (b .list)) (list-sound-of (b .list) s (w .list-sound)) o₂)
+            let all : Passed kind p 1 b′ = record { process-fits = a .process-fits; run-some = omega arith; run-fits = omega arith; ready = again } in
+            subst (λ (y : File). entryOf kind s y 0 < entries kind) (sym (a .file)) (own-there kind s p 1 b′ all (unpack-shape (b .list)) (list-sound-of kind (b .list) s (w .list-sound)) o₂)
 
         -- as the laws of writing have it
         abbrev here : ℕ
-        here = entryOf s f (q / 128)
+        here = entryOf kind s f (q / 128)
 
         abbrev t₀ : List ℕ
-        t₀ = written zeros (spotAt s here q) (entryOf s f 0) f q v s
+        t₀ = written kind zeros (spotAt kind s here q) (entryOf kind s f 0) f q v s
 
         same : t ≡ t₀
-        same = ap (λ (y : ℕ). written zeros (spotAt s y q) e₀ f q v s) he ∙ ap (λ (y : ℕ). written zeros (spotAt s here q) y f q v s) (w .first)
+        same = ap (λ (y : ℕ). written kind zeros (spotAt kind s y q) e₀ f q v s) he ∙ ap (λ (y : ℕ). written kind zeros (spotAt kind s here q) y f q v s) (w .first)
 
-        sound₀ : SoundImage highest t₀
-        sound₀ = sound-of highest t₀ (subst (λ (y : List ℕ). SoundBoth (b .list) y) same both .image-sound)
+        sound₀ : SoundImage kind highest t₀
+        sound₀ = sound-of kind highest t₀ (subst (λ (y : List ℕ). SoundBoth kind (b .list) y) same both .image-sound)
 
         full : 128 ≤ length v
         full = let k : length v ≡ 128 = part-long (b .dma) (128 * i) 128 room in omega arith
 
-        room₀ : (leb 64 here and leb 64 (freeEntry s)) ≡ false
+        room₀ : (leb (entries kind) here and leb (entries kind) (freeEntry kind s)) ≡ false
         room₀ = rw he at (passes .entry-room)
 
-        block₀ : (eqb (blockIn s here q) 0 and leb (blocks s) (freeBlock s)) ≡ false
+        block₀ : (eqb (blockIn kind s here q) 0 and leb (blocks kind s) (freeBlock kind s)) ≡ false
         block₀ = rw he at (passes .block-room)
 
-        spot-below : spotAt s here q .entry < 64
+        spot-below : spotAt kind s here q .entry < entries kind
         unfolding spotAt _if_else_ _and_
         spot-below =
-            ⊎-elim (λ (y : leb 64 here ≡ true). rw y (leb-false 64 _ (rw y at room₀)))
-            (λ (y : leb 64 here ≡ false). ⊎-elim
-            (λ (u : eqb (blockIn s here q) 0 ≡ true). rw (y, u) (leb-false 64 here y))
-            (λ (u : eqb (blockIn s here q) 0 ≡ false). rw (y, u) (leb-false 64 here y)) (either (eqb (blockIn s here q) 0)))
-            (either (leb 64 here))
+            ⊎-elim (λ (y : leb (entries kind) here ≡ true). rw y (leb-false (entries kind) _ (rw y at room₀)))
+            (λ (y : leb (entries kind) here ≡ false). ⊎-elim
+            (λ (u : eqb (blockIn kind s here q) 0 ≡ true). rw (y, u) (leb-false (entries kind) here y))
+            (λ (u : eqb (blockIn kind s here q) 0 ≡ false). rw (y, u) (leb-false (entries kind) here y)) (either (eqb (blockIn kind s here q) 0)))
+            (either (leb (entries kind) here))
 
-        at-spot : entryOf t₀ f (q / 128) ≡ spotAt s here q .entry
+        at-spot : entryOf kind t₀ f (q / 128) ≡ spotAt kind s here q .entry
         at-spot =
-            let is = written-entry zeros s f q v (sound-of highest s (w .image-sound)) named (passes .far) there full room₀ block₀ in
-            let k = found-below t₀ f (q / 128) (spotAt s here q .entry) spot-below is in
-            only t₀ f (q / 128) (entryOf t₀ f (q / 128)) (spotAt s here q .entry) (sound₀ .entries) k spot-below (found-is t₀ f (q / 128) named k) is
+            let is = written-entry kind zeros s f q v (sound-of kind highest s (w .image-sound)) named (passes .far) there full room₀ block₀ in
+            let k = found-below kind t₀ f (q / 128) (spotAt kind s here q .entry) spot-below is in
+            only kind t₀ f (q / 128) (entryOf kind t₀ f (q / 128)) (spotAt kind s here q .entry) (sound₀ .files) k spot-below (found-is kind t₀ f (q / 128) named k) is
 
-        at-first : entryOf t₀ f 0 ≡ entryOf s f 0
+        at-first : entryOf kind t₀ f 0 ≡ entryOf kind s f 0
         at-first =
-            let is = written-first zeros s f q v (sound-of highest s (w .image-sound)) named (passes .far) there full room₀ block₀ in
-            let k = found-below t₀ f 0 (entryOf s f 0) there is in
-            only t₀ f 0 (entryOf t₀ f 0) (entryOf s f 0) (sound₀ .entries) k there (found-is t₀ f 0 named k) is
+            let is = written-first kind zeros s f q v (sound-of kind highest s (w .image-sound)) named (passes .far) there full room₀ block₀ in
+            let k = found-below kind t₀ f 0 (entryOf kind s f 0) there is in
+            only kind t₀ f 0 (entryOf kind t₀ f 0) (entryOf kind s f 0) (sound₀ .files) k there (found-is kind t₀ f 0 named k) is
 
-        first-still : e₀ ≡ entryOf t f 0
-        first-still = w .first ∙ sym at-first ∙ ap (λ (y : List ℕ). entryOf y f 0) (sym same)
+        first-still : e₀ ≡ entryOf kind t f 0
+        first-still = w .first ∙ sym at-first ∙ ap (λ (y : List ℕ). entryOf kind y f 0) (sym same)
 
-        entry-now : spotAt s e q .entry ≡ entryOf t f (q / 128)
-        entry-now = ap (λ (y : ℕ). spotAt s y q .entry) he ∙ sym at-spot ∙ ap (λ (y : List ℕ). entryOf y f (q / 128)) (sym same)
+        entry-now : spotAt kind s e q .entry ≡ entryOf kind t f (q / 128)
+        entry-now = ap (λ (y : ℕ). spotAt kind s y q .entry) he ∙ sym at-spot ∙ ap (λ (y : List ℕ). entryOf kind y f (q / 128)) (sym same)
 
 -- ---- the loop
 
-pub writing-none : (zeros : Bool) (p c : ℕ) (f : File) (e₀ o r locked : ℕ) (b : Buffers) → Asks (writeNumber zeros) p c f o r b → e₀ ≡ entryOf (b .image) f 0 → Writing zeros p f e₀ r locked b 0 64 (b .image)
-writing-none zeros p c f e₀ o r locked b a h = record {
-  so-far = several-none (writeNumber zeros) p b;
+pub writing-none : (kind : Kind) (zeros : Bool) (p c : ℕ) (f : File) (e₀ o r locked : ℕ) (b : Buffers) → Asks kind (writeNumber zeros) p c f o r b → e₀ ≡ entryOf kind (b .image) f 0 → Writing kind zeros p f e₀ r locked b 0 0 (b .image)
+writing-none kind zeros p c f e₀ o r locked b a h = record {
+  so-far = several-none kind (writeNumber zeros) p b;
   long = refl;
   image-sound = a .ready .image-sound;
   list-sound = a .ready .list-sound;
   first = h;
   unlocked = omega arith;
-  known = known-none (b .image) f r;
+  known = known-none kind (b .image) f r;
 }
 
-module _ (zeros : Bool) (p c : ℕ) (f : File) (e₀ o r mode locked : ℕ) (b : Buffers) (x : StopsAt (unpack (b .list)) p f o r c mode locked) (a : Asks (writeNumber zeros) p c f o r b) (i e₁ : ℕ) (s : List ℕ) (w : Writing zeros p f e₀ r locked b i e₁ s) where
-  module _ (below : i < c) (e : ℕ) (stopped : Bool) (code entry : ℕ) (t : List ℕ) (he : e ≡ entryOf s f ((r + i) / 128)) (hs : stopped ≡ (readOnly s e₀ or eqb mode 2)) (d : OneDid zeros o stopped (eqb i locked) f e₀ e (r + i) (take (128 * i + 128 - 128 * i) (drop (128 * i) (b .dma))) s code entry t) where
+module _ (kind : Kind) (zeros : Bool) (p c : ℕ) (f : File) (e₀ o r mode locked : ℕ) (b : Buffers) (x : StopsAt (unpack (b .list)) p f o r c mode locked) (a : Asks kind (writeNumber zeros) p c f o r b) (i e₁ : ℕ) (s : List ℕ) (w : Writing kind zeros p f e₀ r locked b i e₁ s) where
+  module _ (below : i < c) (e : ℕ) (stopped : Bool) (code entry : ℕ) (t : List ℕ) (he : e ≡ entryOf kind s f ((r + i) / 128)) (hs : stopped ≡ (readOnly s e₀ or eqb mode 2)) (d : OneDid kind zeros o stopped (eqb i locked) f e₀ e (r + i) (take (128 * i + 128 - 128 * i) (drop (128 * i) (b .dma))) s code entry t) where
     locked-so : eqb i locked ≡ lockedByOther (unpack (b .list)) p f (r + i)
     locked-so = locked-here (unpack (b .list)) p f r c i locked (x .locked-is) below (w .unlocked)
 
-    coded : code ≡ firstOf (rows34 p (unpack (b .list)) o f e₀ e (r + i) s)
+    coded : code ≡ firstOf (rows34 kind p (unpack (b .list)) o f e₀ e (r + i) s)
     unfolding rows34
     coded =
-        d .gives ∙ ap (λ (m : List Row). firstOf (m ++ rowsRoom s e (r + i)))
+        d .gives ∙ ap (λ (m : List Row). firstOf (m ++ rowsRoom kind s e (r + i)))
         (may-by p (unpack (b .list)) o f e₀ (r + i) s stopped (eqb i locked) (hs ∙ ap (λ (m : ℕ). readOnly s e₀ or eqb m 2) (x .mode-is)) locked-so)
 
     -- one more
-    pub writing-more : code ≡ 0 → length t ≡ length s → Writing zeros p f e₀ r locked b (i + 1) entry t
+    pub writing-more : code ≡ 0 → length t ≡ length s → Writing kind zeros p f e₀ r locked b (i + 1) entry t
     writing-more z n =
         let k : 128 * i + 128 - 128 * i ≡ 128 = omega arith in
-        let g : t ≡ written zeros (spotAt s e (r + i)) e₀ f (r + i) (part (128 * i) 128 (b .dma)) s = d .wrote z ∙ ap (λ (m : ℕ). written zeros (spotAt s e (r + i)) e₀ f (r + i) (take m (drop (128 * i) (b .dma))) s) k in
-        let y = subst (λ (m : List ℕ). SoundBoth (b .list) m) (sym g) (both zeros p c f e₀ o r locked b a i e₁ s w below e he code coded z) in
-        let not-here : i ≡ locked → ⊥ = eqb-false i locked (locked-so ∙ passes zeros p c f e₀ o r locked b a i e₁ s w below e he code coded z .free) in
+        let g : t ≡ written kind zeros (spotAt kind s e (r + i)) e₀ f (r + i) (part (128 * i) 128 (b .dma)) s = d .wrote z ∙ ap (λ (m : ℕ). written kind zeros (spotAt kind s e (r + i)) e₀ f (r + i) (take m (drop (128 * i) (b .dma))) s) k in
+        let y = subst (λ (m : List ℕ). SoundBoth kind (b .list) m) (sym g) (both kind zeros p c f e₀ o r locked b a i e₁ s w below e he code coded z) in
+        let not-here : i ≡ locked → ⊥ = eqb-false i locked (locked-so ∙ passes kind zeros p c f e₀ o r locked b a i e₁ s w below e he code coded z .free) in
         let u = w .unlocked in
         record {
-          so-far = rw add-one (turn-writes zeros p c f e₀ o r locked b a i e₁ s w below e he code coded z ∙ ap (λ (m : List ℕ). run 0 (suc i) (withImage b m)) (sym g));
+          so-far = rw add-one (turn-writes kind zeros p c f e₀ o r locked b a i e₁ s w below e he code coded z ∙ ap (λ (m : List ℕ). run 0 (suc i) (withImage b m)) (sym g));
           long = n ∙ w .long;
           image-sound = y .image-sound;
           list-sound = y .list-sound;
-          first = first-still zeros p c f e₀ o r locked b a i e₁ s w below e he code coded z ∙ ap (λ (m : List ℕ). entryOf m f 0) (sym g);
+          first = first-still kind zeros p c f e₀ o r locked b a i e₁ s w below e he code coded z ∙ ap (λ (m : List ℕ). entryOf kind m f 0) (sym g);
           unlocked = omega arith;
-          known = known-more t f r i entry (d .at z ∙ entry-now zeros p c f e₀ o r locked b a i e₁ s w below e he code coded z ∙ ap (λ (m : List ℕ). entryOf m f ((r + i) / 128)) (sym g)) (d .within);
+          known = known-more kind t f r i entry (d .at z ∙ entry-now kind zeros p c f e₀ o r locked b a i e₁ s w below e he code coded z ∙ ap (λ (m : List ℕ). entryOf kind m f ((r + i) / 128)) (sym g)) (d .within);
         }
 
     -- the first refusal stops the call
-    pub writing-stops : (answer : ℕ) → (code ≡ 0 → ⊥) → answer ≡ code + 4096 * i → Did (told (several (writeNumber zeros) p c b)) answer (b .fcb) (b .dma) (b .list) t
+    pub writing-stops : (answer : ℕ) → (code ≡ 0 → ⊥) → answer ≡ code + 4096 * i → Did (told (several kind (writeNumber zeros) p c b)) answer (b .fcb) (b .dma) (b .list) t
     writing-stops answer n ha =
-        let k = code-is zeros p c f e₀ o r locked b a i e₁ s w below e he code coded in
-        let g : told (several (writeNumber zeros) p c b) ≡ outcome answer (withImage b s) = stops-told (writeNumber zeros) p b (withImage b s) i c (w .so-far) (λ z. n (sym k ∙ z)) below ∙ ap (λ (m : ℕ). outcome m (withImage b s)) (ap (λ (m : ℕ). m + 4096 * i) k ∙ sym ha) in
+        let k = code-is kind zeros p c f e₀ o r locked b a i e₁ s w below e he code coded in
+        let g : told (several kind (writeNumber zeros) p c b) ≡ outcome answer (withImage b s) = stops-told kind (writeNumber zeros) p b (withImage b s) i c (w .so-far) (λ z. n (sym k ∙ z)) below ∙ ap (λ (m : ℕ). outcome m (withImage b s)) (ap (λ (m : ℕ). m + 4096 * i) k ∙ sym ha) in
         rw (d .kept n) (did-as _ _ answer _ _ _ _ (sym g) (did-none answer (withImage b s)))
 
   -- all went well
-  pub writing-ends : c ≤ i → i ≤ c → Did (told (several (writeNumber zeros) p c b)) 0 (b .fcb) (b .dma) (b .list) s
-  writing-ends g h = did-as _ _ 0 _ _ _ _ (sym (ends-told (writeNumber zeros) p b (withImage b s) i c (w .so-far) g h)) (did-none 0 (withImage b s))
+  pub writing-ends : c ≤ i → i ≤ c → Did (told (several kind (writeNumber zeros) p c b)) 0 (b .fcb) (b .dma) (b .list) s
+  writing-ends g h = did-as _ _ 0 _ _ _ _ (sym (ends-told kind (writeNumber zeros) p b (withImage b s) i c (w .so-far) g h)) (did-none 0 (withImage b s))
 
 -- ---- what the call has found of the list
 

@@ -5,6 +5,7 @@ use mathlib.Core.Bool.{Bool, true, false}
 use mathlib.Core.List.{List}
 use lib.ListN.{length}
 use Rattle.words.specs.Tests.{lowest}
+use Rattle.rules.specs.Kinds.{entries}
 use Rattle.rules.specs.declared.file.File.{File}
 use Rattle.rules.specs.declared.list.LockList.{LockList}
 use Rattle.rules.specs.Serves.{Buffers, withDma, withImage}
@@ -14,10 +15,11 @@ use Rattle.rules.specs.Asks.{callerFile, recordOf}
 use Rattle.rules.specs.Codes.{badDrive, isOthers}
 use Rattle.rules.specs.Call.{Ready}
 use Rattle.rules.specs.Several.{run, several}
+use Rattle.rules.specs.declared.kind.Kind.{Kind}
 
 -- what the call has found before the first record: the caller's file, its open at place o, the record
-pub record Asks (n p c : ℕ) (f : File) (o r : ℕ) (b : Buffers) : Type 0 where
-  pub ready : Ready b
+pub record Asks (kind : Kind) (n p c : ℕ) (f : File) (o r : ℕ) (b : Buffers) : Type 0 where
+  pub ready : Ready kind b
   pub drive : badDrive n (b .fcb) ≡ false
   pub process-fits : p < 16
   pub run-fits : c ≤ 16
@@ -26,15 +28,15 @@ pub record Asks (n p c : ℕ) (f : File) (o r : ℕ) (b : Buffers) : Type 0 wher
   pub number : r ≡ recordOf (b .fcb)
 
 -- e is the entry of the extent with the record before the one at distance i
-pub record Known (s : List ℕ) (f : File) (r i e : ℕ) : Type 0 where
-  pub extent : 0 < i → e ≡ entryOf s f ((r + i - 1) / 128)
-  pub within : e ≤ 64
+pub record Known (kind : Kind) (s : List ℕ) (f : File) (r i e : ℕ) : Type 0 where
+  pub extent : 0 < i → e ≡ entryOf kind s f ((r + i - 1) / 128)
+  pub within : e ≤ entries kind
 
 -- i records are read
-pub record Reading (p : ℕ) (f : File) (r : ℕ) (b : Buffers) (i e : ℕ) (dma : List ℕ) : Type 0 where
-  pub so-far : several 33 p i b ≡ run 0 i (withDma b dma)
+pub record Reading (kind : Kind) (p : ℕ) (f : File) (r : ℕ) (b : Buffers) (i e : ℕ) (dma : List ℕ) : Type 0 where
+  pub so-far : several kind 33 p i b ≡ run 0 i (withDma b dma)
   pub long : length dma ≡ length (b .dma)
-  pub known : Known (b .image) f r i e
+  pub known : Known kind (b .image) f r i e
 
 unfoldable pub writeNumber : Bool → ℕ
 writeNumber false = 34
@@ -46,11 +48,11 @@ pub record StopsAt (l : LockList) (p : ℕ) (f : File) (o r c mode locked : ℕ)
   pub locked-is : locked ≡ lowest (isOthers l p f r) c
 
 -- i records are written, none of them locked by another; the image is now s, extent 0 at entry e₀
-pub record Writing (zeros : Bool) (p : ℕ) (f : File) (e₀ r locked : ℕ) (b : Buffers) (i e : ℕ) (s : List ℕ) : Type 0 where
-  pub so-far : several (writeNumber zeros) p i b ≡ run 0 i (withImage b s)
+pub record Writing (kind : Kind) (zeros : Bool) (p : ℕ) (f : File) (e₀ r locked : ℕ) (b : Buffers) (i e : ℕ) (s : List ℕ) : Type 0 where
+  pub so-far : several kind (writeNumber zeros) p i b ≡ run 0 i (withImage b s)
   pub long : length s ≡ length (b .image)
-  pub image-sound : soundImage highest s ≡ true
-  pub list-sound : soundList highest (b .list) s ≡ true
-  pub first : e₀ ≡ entryOf s f 0
+  pub image-sound : soundImage kind highest s ≡ true
+  pub list-sound : soundList kind highest (b .list) s ≡ true
+  pub first : e₀ ≡ entryOf kind s f 0
   pub unlocked : i ≤ locked
-  pub known : Known s f r i e
+  pub known : Known kind s f r i e

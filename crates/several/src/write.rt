@@ -1,15 +1,16 @@
 use crate::extent::after;
 use crate::extent::entry_at;
-use drive::find::entry_of;
+use directory::find::entry_of;
 use locklist::ask::caller_file;
 use locklist::ask::record_of;
 use records::may::write_stopped;
 use records::write::write_one;
 use rules::file::File;
+use rules::kind::Kind;
 use rules::list::LockList;
 ghost use mathlib.Core.Path.{_≡_};
 ghost use mathlib.Core.Bool.{false};
-ghost use Prim.Native.Nat.{_<_, _≤_};
+ghost use Prim.Native.Nat.{_≤_, _<_};
 ghost use Rattle.rules.specs.Serves.{Did, buffers};
 ghost use Rattle.rules.specs.Codes.{badDrive};
 ghost use Rattle.rules.specs.Locks.{unpack};
@@ -20,6 +21,7 @@ ghost use Rattle.several.specs.So.{Asks, writeNumber, StopsAt};
 // 34 and 40 on what was found, record by record: the open is at place `o` in that mode, the record at distance `locked` is the first
 // that another process has locked.
 fn write_run(
+    kind: Kind,
     zeros: bool,
     p: u8,
     o: usize,
@@ -33,18 +35,19 @@ fn write_run(
     list: &[u8],
     image: &mut [u8],
 ) -> u32
-    requires { ⌜ (r < 16777216) × StopsAt (unpack (now list)) p f o r count mode locked × Asks (writeNumber zeros) p count f o r (buffers (now fcb) (now dma) (now list) (now image)) ⌝ }
-    ensures { λ c. ⌜ Did (told (several (writeNumber zeros) p count (buffers (now (fcb .entry)) (now (dma .entry)) (now (list .entry)) (now (image .entry))))) c (now (fcb .entry)) (now (dma .entry)) (now (list .entry)) (now (image .exit)) ⌝ }
+    requires { ⌜ (r < 16777216) × StopsAt (unpack (now list)) p f o r count mode locked × Asks kind (writeNumber zeros) p count f o r (buffers (now fcb) (now dma) (now list) (now image)) ⌝ }
+    ensures { λ c. ⌜ Did (told (several kind (writeNumber zeros) p count (buffers (now (fcb .entry)) (now (dma .entry)) (now (list .entry)) (now (image .entry))))) c (now (fcb .entry)) (now (dma .entry)) (now (list .entry)) (now (image .exit)) ⌝ }
 {
-    let first = entry_of(&*image, f, 0);
-    let mut e = 64;
+    let first = entry_of(kind, &*image, f, 0);
+    let mut e = 0;
     let mut i: u32 = 0;
     while i < count {
-        let here = entry_at(&*image, f, r as usize, i as usize, e);
+        let here = entry_at(kind, &*image, f, r as usize, i as usize, e);
         let stopped = write_stopped(mode, first, &*image);
         let from = 128 * (i as usize);
         let to = from + 128;
         let did = write_one(
+            kind,
             zeros,
             o,
             stopped,
@@ -67,6 +70,7 @@ fn write_run(
 
 // 34 and 40 (`zeros`) on the buffers.
 pub fn write_several(
+    kind: Kind,
     zeros: bool,
     p: u8,
     l: LockList,
@@ -76,14 +80,15 @@ pub fn write_several(
     list: &[u8],
     image: &mut [u8],
 ) -> u32
-    requires { ⌜ (l ≡ unpack (now list)) × (p < 16) × (count ≤ 16) × (badDrive (writeNumber zeros) (now fcb) ≡ false) × Ready (buffers (now fcb) (now dma) (now list) (now image)) ⌝ }
-    ensures { λ c. ⌜ Did (told (several (writeNumber zeros) p count (buffers (now (fcb .entry)) (now (dma .entry)) (now (list .entry)) (now (image .entry))))) c (now (fcb .entry)) (now (dma .entry)) (now (list .entry)) (now (image .exit)) ⌝ }
+    requires { ⌜ (l ≡ unpack (now list)) × (p < 16) × (count ≤ 16) × (badDrive (writeNumber zeros) (now fcb) ≡ false) × Ready kind (buffers (now fcb) (now dma) (now list) (now image)) ⌝ }
+    ensures { λ c. ⌜ Did (told (several kind (writeNumber zeros) p count (buffers (now (fcb .entry)) (now (dma .entry)) (now (list .entry)) (now (image .entry))))) c (now (fcb .entry)) (now (dma .entry)) (now (list .entry)) (now (image .exit)) ⌝ }
 {
     let f = caller_file(l, p, fcb);
     let o = l.open_of(p, f);
     let r = record_of(fcb);
     let locked = l.first_others(p, f, r, count);
     write_run(
+        kind,
         zeros,
         p,
         o,

@@ -1,22 +1,23 @@
 -- A change of the image that takes nothing away: what it leaves, and two of them one after the other. Assumes nothing.
-use Prim.Native.Nat.{ℕ, _+_, _≤_, _<_}
+use Prim.Native.Nat.{ℕ, _+_, _*_, _≤_, _<_}
 use mathlib.Core.Path.{_≡_, refl, sym, _∙_}
 use mathlib.Core.Bool.{false}
 use mathlib.Core.List.{List}
 use mathlib.Core.Logic.{_⊎_, inl, inr, ⊎-elim}
-use native.Mathlib.Omega.{arith}
 use lib.ListN.{length}
 use Rattle.words.specs.Bytes.{byte}
+use Rattle.rules.specs.declared.kind.Kind.{Kind}
+use Rattle.rules.specs.Kinds.{entries}
 use Rattle.rules.specs.declared.file.File.{File}
 use Rattle.rules.specs.Drive.{highest, isEmpty, fileAt, mapNumber}
 use Rattle.rules.proofs.Sound.{Names, SoundImage}
-use Rattle.rules.proofs.Frames.{Head, Same, head-of, head-then, same-refl, same-then, empty-same, file-same}
+use Rattle.rules.proofs.Frames.{Head, Same, head-of, head-then, same-refl, same-then, empty-same, file-same, map-same}
 use Rattle.soundness.proofs.Steps.{Stays}
 
 -- used entries keep their heads and their block numbers
-pub record Grown (s t : List ℕ) : Type 0 where
-  pub head : (e : ℕ) → e < 64 → isEmpty s e ≡ false → Head s e t e
-  pub number : (e k : ℕ) → Names s e k → mapNumber t e k ≡ mapNumber s e k
+pub record Grown (kind : Kind) (s t : List ℕ) : Type 0 where
+  pub head : (e : ℕ) → e < entries kind → isEmpty s e ≡ false → Head s e t e
+  pub number : (e k : ℕ) → Names kind s e k → mapNumber kind t e k ≡ mapNumber kind s e k
 
 -- entry e is of f before, and of h after, where it is in use
 pub record Theirs (s t : List ℕ) (f h : File) (e : ℕ) : Type 0 where
@@ -24,45 +25,45 @@ pub record Theirs (s t : List ℕ) (f h : File) (e : ℕ) : Type 0 where
   pub now : isEmpty t e ≡ false → fileAt t e ≡ h
 
 -- every other entry is the same
-pub record Touches (s t : List ℕ) (f h : File) : Type 0 where
+pub record Touches (kind : Kind) (s t : List ℕ) (f h : File) : Type 0 where
   pub long : length t ≡ length s
-  pub entry : (e : ℕ) → e < 64 → Same s e t e ⊎ Theirs s t f h e
+  pub entry : (e : ℕ) → e < entries kind → Same s e t e ⊎ Theirs s t f h e
 
 -- past the directory only the m bytes from a on differ
-pub record Data (s t : List ℕ) (a m : ℕ) : Type 0 where
-  pub at : (i : ℕ) → 2048 ≤ i → (i < a) ⊎ (a + m ≤ i) → byte t i ≡ byte s i
+pub record Data (kind : Kind) (s t : List ℕ) (a m : ℕ) : Type 0 where
+  pub at : (i : ℕ) → 32 * entries kind ≤ i → (i < a) ⊎ (a + m ≤ i) → byte t i ≡ byte s i
 
 -- a new number stands at place q of entry n at most
-pub record Change (s t : List ℕ) (f : File) (a m n q : ℕ) : Type 0 where
-  pub sound : SoundImage highest t
-  pub rest : (e k : ℕ) → Names t e k → ((e ≡ n) × (k ≡ q)) ⊎ Stays s t e k
-  pub grown : Grown s t
-  pub touches : Touches s t f f
-  pub data-kept : Data s t a m
+pub record Change (kind : Kind) (s t : List ℕ) (f : File) (a m n q : ℕ) : Type 0 where
+  pub sound : SoundImage kind highest t
+  pub rest : (e k : ℕ) → Names kind t e k → ((e ≡ n) × (k ≡ q)) ⊎ Stays kind s t e k
+  pub grown : Grown kind s t
+  pub touches : Touches kind s t f f
+  pub data-kept : Data kind s t a m
 
-pub touches-same : (s t : List ℕ) (f h : File) → length t ≡ length s → ((e : ℕ) → e < 64 → Same s e t e) → Touches s t f h
-touches-same s t f h len g = record { long = len; entry = λ e l. inl (g e l) }
+pub touches-same : (kind : Kind) (s t : List ℕ) (f h : File) → length t ≡ length s → ((e : ℕ) → e < entries kind → Same s e t e) → Touches kind s t f h
+touches-same kind s t f h len g = record { long = len; entry = λ e l. inl (g e l) }
 
-pub grown-same : (s t : List ℕ) → ((e : ℕ) → e < 64 → Same s e t e) → Grown s t
-grown-same s t g = record {
+pub grown-same : (kind : Kind) (s t : List ℕ) → ((e : ℕ) → e < entries kind → Same s e t e) → Grown kind s t
+grown-same kind s t g = record {
   head = λ e l u. head-of s e t e (g e l);
-  number = λ e k n. let w = n .place-there in g e (n .entry-there) .at (16 + k) (omega arith);
+  number = λ e k n. map-same kind s t e k (g e (n .entry-there)) (n .place-there);
 }
 
-pub no-change : (s : List ℕ) (f : File) (a m n q : ℕ) → SoundImage highest s → Change s s f a m n q
-no-change s f a m n q g = record {
+pub no-change : (kind : Kind) (s : List ℕ) (f : File) (a m n q : ℕ) → SoundImage kind highest s → Change kind s s f a m n q
+no-change kind s f a m n q g = record {
   sound = g;
   rest = λ e k w. inr (record { named = w; number = refl });
-  grown = grown-same s s (λ e l. same-refl s e);
-  touches = touches-same s s f f refl (λ e l. same-refl s e);
+  grown = grown-same kind s s (λ e l. same-refl s e);
+  touches = touches-same kind s s f f refl (λ e l. same-refl s e);
   data-kept = record { at = λ i l c. refl };
 }
 
-module _ (s t u : List ℕ) (f : File) (a m n q : ℕ) (x : Change s t f a m n q) (y : Change t u f a m n q) where
-  used-then : (e : ℕ) → e < 64 → isEmpty s e ≡ false → isEmpty t e ≡ false
+module _ (kind : Kind) (s t u : List ℕ) (f : File) (a m n q : ℕ) (x : Change kind s t f a m n q) (y : Change kind t u f a m n q) where
+  used-then : (e : ℕ) → e < entries kind → isEmpty s e ≡ false → isEmpty t e ≡ false
   used-then e l w = empty-same s e t e (x .grown .head e l w) ∙ w
 
-  names-then : (e k : ℕ) → Names s e k → Names t e k
+  names-then : (e k : ℕ) → Names kind s e k → Names kind t e k
   names-then e k w = record {
     entry-there = w .entry-there;
     place-there = w .place-there;
@@ -70,7 +71,7 @@ module _ (s t u : List ℕ) (f : File) (a m n q : ℕ) (x : Change s t f a m n q
     some = λ z. w .some (sym (x .grown .number e k w) ∙ z);
   }
 
-  entry-then : (e : ℕ) → e < 64 → Same s e u e ⊎ Theirs s u f f e
+  entry-then : (e : ℕ) → e < entries kind → Same s e u e ⊎ Theirs s u f f e
   entry-then e l =
       ⊎-elim
       (λ (p : Same s e t e). ⊎-elim
@@ -87,14 +88,14 @@ module _ (s t u : List ℕ) (f : File) (a m n q : ℕ) (x : Change s t f a m n q
       (y .touches .entry e l))
       (x .touches .entry e l)
 
-  rest-then : (e k : ℕ) → Names u e k → ((e ≡ n) × (k ≡ q)) ⊎ Stays s u e k
+  rest-then : (e k : ℕ) → Names kind u e k → ((e ≡ n) × (k ≡ q)) ⊎ Stays kind s u e k
   rest-then e k w =
       ⊎-elim (λ z. inl z)
-      (λ (z : Stays t u e k). ⊎-elim (λ v. inl v)
-      (λ (v : Stays s t e k). inr (record { named = v .named; number = z .number ∙ v .number })) (x .rest e k (z .named)))
+      (λ (z : Stays kind t u e k). ⊎-elim (λ v. inl v)
+      (λ (v : Stays kind s t e k). inr (record { named = v .named; number = z .number ∙ v .number })) (x .rest e k (z .named)))
       (y .rest e k w)
 
-  pub change-then : Change s u f a m n q
+  pub change-then : Change kind s u f a m n q
   change-then = record {
     sound = y .sound;
     rest = rest-then;

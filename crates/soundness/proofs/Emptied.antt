@@ -13,6 +13,7 @@ use Rattle.words.proofs.Tests.{either, and-fst, and-snd, fails-too}
 use Rattle.words.proofs.Counts.{count-less}
 use Rattle.words.proofs.Lists.{map-at}
 use Rattle.words.proofs.Sets.{and-both, and-left, not-of-false}
+use Rattle.rules.specs.declared.kind.Kind.{Kind}
 use Rattle.rules.specs.declared.file.File.{File}
 use Rattle.rules.specs.declared.item.Item.{Item}
 use Rattle.rules.specs.declared.list.LockList.{LockList}
@@ -55,16 +56,17 @@ module _ (l : LockList) (away : Item → Bool) (turn : Item → Item) (t : Empti
     names-long = λ i m. ⊎-elim (λ (q : away (itemAt l i) ≡ true). rw (at-gone i m q) refl) (λ (q : away (itemAt l i) ≡ false). rw (at-kept i m q) (h .names-long i m)) (either (away (itemAt l i)));
   }
 
-  module _ (s : List ℕ) (g : SoundLocks l s) (whole : Whole l away) where
-    good-after : (i : ℕ) → i < 64 → away (itemAt l i) ≡ false → GoodOpen s l (itemAt l i) ⊎ GoodLock s l (itemAt l i) → GoodOpen s after (itemAt l i) ⊎ GoodLock s after (itemAt l i)
+  module _ (kind : Kind) (s : List ℕ) (g : SoundLocks kind l s) (whole : Whole l away) where
+    good-after : (i : ℕ) → i < 64 → away (itemAt l i) ≡ false → GoodOpen kind s l (itemAt l i) ⊎ GoodLock kind s l (itemAt l i)
+        → GoodOpen kind s after (itemAt l i) ⊎ GoodLock kind s after (itemAt l i)
     good-after i m q c =
-        ⊎-elim (λ (o : GoodOpen s l (itemAt l i)). inl (record { kind-one = o .kind-one; mode-fits = o .mode-fits; number-zero = o .number-zero; there = o .there }))
-        (λ (o : GoodLock s l (itemAt l i)).
+        ⊎-elim (λ (o : GoodOpen kind s l (itemAt l i)). inl (record { kind-one = o .kind-one; mode-fits = o .mode-fits; number-zero = o .number-zero; there = o .there }))
+        (λ (o : GoodLock kind s l (itemAt l i)).
         let k = o .holder in
         let e = at-kept (k .place) (k .below) (whole .with-locks i (k .place) m (k .below) (o .kind-two) (k .opens) q) in
         inr (record { kind-two = o .kind-two; mode-one = o .mode-one; holder = record { place = k .place; below = k .below; opens = rw e (k .opens); mode = rw e (k .mode) }; block = o .block })) c
 
-    place-after : (i : ℕ) → i < 64 → Vacant after i ⊎ Used s after i
+    place-after : (i : ℕ) → i < 64 → Vacant after i ⊎ Used kind s after i
     place-after i m =
         ⊎-elim
         (λ (q : away (itemAt l i) ≡ true).
@@ -74,10 +76,10 @@ module _ (l : LockList) (away : Item → Bool) (turn : Item → Item) (t : Empti
         let e : itemAt l i ≡ itemAt after i = sym (at-kept i m q) in
         ⊎-elim
         (λ (v : Vacant l i). inl (record { kind-zero = rw (← e) (v .kind-zero); zeros = rw (← e) (v .zeros) }))
-        (λ (v : Used s l i). inr (record {
+        (λ (v : Used kind s l i). inr (record {
           below = v .below;
           plain = rw (← e) (v .plain);
-          good = subst (λ (x : Item). GoodOpen s after x ⊎ GoodLock s after x) e (good-after i m q (v .good));
+          good = subst (λ (x : Item). GoodOpen kind s after x ⊎ GoodLock kind s after x) e (good-after i m q (v .good));
         }))
         (g .place i m))
         (either (away (itemAt l i)))
@@ -111,7 +113,7 @@ module _ (l : LockList) (away : Item → Bool) (turn : Item → Item) (t : Empti
         let d = fewer-kind 2 p (λ (z : 2 ≡ 0). absurd (omega arith)) in
         and-both _ _ (le-leb (count (isKindByAt after 1 p) 64) (l .openlimit) (omega arith)) (le-leb (count (isKindByAt after 2 p) 64) (l .locklimit) (omega arith))
 
-    pub gone-sound : SoundLocks after s
+    pub gone-sound : SoundLocks kind after s
     gone-sound = record {
       limits = record { capacity-good = g .limits .capacity-good; open-good = g .limits .open-good; lock-good = g .limits .lock-good; users-good = g .limits .users-good };
       place = place-after;

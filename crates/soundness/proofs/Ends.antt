@@ -9,6 +9,8 @@ use lib.ListN.{length}
 use borrow.Author.Tests.{ltb-true}
 use Rattle.words.specs.Bytes.{byte}
 use Rattle.words.proofs.Tests.{all-at}
+use Rattle.rules.specs.declared.kind.Kind.{Kind}
+use Rattle.rules.specs.Kinds.{entries}
 use Rattle.rules.specs.declared.file.File.{File}
 use Rattle.rules.specs.Serves.{Buffers}
 use Rattle.rules.specs.Drive.{highest, isEmpty, fileFrom, fileAt, entryOf, freeEntry, legalName, isOf}
@@ -27,29 +29,29 @@ use Rattle.soundness.proofs.Taken.{name-low, name-legal, caller-long, c
 use Rattle.rules.proofs.Passed.{Passed}
 use Rattle.soundness.proofs.Leaves.{listOf, fileBy, newBy, MayMake, MayRename, MayWrite, MayLock, imageWritten}
 
-module _ (p c : ℕ) (b : Buffers) (ok : Passed p c b) where
-  pub image-of : SoundImage highest (b .image)
-  image-of = sound-of highest (b .image) (ok .ready .image-sound)
+module _ (kind : Kind) (p c : ℕ) (b : Buffers) (ok : Passed kind p c b) where
+  pub image-of : SoundImage kind highest (b .image)
+  image-of = sound-of kind highest (b .image) (ok .ready .image-sound)
 
   pub shape-of : Shape (listOf b)
   shape-of = unpack-shape (b .list)
 
-  pub list-of : SoundLocks (listOf b) (b .image)
-  list-of = list-sound-of (b .list) (b .image) (ok .ready .list-sound)
+  pub list-of : SoundLocks kind (listOf b) (b .image)
+  list-of = list-sound-of kind (b .list) (b .image) (ok .ready .list-sound)
 
   pub caller-fits : userOf (listOf b) p ≤ 15
   caller-fits = user-fits (listOf b) p (list-of .limits) (ok .process-fits)
 
   -- 22
-  pub made-of : MayMake p b → (a m i j : ℕ) → Change (b .image) (made (freeEntry (b .image)) (fileBy p b) (b .image)) (fileBy p b) a m i j
+  pub made-of : MayMake kind p b → (a m i j : ℕ) → Change kind (b .image) (made (freeEntry kind (b .image)) (fileBy p b) (b .image)) (fileBy p b) a m i j
   unfolding callerFile
-  made-of w = made-change (b .image) (b .fcb) (userOf (listOf b) p) image-of caller-fits (w .legal) (w .gone) (w .entry-room)
+  made-of w = made-change kind (b .image) (b .fcb) (userOf (listOf b) p) image-of caller-fits (w .legal) (w .gone) (w .entry-room)
 
-  pub made-there : MayMake p b → entryOf (made (freeEntry (b .image)) (fileBy p b) (b .image)) (fileBy p b) 0 < 64
+  pub made-there : MayMake kind p b → entryOf kind (made (freeEntry kind (b .image)) (fileBy p b) (b .image)) (fileBy p b) 0 < entries kind
   unfolding callerFile
   made-there w =
-      found-below (made (freeEntry (b .image)) (fileBy p b) (b .image)) (fileBy p b) 0 (freeEntry (b .image)) (w .entry-room)
-      (made-is (b .image) (b .fcb) (userOf (listOf b) p) image-of caller-fits (w .legal) (w .gone) (w .entry-room))
+      found-below kind (made (freeEntry kind (b .image)) (fileBy p b) (b .image)) (fileBy p b) 0 (freeEntry kind (b .image)) (w .entry-room)
+      (made-is kind (b .image) (b .fcb) (userOf (listOf b) p) image-of caller-fits (w .legal) (w .gone) (w .entry-room))
 
   -- 23
   abbrev new : File
@@ -59,7 +61,7 @@ module _ (p c : ℕ) (b : Buffers) (ok : Passed p c b) where
   unfolding newFile isLow
   new-low k l = ltb-true _ _ (all-at (isLow (new .name)) 11 k (name-low (userOf (listOf b) p) (b .fcb) 17) l)
 
-  new-legal : MayRename p b → legalName (new .name) 0 ≡ true
+  new-legal : MayRename kind p b → legalName (new .name) 0 ≡ true
   unfolding newFile
   new-legal w = name-legal (userOf (listOf b) p) (b .fcb) 17 (w .legal-new)
 
@@ -67,40 +69,41 @@ module _ (p c : ℕ) (b : Buffers) (ok : Passed p c b) where
   unfolding callerFile newFile fileFrom
   new-is = refl
 
-  new-none : MayRename p b → (d : ℕ) → d < 64 → isEmpty (b .image) d ≡ false → fileAt (b .image) d ≡ record { user = fileBy p b .user; name = new .name } → ⊥
+  new-none : MayRename kind p b → (d : ℕ) → d < entries kind → isEmpty (b .image) d ≡ false → fileAt (b .image) d ≡ record { user = fileBy p b .user; name = new .name } → ⊥
   new-none w d l u e =
-      let k = image-of .entries .begun d l u in
-      none-there (b .image) new 0 (w .gone-new) (k .0) (k .1)
+      let k = image-of .files .begun d l u in
+      none-there kind (b .image) new 0 (w .gone-new) (k .0) (k .1)
       (record { used = k .2 .used; file = k .2 .file ∙ e ∙ new-is; extent = k .2 .extent })
 
-  pub renamed-of : MayRename p b → SoundImage highest (renamed (fileBy p b) (new .name) (b .image))
-  renamed-of w = renamed-sound (b .image) (fileBy p b) (new .name) image-of (caller-long p (listOf b) (b .fcb)) (new-long p (listOf b) (b .fcb)) new-low (new-legal w) (new-none w)
+  pub renamed-of : MayRename kind p b → SoundImage kind highest (renamed kind (fileBy p b) (new .name) (b .image))
+  renamed-of w = renamed-sound kind (b .image) (fileBy p b) (new .name) image-of (caller-long p (listOf b) (b .fcb)) (new-long p (listOf b) (b .fcb)) new-low (new-legal w) (new-none w)
 
-  pub renamed-touch : MayRename p b → Touches (b .image) (renamed (fileBy p b) (new .name) (b .image)) (fileBy p b) new
+  pub renamed-touch : MayRename kind p b → Touches kind (b .image) (renamed kind (fileBy p b) (new .name) (b .image)) (fileBy p b) new
   renamed-touch w =
-      subst (λ (h : File). Touches (b .image) (renamed (fileBy p b) (new .name) (b .image)) (fileBy p b) h) new-is
-      (renamed-touches (b .image) (fileBy p b) (new .name) image-of (caller-long p (listOf b) (b .fcb)) (new-long p (listOf b) (b .fcb)) new-low (new-legal w) (new-none w))
+      subst (λ (h : File). Touches kind (b .image) (renamed kind (fileBy p b) (new .name) (b .image)) (fileBy p b) h) new-is
+      (renamed-touches kind (b .image) (fileBy p b) (new .name) image-of (caller-long p (listOf b) (b .fcb)) (new-long p (listOf b) (b .fcb)) new-low (new-legal w) (new-none w))
 
-  pub renamed-file : MayRename p b → (e : ℕ) → e < 64 → isOf (b .image) (fileBy p b) e ≡ true → fileAt (renamed (fileBy p b) (new .name) (b .image)) e ≡ new
+  pub renamed-file : MayRename kind p b → (e : ℕ) → e < entries kind → isOf (b .image) (fileBy p b) e ≡ true → fileAt (renamed kind (fileBy p b) (new .name) (b .image)) e ≡ new
   renamed-file w e l h =
-      renamed-new (b .image) (fileBy p b) (new .name) image-of (caller-long p (listOf b) (b .fcb)) (new-long p (listOf b) (b .fcb)) new-low (new-legal w) (new-none w) e l h
+      renamed-new kind (b .image) (fileBy p b) (new .name) image-of (caller-long p (listOf b) (b .fcb)) (new-long p (listOf b) (b .fcb)) new-low (new-legal w) (new-none w) e l h
       ∙ new-is
 
   -- 34, 40, 41
-  pub written-of : MayWrite p b → (zeros : Bool) (v : List ℕ) → 128 ≤ length v → Old (b .image) (imageWritten zeros p b v) (fileBy p b) (recordOf (b .fcb)) ⊎ New (b .image) (imageWritten zeros p b v) (fileBy p b) (recordOf (b .fcb))
+  pub written-of : MayWrite kind p b → (zeros : Bool) (v : List ℕ) → 128 ≤ length v
+      → Old kind (b .image) (imageWritten kind zeros p b v) (fileBy p b) (recordOf (b .fcb)) ⊎ New kind (b .image) (imageWritten kind zeros p b v) (fileBy p b) (recordOf (b .fcb))
   written-of w zeros v full =
-      written-step zeros (b .image) (fileBy p b) (recordOf (b .fcb)) v image-of (caller-long p (listOf b) (b .fcb)) (let k = w .fits in omega arith)
-      (own-there (b .image) p c b ok shape-of list-of (w .is-open)) full (w .entry-room) (w .block-room)
+      written-step kind zeros (b .image) (fileBy p b) (recordOf (b .fcb)) v image-of (caller-long p (listOf b) (b .fcb)) (let k = w .fits in omega arith)
+      (own-there kind (b .image) p c b ok shape-of list-of (w .is-open)) full (w .entry-room) (w .block-room)
 
   -- 42
-  pub takes-of : MayLock p c b → Takes (b .image) (listOf b) p (fileBy p b) (recordOf (b .fcb)) c
+  pub takes-of : MayLock kind p c b → Takes kind (b .image) (listOf b) p (fileBy p b) (recordOf (b .fcb)) c
   takes-of w = record {
     process-fits = let m = ok .process-fits in omega arith;
     under = caller-user p (listOf b) (b .fcb);
     name-long = caller-long p (listOf b) (b .fcb);
-    legal = own-legal (b .image) p c b ok shape-of list-of (w .is-open);
+    legal = own-legal kind (b .image) p c b ok shape-of list-of (w .is-open);
     low = caller-low p (listOf b) (b .fcb);
-    holder = own-holder (b .image) p c b ok shape-of list-of (w .is-open) (w .is-unlocked);
+    holder = own-holder kind (b .image) p c b ok shape-of list-of (w .is-open) (w .is-unlocked);
     fits = λ k l. let m = w .fits in omega arith;
     have-blocks = w .have-blocks;
     none-others = w .none-others;

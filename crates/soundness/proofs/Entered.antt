@@ -17,19 +17,23 @@ use Rattle.words.proofs.Tests.{either, equal?, never, and-fst, and-snd, lowest-
 use Rattle.words.proofs.Lists.{tab-ext}
 use Rattle.words.proofs.Bytes.{put-in, put-out, length-put}
 use Rattle.words.proofs.Sets.{and-both}
+use Rattle.rules.specs.declared.kind.Kind.{Kind}
+use Rattle.rules.specs.Kinds.{entries}
 use Rattle.rules.specs.declared.file.File.{File}
 use Rattle.rules.specs.Drive.{highest, isEmpty, nameAt, extentAt, mapNumber, fileFrom, fileAt, isEntry, entryOf, freeEntry, legalByte, legalAt, legalName, goodUser, goodNumbers, goodFields}
 use Rattle.rules.specs.Effects.{madeEntry, made, newEntry}
+use Rattle.rules.proofs.Sizes.{map-bytes}
 use Rattle.rules.proofs.Sound.{Is, Names, SoundImage, entry-so, found-is, length-long}
 use Rattle.rules.proofs.Frames.{Same, head-of, empty-same, extent-same, file-same, fields-same, map-same, names-same, user-good, user-is, long-same}
+use Rattle.soundness.proofs.Numbers.{map-none}
 use Rattle.soundness.proofs.Steps.{Stays, enters, fewer}
 use Rattle.soundness.proofs.Changes.{Change}
 
 -- ---- an entry v in place n
 
-module _ (s v : List ℕ) (n : ℕ) (g : SoundImage highest s) (below : n < 64) (size : length v ≡ 32) where
+module _ (kind : Kind) (s v : List ℕ) (n : ℕ) (g : SoundImage kind highest s) (below : n < entries kind) (size : length v ≡ 32) where
   fits : 32 * n + length v ≤ length s
-  fits = omega (arith, length-long s (g .long))
+  fits = omega (arith, length-long kind s (g .long))
 
   around : (e : ℕ) → (e ≡ n → ⊥) → Same s e (put (32 * n) v s) e
   around e q = record {
@@ -42,24 +46,24 @@ module _ (s v : List ℕ) (n : ℕ) (g : SoundImage highest s) (below : n < 64) 
   within : Same v 0 (put (32 * n) v s) n
   within = record { at = λ k l. put-in (32 * n) v s fits k (omega arith) ∙ ap (λ (j : ℕ). byte v j) (sym (zero-add k)) }
 
-  pub put-stays : ((k : ℕ) → k < 16 → byte v (16 + k) ≡ 0) → (e k : ℕ) → Names (put (32 * n) v s) e k → Stays s (put (32 * n) v s) e k
+  pub put-stays : ((k : ℕ) → k < 16 → byte v (16 + k) ≡ 0) → (e k : ℕ) → Names kind (put (32 * n) v s) e k → Stays kind s (put (32 * n) v s) e k
   put-stays zs e k m =
       ⊎-elim
       (λ (q : e ≡ n).
       let l = m .place-there in
-      let z : mapNumber (put (32 * n) v s) e k ≡ 0 = rw q (within .at (16 + k) (omega arith) ∙ ap (λ (j : ℕ). byte v j) (zero-add (16 + k)) ∙ zs k l) in
+      let z : mapNumber kind (put (32 * n) v s) e k ≡ 0 = rw q (map-bytes kind v (put (32 * n) v s) 0 n k l (within .at) ∙ map-none kind v k l zs) in
       absurd (m .some z))
       (λ (q : e ≡ n → ⊥).
       let w = around e q in
-      let y = map-same s (put (32 * n) v s) e k w (m .place-there) in
-      record { named = names-same s (put (32 * n) v s) e k (empty-same s e (put (32 * n) v s) e (head-of s e (put (32 * n) v s) e w)) y m; number = y })
+      let y = map-same kind s (put (32 * n) v s) e k w (m .place-there) in
+      record { named = names-same kind s (put (32 * n) v s) e k (empty-same s e (put (32 * n) v s) e (head-of s e (put (32 * n) v s) e w)) y m; number = y })
       (equal? e n)
 
   pub entry-put : isEmpty s n ≡ true → isEmpty v 0 ≡ false → goodFields highest v 0 ≡ true
       → ((k : ℕ) → k < 16 → byte v (16 + k) ≡ 0)
-      → ((d : ℕ) → d < 64 → Is s (fileAt v 0) (extentAt v 0) d → ⊥)
-      → ((extentAt v 0 ≡ 0) ⊎ ((d : ℕ) × (d < 64) × Is s (fileAt v 0) 0 d))
-      → (a m i j : ℕ) → Change s (put (32 * n) v s) (fileAt v 0) a m i j
+      → ((d : ℕ) → d < entries kind → Is s (fileAt v 0) (extentAt v 0) d → ⊥)
+      → ((extentAt v 0 ≡ 0) ⊎ ((d : ℕ) × (d < entries kind) × Is s (fileAt v 0) 0 d))
+      → (a m i j : ℕ) → Change kind s (put (32 * n) v s) (fileAt v 0) a m i j
   entry-put was u good zs new begun a m i j =
       let t = put (32 * n) v s in
       let h = head-of v 0 t n within in
@@ -69,15 +73,15 @@ module _ (s v : List ℕ) (n : ℕ) (g : SoundImage highest s) (below : n < 64) 
       let not-n : (e : ℕ) → isEmpty s e ≡ false → e ≡ n → ⊥ = λ e w q. never was (ap (λ (i : ℕ). isEmpty s i) (sym q) ∙ w) in
       record {
         sound = record {
-          long = long-same s t len (g .long);
-          entries = enters s t n below was (λ e l q. around e q) (fields-same v 0 t n within good)
-              (rw (f, x) new) (rw (f, x) begun) (empty-same v 0 t n h ∙ u) (g .entries);
-          maps = fewer s t len (put-stays zs) (g .maps);
+          long = long-same kind s t len (g .long);
+          files = enters kind s t n below was (λ e l q. around e q) (fields-same v 0 t n within good)
+              (rw (f, x) new) (rw (f, x) begun) (empty-same v 0 t n h ∙ u) (g .files);
+          maps = fewer kind s t len (put-stays zs) (g .maps);
         };
         rest = λ e k w. inr (put-stays zs e k w);
         grown = record {
           head = λ e l w. head-of s e t e (around e (not-n e w));
-          number = λ e k w. map-same s t e k (around e (not-n e (w .entry-used))) (w .place-there);
+          number = λ e k w. map-same kind s t e k (around e (not-n e (w .entry-used))) (w .place-there);
         };
         touches = record {
           long = len;
@@ -90,13 +94,13 @@ module _ (s v : List ℕ) (n : ℕ) (g : SoundImage highest s) (below : n < 64) 
 
 -- ---- the lowest empty entry, and what is missing
 
-pub free-empty : (s : List ℕ) → freeEntry s < 64 → isEmpty s (freeEntry s) ≡ true
+pub free-empty : (kind : Kind) (s : List ℕ) → freeEntry kind s < entries kind → isEmpty s (freeEntry kind s) ≡ true
 unfolding freeEntry
-free-empty s h = lowest-holds (isEmpty s) 64 h
+free-empty kind s h = lowest-holds (isEmpty s) (entries kind) h
 
-pub none-there : (s : List ℕ) (f : File) (x : ℕ) → 64 ≤ entryOf s f x → (d : ℕ) → d < 64 → Is s f x d → ⊥
+pub none-there : (kind : Kind) (s : List ℕ) (f : File) (x : ℕ) → entries kind ≤ entryOf kind s f x → (d : ℕ) → d < entries kind → Is s f x d → ⊥
 unfolding entryOf
-none-there s f x h d l w = never (entry-so s f x d w) (lowest-over (isEntry s f x) 64 d h l)
+none-there kind s f x h d l w = never (entry-so s f x d w) (lowest-over (isEntry s f x) (entries kind) d h l)
 
 not-229 : (u : ℕ) → u ≤ 15 → eqb u 229 ≡ false
 not-229 u h = ne-eqb u 229 (λ (q : u ≡ 229). absurd (omega arith))
@@ -106,8 +110,8 @@ not-229 u h = ne-eqb u 229 (λ (q : u ≡ 229). absurd (omega arith))
 pub low-low : (b : ℕ) → b % 128 % 128 ≡ b % 128
 low-low b = omega arith
 
-module _ (s fcb : List ℕ) (u : ℕ) (g : SoundImage highest s) (user : u ≤ 15) (legal : legalName fcb 1 ≡ true)
-    (gone : 64 ≤ entryOf s (fileFrom u fcb 1) 0) (room : freeEntry s < 64) where
+module _ (kind : Kind) (s fcb : List ℕ) (u : ℕ) (g : SoundImage kind highest s) (user : u ≤ 15) (legal : legalName fcb 1 ≡ true)
+    (gone : entries kind ≤ entryOf kind s (fileFrom u fcb 1) 0) (room : freeEntry kind s < entries kind) where
   abbrev newcomer : List ℕ
   newcomer = fileFrom u fcb 1 .user ∷ (fileFrom u fcb 1 .name ++ replicate 20 0)
 
@@ -124,37 +128,37 @@ module _ (s fcb : List ℕ) (u : ℕ) (g : SoundImage highest s) (user : u ≤ 1
   new-zeros k l =
       getD-append-add (u ∷ (tab (lowFrom fcb 1) 11 ++ replicate 4 0)) (replicate 16 0) k 0 ∙ getD-replicate 16 k 0 0 l
 
-  pub made-change : (a m i j : ℕ) → Change s (made (freeEntry s) (fileFrom u fcb 1) s) (fileFrom u fcb 1) a m i j
+  pub made-change : (a m i j : ℕ) → Change kind s (made (freeEntry kind s) (fileFrom u fcb 1) s) (fileFrom u fcb 1) a m i j
   unfolding made madeEntry isEmpty fileFrom tab
   made-change a m i j =
-      subst (λ (f : File). Change s (put (32 * freeEntry s) newcomer s) f a m i j) new-file
-      (entry-put s newcomer (freeEntry s) g room refl (free-empty s room) (not-229 u user) new-good new-zeros
-      (rw new-file (none-there s (fileFrom u fcb 1) 0 gone)) (inl refl) a m i j)
+      subst (λ (f : File). Change kind s (put (32 * freeEntry kind s) newcomer s) f a m i j) new-file
+      (entry-put kind s newcomer (freeEntry kind s) g room refl (free-empty kind s room) (not-229 u user) new-good new-zeros
+      (rw new-file (none-there kind s (fileFrom u fcb 1) 0 gone)) (inl refl) a m i j)
 
   -- the new entry, as it stands there
-  pub made-is : Is (made (freeEntry s) (fileFrom u fcb 1) s) (fileFrom u fcb 1) 0 (freeEntry s)
+  pub made-is : Is (made (freeEntry kind s) (fileFrom u fcb 1) s) (fileFrom u fcb 1) 0 (freeEntry kind s)
   unfolding made madeEntry isEmpty fileFrom tab
   made-is =
-      let t = put (32 * freeEntry s) newcomer s in
-      let h = head-of newcomer 0 t (freeEntry s) (within s newcomer (freeEntry s) g room refl) in
+      let t = put (32 * freeEntry kind s) newcomer s in
+      let h = head-of newcomer 0 t (freeEntry kind s) (within kind s newcomer (freeEntry kind s) g room refl) in
       record {
-        used = empty-same newcomer 0 t (freeEntry s) h ∙ not-229 u user;
-        file = file-same newcomer 0 t (freeEntry s) h ∙ new-file;
-        extent = extent-same newcomer 0 t (freeEntry s) h;
+        used = empty-same newcomer 0 t (freeEntry kind s) h ∙ not-229 u user;
+        file = file-same newcomer 0 t (freeEntry kind s) h ∙ new-file;
+        extent = extent-same newcomer 0 t (freeEntry kind s) h;
       }
 
 -- ---- a missing extent
 
-module _ (s : List ℕ) (f : File) (x : ℕ) (g : SoundImage highest s) (named : length (f .name) ≡ 11) (far : x < 2048)
-    (there : entryOf s f 0 < 64) (gone : 64 ≤ entryOf s f x) (room : freeEntry s < 64) where
+module _ (kind : Kind) (s : List ℕ) (f : File) (x : ℕ) (g : SoundImage kind highest s) (named : length (f .name) ≡ 11) (far : x < 2048)
+    (there : entryOf kind s f 0 < entries kind) (gone : entries kind ≤ entryOf kind s f x) (room : freeEntry kind s < entries kind) where
   abbrev fresh : List ℕ
-  fresh = newEntry s (entryOf s f 0) f x
+  fresh = newEntry s (entryOf kind s f 0) f x
 
-  zeroth : Is s f 0 (entryOf s f 0)
-  zeroth = found-is s f 0 named there
+  zeroth : Is s f 0 (entryOf kind s f 0)
+  zeroth = found-is kind s f 0 named there
 
-  zeroth-good : goodFields highest s (entryOf s f 0) ≡ true
-  zeroth-good = g .entries .fields (entryOf s f 0) there (zeroth .used)
+  zeroth-good : goodFields highest s (entryOf kind s f 0) ≡ true
+  zeroth-good = g .files .fields (entryOf kind s f 0) there (zeroth .used)
 
   ext-file : fileAt fresh 0 ≡ f
   unfolding newEntry fileAt fileFrom tab
@@ -165,9 +169,9 @@ module _ (s : List ℕ) (f : File) (x : ℕ) (g : SoundImage highest s) (named :
   ext-extent = omega arith
 
   user-fits : f .user ≤ 15
-  user-fits = let q = user-good s (entryOf s f 0) zeroth-good in omega (arith, user-is s f (entryOf s f 0) (zeroth .file))
+  user-fits = let q = user-good s (entryOf kind s f 0) zeroth-good in omega (arith, user-is s f (entryOf kind s f 0) (zeroth .file))
 
-  ext-legal : legalName fresh 1 ≡ legalName s (nameAt (entryOf s f 0))
+  ext-legal : legalName fresh 1 ≡ legalName s (nameAt (entryOf kind s f 0))
   unfolding newEntry legalName legalAt tab all
   ext-legal = simp add-zero
 
@@ -181,7 +185,7 @@ module _ (s : List ℕ) (f : File) (x : ℕ) (g : SoundImage highest s) (named :
   ext-zeros : (k : ℕ) → k < 16 → byte fresh (16 + k) ≡ 0
   unfolding newEntry tab
   ext-zeros k l =
-      getD-append-add (f .user ∷ (tab (byteFrom s (nameAt (entryOf s f 0))) 11 ++ (x % 32 ∷ 0 ∷ x / 32 ∷ 0 ∷ []))) (replicate 16 0) k 0 ∙ getD-replicate 16 k 0 0 l
+      getD-append-add (f .user ∷ (tab (byteFrom s (nameAt (entryOf kind s f 0))) 11 ++ (x % 32 ∷ 0 ∷ x / 32 ∷ 0 ∷ []))) (replicate 16 0) k 0 ∙ getD-replicate 16 k 0 0 l
 
   ext-long : length fresh ≡ 32
   unfolding newEntry tab
@@ -191,22 +195,22 @@ module _ (s : List ℕ) (f : File) (x : ℕ) (g : SoundImage highest s) (named :
   unfolding newEntry isEmpty
   ext-used = not-229 (f .user) user-fits
 
-  pub entered-stays : (e k : ℕ) → Names (put (32 * freeEntry s) fresh s) e k → Stays s (put (32 * freeEntry s) fresh s) e k
-  entered-stays = put-stays s fresh (freeEntry s) g room ext-long ext-zeros
+  pub entered-stays : (e k : ℕ) → Names kind (put (32 * freeEntry kind s) fresh s) e k → Stays kind s (put (32 * freeEntry kind s) fresh s) e k
+  entered-stays = put-stays kind s fresh (freeEntry kind s) g room ext-long ext-zeros
 
   -- the new entry, as it stands there
-  pub entered-is : Is (put (32 * freeEntry s) fresh s) f x (freeEntry s)
+  pub entered-is : Is (put (32 * freeEntry kind s) fresh s) f x (freeEntry kind s)
   entered-is =
-      let t = put (32 * freeEntry s) fresh s in
-      let h = head-of fresh 0 t (freeEntry s) (within s fresh (freeEntry s) g room ext-long) in
+      let t = put (32 * freeEntry kind s) fresh s in
+      let h = head-of fresh 0 t (freeEntry kind s) (within kind s fresh (freeEntry kind s) g room ext-long) in
       record {
-        used = empty-same fresh 0 t (freeEntry s) h ∙ ext-used;
-        file = file-same fresh 0 t (freeEntry s) h ∙ ext-file;
-        extent = extent-same fresh 0 t (freeEntry s) h ∙ ext-extent;
+        used = empty-same fresh 0 t (freeEntry kind s) h ∙ ext-used;
+        file = file-same fresh 0 t (freeEntry kind s) h ∙ ext-file;
+        extent = extent-same fresh 0 t (freeEntry kind s) h ∙ ext-extent;
       }
 
-  pub entered-change : (a m i j : ℕ) → Change s (put (32 * freeEntry s) fresh s) f a m i j
+  pub entered-change : (a m i j : ℕ) → Change kind s (put (32 * freeEntry kind s) fresh s) f a m i j
   entered-change a m i j =
-      subst (λ (h : File). Change s (put (32 * freeEntry s) fresh s) h a m i j) ext-file
-      (entry-put s fresh (freeEntry s) g room ext-long (free-empty s room) ext-used ext-good ext-zeros
-      (rw (ext-file, ext-extent) (none-there s f x gone)) (inr (rw ext-file (entryOf s f 0, there, zeroth))) a m i j)
+      subst (λ (h : File). Change kind s (put (32 * freeEntry kind s) fresh s) h a m i j) ext-file
+      (entry-put kind s fresh (freeEntry kind s) g room ext-long (free-empty kind s room) ext-used ext-good ext-zeros
+      (rw (ext-file, ext-extent) (none-there kind s f x gone)) (inr (rw ext-file (entryOf kind s f 0, there, zeroth))) a m i j)

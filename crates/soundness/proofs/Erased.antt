@@ -11,6 +11,8 @@ use borrow.Author.Tests.{eq-eqb}
 use Rattle.words.specs.Tests.{_if_else_}
 use Rattle.words.specs.Bytes.{byte}
 use Rattle.words.proofs.Tests.{either, equal?, never}
+use Rattle.rules.specs.declared.kind.Kind.{Kind}
+use Rattle.rules.specs.Kinds.{entries}
 use Rattle.rules.specs.declared.file.File.{File}
 use Rattle.rules.specs.Drive.{highest, isEmpty, fileAt, isOf}
 use Rattle.rules.specs.Effects.{erasedAt, erased}
@@ -21,7 +23,7 @@ use Rattle.soundness.proofs.Stored.{stays-same}
 use Rattle.soundness.proofs.Changes.{Touches}
 use Rattle.soundness.proofs.Turns.{Turned, turned}
 
-module _ (s : List ℕ) (f : File) (g : SoundImage highest s) (size : length (f .name) ≡ 11) where
+module _ (kind : Kind) (s : List ℕ) (f : File) (g : SoundImage kind highest s) (size : length (f .name) ≡ 11) where
   erase-same : (t : List ℕ) (e : ℕ) → isOf t f e ≡ false → erasedAt f e t ≡ t
   unfolding erasedAt _if_else_
   erase-same t e h = rw h
@@ -30,7 +32,7 @@ module _ (s : List ℕ) (f : File) (g : SoundImage highest s) (size : length (f 
   unfolding erasedAt _if_else_
   erase-it t e h = rw h
 
-  erase-long : (t : List ℕ) (e : ℕ) → e < 64 → length t ≡ length s → length (erasedAt f e t) ≡ length t
+  erase-long : (t : List ℕ) (e : ℕ) → e < entries kind → length t ≡ length s → length (erasedAt f e t) ≡ length t
   erase-long t e l q = ⊎-elim (λ h. ap length (erase-it t e h) ∙ length-set t (32 * e) 229) (λ h. ap length (erase-same t e h)) (either (isOf t f e))
 
   erase-byte : (t : List ℕ) (e i : ℕ) → (i ≡ 32 * e → ⊥) → byte (erasedAt f e t) i ≡ byte t i
@@ -38,16 +40,16 @@ module _ (s : List ℕ) (f : File) (g : SoundImage highest s) (size : length (f 
       ⊎-elim (λ (h : isOf t f e ≡ true). rw (erase-it t e h) (getD-set-other t (32 * e) i 229 0 n))
       (λ (h : isOf t f e ≡ false). rw (erase-same t e h) refl) (either (isOf t f e))
 
-  erase-frame : (t : List ℕ) (e d : ℕ) → e < 64 → length t ≡ length s → (d ≡ e → ⊥) → Same t d (erasedAt f e t) d
+  erase-frame : (t : List ℕ) (e d : ℕ) → e < entries kind → length t ≡ length s → (d ≡ e → ⊥) → Same t d (erasedAt f e t) d
   erase-frame t e d l q n = record { at = λ k m. erase-byte t e (32 * d + k) (λ (z : 32 * d + k ≡ 32 * e). n (omega arith)) }
 
-  erase-beyond : (t : List ℕ) (e i : ℕ) → e < 64 → length t ≡ length s → 2048 ≤ i → byte (erasedAt f e t) i ≡ byte t i
+  erase-beyond : (t : List ℕ) (e i : ℕ) → e < entries kind → length t ≡ length s → 32 * entries kind ≤ i → byte (erasedAt f e t) i ≡ byte t i
   erase-beyond t e i l q k = erase-byte t e i (λ (z : i ≡ 32 * e). absurd (omega arith))
 
-  set-first : (t : List ℕ) (e : ℕ) → e < 64 → length t ≡ length s → byte (set t (32 * e) 229) (32 * e) ≡ 229
-  set-first t e l q = getD-set-same t (32 * e) 229 0 (let w = length-long s (g .long) in omega arith)
+  set-first : (t : List ℕ) (e : ℕ) → e < entries kind → length t ≡ length s → byte (set t (32 * e) 229) (32 * e) ≡ 229
+  set-first t e l q = getD-set-same t (32 * e) 229 0 (let w = length-long kind s (g .long) in omega arith)
 
-  erase-local : (t : List ℕ) (e : ℕ) → e < 64 → length t ≡ length s → Same s e t e → Same (erasedAt f e s) e (erasedAt f e t) e
+  erase-local : (t : List ℕ) (e : ℕ) → e < entries kind → length t ≡ length s → Same s e t e → Same (erasedAt f e s) e (erasedAt f e t) e
   erase-local t e l q h =
       let o = of-same s e t e (head-of s e t e h) f in
       ⊎-elim
@@ -64,40 +66,40 @@ module _ (s : List ℕ) (f : File) (g : SoundImage highest s) (size : length (f 
       }))
       (λ (y : isOf s f e ≡ false). rw (erase-same s e y, erase-same t e (o ∙ y)) h) (either (isOf s f e))
 
-  pub all-erased : Turned (erasedAt f) s 64 (erased f s)
+  pub all-erased : Turned kind (erasedAt f) s (entries kind) (erased kind f s)
   unfolding erased
-  all-erased = turned (erasedAt f) s erase-long erase-frame erase-local erase-beyond 64 (omega arith)
+  all-erased = turned kind (erasedAt f) s erase-long erase-frame erase-local erase-beyond (entries kind) (omega arith)
 
   -- the file's entries are empty, the others as they were
-  pub erased-gone : (e : ℕ) → e < 64 → isOf s f e ≡ true → isEmpty (erased f s) e ≡ true
+  pub erased-gone : (e : ℕ) → e < entries kind → isOf s f e ≡ true → isEmpty (erased kind f s) e ≡ true
   unfolding isEmpty
   erased-gone e l h =
-      let w : Same (set s (32 * e) 229) e (erased f s) e = rw (erase-it s e h) at (all-erased .done e l l) in
-      eq-eqb _ _ (first (set s (32 * e) 229) e (erased f s) e (head-of (set s (32 * e) 229) e (erased f s) e w) ∙ set-first s e l refl)
+      let w : Same (set s (32 * e) 229) e (erased kind f s) e = rw (erase-it s e h) at (all-erased .done e l l) in
+      eq-eqb _ _ (first (set s (32 * e) 229) e (erased kind f s) e (head-of (set s (32 * e) 229) e (erased kind f s) e w) ∙ set-first s e l refl)
 
-  pub erased-kept : (e : ℕ) → e < 64 → isOf s f e ≡ false → Same s e (erased f s) e
+  pub erased-kept : (e : ℕ) → e < entries kind → isOf s f e ≡ false → Same s e (erased kind f s) e
   erased-kept e l h = rw (erase-same s e h) at (all-erased .done e l l)
 
-  still : (e : ℕ) → e < 64 → isEmpty (erased f s) e ≡ false → Same s e (erased f s) e
+  still : (e : ℕ) → e < entries kind → isEmpty (erased kind f s) e ≡ false → Same s e (erased kind f s) e
   still e l u = ⊎-elim (λ h. absurd (never (erased-gone e l h) u)) (λ h. erased-kept e l h) (either (isOf s f e))
 
-  heads : (e : ℕ) → e < 64 → isEmpty (erased f s) e ≡ false → Head s e (erased f s) e
-  heads e l u = head-of s e (erased f s) e (still e l u)
+  heads : (e : ℕ) → e < entries kind → isEmpty (erased kind f s) e ≡ false → Head s e (erased kind f s) e
+  heads e l u = head-of s e (erased kind f s) e (still e l u)
 
-  files : (e : ℕ) → e < 64 → isEmpty (erased f s) e ≡ false → fileAt (erased f s) e ≡ fileAt s e
-  files e l u = file-same s e (erased f s) e (heads e l u)
+  files : (e : ℕ) → e < entries kind → isEmpty (erased kind f s) e ≡ false → fileAt (erased kind f s) e ≡ fileAt s e
+  files e l u = file-same s e (erased kind f s) e (heads e l u)
 
-  pub erased-stays : (e k : ℕ) → Names (erased f s) e k → Stays s (erased f s) e k
+  pub erased-stays : (e k : ℕ) → Names kind (erased kind f s) e k → Stays kind s (erased kind f s) e k
   erased-stays e k n =
       let w = still e (n .entry-there) (n .entry-used) in
-      stays-same s (erased f s) e k (head-of s e (erased f s) e w) (map-same s (erased f s) e k w (n .place-there)) n
+      stays-same kind s (erased kind f s) e k (head-of s e (erased kind f s) e w) (map-same kind s (erased kind f s) e k w (n .place-there)) n
 
-  pub erased-sound : SoundImage highest (erased f s)
+  pub erased-sound : SoundImage kind highest (erased kind f s)
   erased-sound =
-      let t = erased f s in
+      let t = erased kind f s in
       record {
-        long = long-same s t (all-erased .len) (g .long);
-        entries = moves s t (λ e l u. sym (empty-same s e t e (heads e l u)) ∙ u) (λ e l u q. fields-same s e t e (still e l u) q)
+        long = long-same kind s t (all-erased .len) (g .long);
+        files = moves kind s t (λ e l u. sym (empty-same s e t e (heads e l u)) ∙ u) (λ e l u q. fields-same s e t e (still e l u) q)
             (λ e l u. extent-same s e t e (heads e l u)) (λ d e k l u v q. sym (files d k u) ∙ q ∙ files e l v)
             (λ d e k l u v q.
             let p = ⊎-elim (λ (h : isOf s f d ≡ true).
@@ -105,11 +107,11 @@ module _ (s : List ℕ) (f : File) (g : SoundImage highest s) (size : length (f 
             (λ (h : isOf s f d ≡ false). erased-kept d k h) (either (isOf s f d)) in
             let h = head-of s d t d p in
             (empty-same s d t d h ∙ u, file-same s d t d h ∙ q ∙ sym (files e l v)))
-            (g .entries);
-        maps = fewer s t (all-erased .len) erased-stays (g .maps);
+            (g .files);
+        maps = fewer kind s t (all-erased .len) erased-stays (g .maps);
       }
 
-  pub erased-touches : Touches s (erased f s) f f
+  pub erased-touches : Touches kind s (erased kind f s) f f
   erased-touches = record {
     long = all-erased .len;
     entry = λ e l. ⊎-elim

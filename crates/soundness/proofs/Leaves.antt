@@ -7,6 +7,8 @@ use mathlib.Core.Logic.{_⊎_}
 use lib.ListN.{length}
 use lib.Dec.{eqb, leb}
 use Rattle.words.specs.Tests.{_and_, any, count}
+use Rattle.rules.specs.declared.kind.Kind.{Kind}
+use Rattle.rules.specs.Kinds.{entries}
 use Rattle.rules.specs.declared.file.File.{File}
 use Rattle.rules.specs.declared.list.LockList.{LockList}
 use Rattle.rules.specs.declared.routine.Routine.the-variants.{Open, Close, Delete, Make, Rename, Read, Write, WriteZeros, TestWrite, Lock, Unlock, FreeSpace, Terminate}
@@ -41,45 +43,46 @@ pub record OpensAgain (p : ℕ) (b : Buffers) : Type 0 where
   pub is-open : openBy p b < 64
   pub same-mode : modeBy p b ≡ openMode (b .fcb)
 
-pub record MayOpen (p : ℕ) (b : Buffers) : Type 0 where
+pub record MayOpen (kind : Kind) (p : ℕ) (b : Buffers) : Type 0 where
   pub legal : legalName (b .fcb) 1 ≡ true
-  pub there : entryOf (b .image) (fileBy p b) 0 < 64
+  pub there : entryOf kind (b .image) (fileBy p b) 0 < entries kind
   pub unopened : 64 ≤ openBy p b
   pub none-against : any (standsAgainstAt (listOf b) p (fileBy p b) (openMode (b .fcb))) 64 ≡ false
   pub within : opensBy (listOf b) p < listOf b .openlimit
   pub room : freePlace (listOf b) < listOf b .capacity
 
-pub record MayMake (p : ℕ) (b : Buffers) : Type 0 where
+pub record MayMake (kind : Kind) (p : ℕ) (b : Buffers) : Type 0 where
   pub legal : legalName (b .fcb) 1 ≡ true
-  pub gone : 64 ≤ entryOf (b .image) (fileBy p b) 0
+  pub gone : entries kind ≤ entryOf kind (b .image) (fileBy p b) 0
   pub within : opensBy (listOf b) p < listOf b .openlimit
   pub room : freePlace (listOf b) < listOf b .capacity
-  pub entry-room : freeEntry (b .image) < 64
+  pub entry-room : freeEntry kind (b .image) < entries kind
 
-pub record MayDelete (p : ℕ) (b : Buffers) : Type 0 where
+pub record MayDelete (kind : Kind) (p : ℕ) (b : Buffers) : Type 0 where
   pub legal : legalName (b .fcb) 1 ≡ true
-  pub there : entryOf (b .image) (fileBy p b) 0 < 64
+  pub there : entryOf kind (b .image) (fileBy p b) 0 < entries kind
   pub unopened : anyOpen (listOf b) (fileBy p b) ≡ false
 
-pub record MayRename (p : ℕ) (b : Buffers) : Type 0 where
+pub record MayRename (kind : Kind) (p : ℕ) (b : Buffers) : Type 0 where
   pub legal : legalName (b .fcb) 1 ≡ true
   pub legal-new : legalName (b .fcb) 17 ≡ true
-  pub there : entryOf (b .image) (fileBy p b) 0 < 64
+  pub there : entryOf kind (b .image) (fileBy p b) 0 < entries kind
   pub unopened : anyOpen (listOf b) (fileBy p b) ≡ false
-  pub gone-new : 64 ≤ entryOf (b .image) (newBy p b) 0
+  pub gone-new : entries kind ≤ entryOf kind (b .image) (newBy p b) 0
 
-pub record MayWrite (p : ℕ) (b : Buffers) : Type 0 where
+pub record MayWrite (kind : Kind) (p : ℕ) (b : Buffers) : Type 0 where
   pub is-open : openBy p b < 64
   pub fits : recordOf (b .fcb) ≤ 262143
   pub unlocked-by-others : lockedByOther (listOf b) p (fileBy p b) (recordOf (b .fcb)) ≡ false
-  pub entry-room : (leb 64 (entryOf (b .image) (fileBy p b) (recordOf (b .fcb) / 128)) and leb 64 (freeEntry (b .image))) ≡ false
-  pub block-room : (eqb (blockIn (b .image) (entryOf (b .image) (fileBy p b) (recordOf (b .fcb) / 128)) (recordOf (b .fcb))) 0 and leb (blocks (b .image)) (freeBlock (b .image))) ≡ false
+  pub entry-room : (leb (entries kind) (entryOf kind (b .image) (fileBy p b) (recordOf (b .fcb) / 128)) and leb (entries kind) (freeEntry kind (b .image))) ≡ false
+  pub block-room : (eqb (blockIn kind (b .image) (entryOf kind (b .image) (fileBy p b) (recordOf (b .fcb) / 128)) (recordOf (b .fcb))) 0
+      and leb (blocks kind (b .image)) (freeBlock kind (b .image))) ≡ false
 
-pub record MayLock (p c : ℕ) (b : Buffers) : Type 0 where
+pub record MayLock (kind : Kind) (p c : ℕ) (b : Buffers) : Type 0 where
   pub is-open : openBy p b < 64
   pub is-unlocked : modeBy p b ≡ 1
   pub fits : recordOf (b .fcb) + c - 1 ≤ 262143
-  pub have-blocks : (k : ℕ) → k < c → blockOf (b .image) (fileBy p b) (recordOf (b .fcb) + k) ≡ 0 → ⊥
+  pub have-blocks : (k : ℕ) → k < c → blockOf kind (b .image) (fileBy p b) (recordOf (b .fcb) + k) ≡ 0 → ⊥
   pub none-others : (k : ℕ) → k < c → lockedByOther (listOf b) p (fileBy p b) (recordOf (b .fcb) + k) ≡ false
   pub within : locksBy (listOf b) p + c ≤ listOf b .locklimit
   pub room : count (isNew (listOf b) p (fileBy p b) (recordOf (b .fcb))) c ≤ freePlaces (listOf b)
@@ -94,27 +97,31 @@ pub record Idle (p : ℕ) (b : Buffers) : Type 0 where
   pub not-unlocked : modeBy p b ≡ 1 → ⊥
 
 -- ---- the image after a write, from the DMA's bytes v
-abbrev pub imageWritten : Bool → ℕ → Buffers → List ℕ → List ℕ
-imageWritten zeros p b v =
-    written zeros (spotAt (b .image) (entryOf (b .image) (fileBy p b) (recordOf (b .fcb) / 128)) (recordOf (b .fcb)))
-    (entryOf (b .image) (fileBy p b) 0) (fileBy p b) (recordOf (b .fcb)) v (b .image)
+abbrev pub imageWritten : Kind → Bool → ℕ → Buffers → List ℕ → List ℕ
+imageWritten kind zeros p b v =
+    written kind zeros (spotAt kind (b .image) (entryOf kind (b .image) (fileBy p b) (recordOf (b .fcb) / 128)) (recordOf (b .fcb)))
+    (entryOf kind (b .image) (fileBy p b) 0) (fileBy p b) (recordOf (b .fcb)) v (b .image)
 
 -- ---- the leaves
 
-pub data Leaf (n p c : ℕ) (b : Buffers) : Outcome → Type 0 where
-  refused : (code : ℕ) → (code ≡ 0 → ⊥) → Leaf n p c b (outcome code b)
-  reopened : chosen n ≡ Call Open → Passed p c b → OpensAgain p b → (fcb : List ℕ) → Leaf n p c b (accept (buffers fcb (b .dma) (b .list) (b .image)))
-  newlyOpened : chosen n ≡ Call Open → Passed p c b → MayOpen p b → (fcb : List ℕ) → Leaf n p c b (accept (buffers fcb (b .dma) (pack (opened p (fileBy p b) (openMode (b .fcb)) (listOf b))) (b .image)))
-  newlyMade : chosen n ≡ Call Make → Passed p c b → MayMake p b → (fcb : List ℕ) → Leaf n p c b (accept (buffers fcb (b .dma) (pack (opened p (fileBy p b) (makeMode (b .fcb)) (listOf b))) (made (freeEntry (b .image)) (fileBy p b) (b .image))))
-  nowClosed : chosen n ≡ Call Close → Passed p c b → openBy p b < 64 → Leaf n p c b (accept (withList b (pack (closed p (fileBy p b) (listOf b)))))
-  nowErased : chosen n ≡ Call Delete → Passed p c b → MayDelete p b → Leaf n p c b (accept (withImage b (erased (fileBy p b) (b .image))))
-  nowRenamed : chosen n ≡ Call Rename → Passed p c b → MayRename p b → Leaf n p c b (accept (withImage b (renamed (fileBy p b) (newBy p b .name) (b .image))))
-  nowRead : chosen n ≡ Call Read → Passed p c b → (dma : List ℕ) → Leaf n p c b (accept (withDma b dma))
-  nowWritten : (chosen n ≡ Call Write) ⊎ (chosen n ≡ Call WriteZeros) → Passed p c b → MayWrite p b → (zeros : Bool) → Leaf n p c b (accept (withImage b (imageWritten zeros p b (b .dma))))
-  nowRewritten : chosen n ≡ Call TestWrite → Passed p c b → MayWrite p b → (blockOf (b .image) (fileBy p b) (recordOf (b .fcb)) ≡ 0 → ⊥) → (v : List ℕ) → 128 ≤ length v → Leaf n p c b (accept (withImage b (imageWritten false p b v)))
-  nowLocked : chosen n ≡ Call Lock → Passed p c b → MayLock p c b → Leaf n p c b (accept (withList b (pack (lockedRun p (fileBy p b) (recordOf (b .fcb)) c (listOf b)))))
-  lockIdle : chosen n ≡ Call Lock → Passed p c b → Idle p b → Leaf n p c b (accept b)
-  nowUnlocked : chosen n ≡ Call Unlock → Passed p c b → MayUnlock p b → Leaf n p c b (accept (withList b (pack (unlockedRun p (fileBy p b) (recordOf (b .fcb)) c (listOf b)))))
-  unlockIdle : chosen n ≡ Call Unlock → Passed p c b → Idle p b → Leaf n p c b (accept b)
-  nowTold : chosen n ≡ Call FreeSpace → Passed p c b → (dma : List ℕ) → Leaf n p c b (accept (withDma b dma))
-  nowEnded : chosen n ≡ Call Terminate → Passed p c b → Leaf n p c b (accept (withList b (pack (terminated p (listOf b)))))
+pub data Leaf (kind : Kind) (n p c : ℕ) (b : Buffers) : Outcome → Type 0 where
+  refused : (code : ℕ) → (code ≡ 0 → ⊥) → Leaf kind n p c b (outcome code b)
+  reopened : chosen n ≡ Call Open → Passed kind p c b → OpensAgain p b → (fcb : List ℕ) → Leaf kind n p c b (accept (buffers fcb (b .dma) (b .list) (b .image)))
+  newlyOpened : chosen n ≡ Call Open → Passed kind p c b → MayOpen kind p b → (fcb : List ℕ)
+      → Leaf kind n p c b (accept (buffers fcb (b .dma) (pack (opened p (fileBy p b) (openMode (b .fcb)) (listOf b))) (b .image)))
+  newlyMade : chosen n ≡ Call Make → Passed kind p c b → MayMake kind p b → (fcb : List ℕ)
+      → Leaf kind n p c b (accept (buffers fcb (b .dma) (pack (opened p (fileBy p b) (makeMode (b .fcb)) (listOf b))) (made (freeEntry kind (b .image)) (fileBy p b) (b .image))))
+  nowClosed : chosen n ≡ Call Close → Passed kind p c b → openBy p b < 64 → Leaf kind n p c b (accept (withList b (pack (closed p (fileBy p b) (listOf b)))))
+  nowErased : chosen n ≡ Call Delete → Passed kind p c b → MayDelete kind p b → Leaf kind n p c b (accept (withImage b (erased kind (fileBy p b) (b .image))))
+  nowRenamed : chosen n ≡ Call Rename → Passed kind p c b → MayRename kind p b → Leaf kind n p c b (accept (withImage b (renamed kind (fileBy p b) (newBy p b .name) (b .image))))
+  nowRead : chosen n ≡ Call Read → Passed kind p c b → (dma : List ℕ) → Leaf kind n p c b (accept (withDma b dma))
+  nowWritten : (chosen n ≡ Call Write) ⊎ (chosen n ≡ Call WriteZeros) → Passed kind p c b → MayWrite kind p b → (zeros : Bool)
+      → Leaf kind n p c b (accept (withImage b (imageWritten kind zeros p b (b .dma))))
+  nowRewritten : chosen n ≡ Call TestWrite → Passed kind p c b → MayWrite kind p b → (blockOf kind (b .image) (fileBy p b) (recordOf (b .fcb)) ≡ 0 → ⊥)
+      → (v : List ℕ) → 128 ≤ length v → Leaf kind n p c b (accept (withImage b (imageWritten kind false p b v)))
+  nowLocked : chosen n ≡ Call Lock → Passed kind p c b → MayLock kind p c b → Leaf kind n p c b (accept (withList b (pack (lockedRun p (fileBy p b) (recordOf (b .fcb)) c (listOf b)))))
+  lockIdle : chosen n ≡ Call Lock → Passed kind p c b → Idle p b → Leaf kind n p c b (accept b)
+  nowUnlocked : chosen n ≡ Call Unlock → Passed kind p c b → MayUnlock p b → Leaf kind n p c b (accept (withList b (pack (unlockedRun p (fileBy p b) (recordOf (b .fcb)) c (listOf b)))))
+  unlockIdle : chosen n ≡ Call Unlock → Passed kind p c b → Idle p b → Leaf kind n p c b (accept b)
+  nowTold : chosen n ≡ Call FreeSpace → Passed kind p c b → (dma : List ℕ) → Leaf kind n p c b (accept (withDma b dma))
+  nowEnded : chosen n ≡ Call Terminate → Passed kind p c b → Leaf kind n p c b (accept (withList b (pack (terminated p (listOf b)))))

@@ -9,6 +9,8 @@ use Rattle.words.specs.Tests.{_and_, _if_else_}
 use Rattle.words.specs.Tables.{Row, onlyIf, anyRow}
 use Rattle.words.proofs.Tests.{or-fst, or-snd}
 use Rattle.words.proofs.Sets.{or-none}
+use Rattle.rules.specs.declared.kind.Kind.{Kind}
+use Rattle.rules.specs.Kinds.{entries}
 use Rattle.rules.specs.declared.file.File.{File}
 use Rattle.rules.specs.Serves.{Buffers}
 use Rattle.rules.specs.Drive.{entryOf, freeEntry, blockIn, blockOf, blocks, freeBlock}
@@ -46,30 +48,33 @@ module _ (p : ℕ) (b : Buffers) where
   abbrev pub r : ℕ
   r = recordOf (b .fcb)
 
+module _ (kind : Kind) (p : ℕ) (b : Buffers) where
   abbrev pub e : ℕ
-  e = entryOf s f (r / 128)
+  e = entryOf kind (s p b) (f p b) (r p b / 128)
 
-  pub may-write : anyRow (rowsMay p (listOf b) (openBy p b) f (entryOf s f 0) r s) ≡ false → (leb 64 e and leb 64 (freeEntry s)) ≡ false
-      → (eqb (blockIn s e r) 0 and leb (blocks s) (freeBlock s)) ≡ false → MayWrite p b
+  pub may-write : anyRow (rowsMay p (listOf b) (openBy p b) (f p b) (entryOf kind (s p b) (f p b) 0) (r p b) (s p b)) ≡ false
+      → (leb (entries kind) e and leb (entries kind) (freeEntry kind (s p b))) ≡ false
+      → (eqb (blockIn kind (s p b) e (r p b)) 0 and leb (blocks kind (s p b)) (freeBlock kind (s p b))) ≡ false → MayWrite kind p b
   unfolding rowsMay anyRow
   may-write h room block =
       let h₂ = or-snd _ _ (or-snd _ _ h) in
       record {
         is-open = opened-so _ (or-fst _ _ h);
-        fits = ltb-false 262143 r (or-fst _ _ h₂);
+        fits = ltb-false 262143 (r p b) (or-fst _ _ h₂);
         unlocked-by-others = or-fst _ _ (or-snd _ _ h₂);
         entry-room = room;
         block-room = block;
       }
 
-  pub has-room : anyRow (rowsRoom s e r) ≡ false → ((leb 64 e and leb 64 (freeEntry s)) ≡ false) × ((eqb (blockIn s e r) 0 and leb (blocks s) (freeBlock s)) ≡ false)
+  pub has-room : anyRow (rowsRoom kind (s p b) e (r p b)) ≡ false
+      → ((leb (entries kind) e and leb (entries kind) (freeEntry kind (s p b))) ≡ false) × ((eqb (blockIn kind (s p b) e (r p b)) 0 and leb (blocks kind (s p b)) (freeBlock kind (s p b))) ≡ false)
   unfolding rowsRoom anyRow
   has-room h = (or-fst _ _ h, or-fst _ _ (or-snd _ _ h))
 
-  pub is-there : anyRow (rowsThere s e r) ≡ false → (leb 64 e ≡ false) × (eqb (blockIn s e r) 0 ≡ false)
+  pub is-there : anyRow (rowsThere kind (s p b) e (r p b)) ≡ false → (leb (entries kind) e ≡ false) × (eqb (blockIn kind (s p b) e (r p b)) 0 ≡ false)
   unfolding rowsThere anyRow
   is-there h = (or-fst _ _ h, or-fst _ _ (or-snd _ _ h))
 
-  pub block-some : eqb (blockIn s e r) 0 ≡ false → blockOf s f r ≡ 0 → ⊥
+  pub block-some : eqb (blockIn kind (s p b) e (r p b)) 0 ≡ false → blockOf kind (s p b) (f p b) (r p b) ≡ 0 → ⊥
   unfolding blockOf
   block-some z = eqb-false _ _ z

@@ -12,6 +12,7 @@ use Rattle.words.specs.Tests.{_and_, count}
 use Rattle.words.proofs.Tests.{either, equal?, and-fst, and-snd, lowest-holds, fails-too}
 use Rattle.words.proofs.Counts.{count-ext, count-one}
 use Rattle.words.proofs.Sets.{and-both, and-left}
+use Rattle.rules.specs.declared.kind.Kind.{Kind}
 use Rattle.rules.specs.declared.item.Item.{Item}
 use Rattle.rules.specs.declared.list.LockList.{LockList}
 use Rattle.rules.specs.Locks.{blank, itemAt, withItems, fileOf, opensName, isKindBy, isKindByAt, opensBy, locksBy, isEmptyAt, freePlace, sameFile, clash, clashAt, keepsLimits}
@@ -71,27 +72,27 @@ module _ (l : LockList) (j : ℕ) (it : Item) (h : Shape l) (inside : j < 64) wh
         (rw at-here some) (λ i m q. rw (at-other i q) refl)
 
 -- the item is good, clashes with none, and its process keeps its limits
-pub record Fits (s : List ℕ) (l : LockList) (j : ℕ) (it : Item) : Type 0 where
+pub record Fits (kind : Kind) (s : List ℕ) (l : LockList) (j : ℕ) (it : Item) : Type 0 where
   pub name-long : length (it .name) ≡ 11
   pub plain : isPlain it ≡ true
-  pub good : GoodOpen s l it ⊎ GoodLock s l it
+  pub good : GoodOpen kind s l it ⊎ GoodLock kind s l it
   pub no-clash : (i : ℕ) → i < 64 → (i ≡ j → ⊥) → (clash it (itemAt l i) and sameFile (fileOf l it) (fileOf l (itemAt l i))) ≡ false
   pub opens-fit : (p : ℕ) → isKindBy 1 p it ≡ true → opensBy l p < l .openlimit
   pub locks-fit : (p : ℕ) → isKindBy 2 p it ≡ true → locksBy l p < l .locklimit
 
-module _ (s : List ℕ) (l : LockList) (j : ℕ) (it : Item) (h : Shape l) (g : SoundLocks l s) (r : Room l j) (w : Fits s l j it) where
+module _ (kind : Kind) (s : List ℕ) (l : LockList) (j : ℕ) (it : Item) (h : Shape l) (g : SoundLocks kind l s) (r : Room l j) (w : Fits kind s l j it) where
   inside : j < 64
   inside = let c = capacity-fits l (g .limits) in let b = r .below in omega arith
 
   abbrev after : LockList
   after = withItems l (set (l .items) j it)
 
-  good-after : (x : Item) → GoodOpen s l x ⊎ GoodLock s l x → GoodOpen s after x ⊎ GoodLock s after x
+  good-after : (x : Item) → GoodOpen kind s l x ⊎ GoodLock kind s l x → GoodOpen kind s after x ⊎ GoodLock kind s after x
   good-after x c =
-      ⊎-elim (λ (o : GoodOpen s l x). inl (record { kind-one = o .kind-one; mode-fits = o .mode-fits; number-zero = o .number-zero; there = o .there }))
-      (λ (o : GoodLock s l x). inr (record { kind-two = o .kind-two; mode-one = o .mode-one; holder = holder-set l j it h inside (r .empty) (x .process) (x .name) (o .holder); block = o .block })) c
+      ⊎-elim (λ (o : GoodOpen kind s l x). inl (record { kind-one = o .kind-one; mode-fits = o .mode-fits; number-zero = o .number-zero; there = o .there }))
+      (λ (o : GoodLock kind s l x). inr (record { kind-two = o .kind-two; mode-one = o .mode-one; holder = holder-set l j it h inside (r .empty) (x .process) (x .name) (o .holder); block = o .block })) c
 
-  place-after : (i : ℕ) → i < 64 → Vacant after i ⊎ Used s after i
+  place-after : (i : ℕ) → i < 64 → Vacant after i ⊎ Used kind s after i
   place-after i m =
       ⊎-elim
       (λ (q : i ≡ j).
@@ -99,16 +100,16 @@ module _ (s : List ℕ) (l : LockList) (j : ℕ) (it : Item) (h : Shape l) (g : 
       inr (record {
         below = rw q (r .below);
         plain = rw e at (w .plain);
-        good = subst (λ (x : Item). GoodOpen s after x ⊎ GoodLock s after x) e (good-after it (w .good));
+        good = subst (λ (x : Item). GoodOpen kind s after x ⊎ GoodLock kind s after x) e (good-after it (w .good));
       }))
       (λ (q : i ≡ j → ⊥).
       let e : itemAt l i ≡ itemAt after i = sym (at-other l j it h inside i q) in
       ⊎-elim
       (λ (v : Vacant l i). inl (record { kind-zero = rw (← e) (v .kind-zero); zeros = rw (← e) (v .zeros) }))
-      (λ (v : Used s l i). inr (record {
+      (λ (v : Used kind s l i). inr (record {
         below = v .below;
         plain = rw (← e) (v .plain);
-        good = subst (λ (x : Item). GoodOpen s after x ⊎ GoodLock s after x) e (good-after (itemAt l i) (v .good));
+        good = subst (λ (x : Item). GoodOpen kind s after x ⊎ GoodLock kind s after x) e (good-after (itemAt l i) (v .good));
       }))
       (g .place i m))
       (equal? i j)
@@ -140,7 +141,7 @@ module _ (s : List ℕ) (l : LockList) (j : ℕ) (it : Item) (h : Shape l) (g : 
       (λ (q : isKindBy 2 p it ≡ true). rw (kind-more l j it h inside (r .empty) 2 p (λ (z : 2 ≡ 0). absurd (omega arith)) q) (le-leb (count (isKindByAt l 2 p) 64 + 1) (l .locklimit) (let u : count (isKindByAt l 2 p) 64 < l .locklimit = w .locks-fit p q in omega arith)))
       (λ (q : isKindBy 2 p it ≡ false). rw (kind-count l j it h inside (r .empty) 2 p (λ (z : 2 ≡ 0). absurd (omega arith)) q) (and-snd _ _ k)) (either (isKindBy 2 p it)))
 
-  pub set-sound : SoundLocks after s
+  pub set-sound : SoundLocks kind after s
   set-sound = record {
     limits = record { capacity-good = g .limits .capacity-good; open-good = g .limits .open-good; lock-good = g .limits .lock-good; users-good = g .limits .users-good };
     place = place-after;

@@ -16,11 +16,14 @@ use Rattle.words.proofs.Tests.{either, never, and-fst, and-snd, all-ext}
 use Rattle.words.proofs.Lists.{tab-ext, tab-getD, tab-at, length-tab}
 use Rattle.words.proofs.Bytes.{put-in, put-out, length-put}
 use Rattle.words.proofs.Sets.{and-both}
+use Rattle.rules.specs.declared.kind.Kind.{Kind}
+use Rattle.rules.specs.Kinds.{entries, numbers}
 use Rattle.rules.specs.declared.file.File.{File}
 use Rattle.rules.specs.Drive.{highest, isEmpty, nameAt, fileFrom, fileAt, extentAt, mapNumber, isOf, legalByte, legalAt, legalName, goodUser, goodNumbers, goodFields}
 use Rattle.rules.specs.Effects.{lowChanged, renamedAt, renamed}
 use Rattle.rules.proofs.Sound.{Names, SoundImage, length-long}
 use Rattle.rules.proofs.Frames.{Same, head-of, name-byte, file-same, fields-same, of-same, of-file, file-of, names-same, long-same}
+use Rattle.soundness.proofs.Numbers.{map-later}
 use Rattle.soundness.proofs.Steps.{Stays, moves, fewer}
 use Rattle.soundness.proofs.Changes.{Touches}
 use Rattle.soundness.proofs.Turns.{Turned, turned}
@@ -29,7 +32,7 @@ use Rattle.soundness.proofs.Turns.{Turned, turned}
 abbrev fresh : List ℕ → List ℕ → ℕ → List ℕ
 fresh name t e = put (nameAt e) (tab (lowChanged t (nameAt e) name) 11) t
 
-module _ (name t : List ℕ) (e : ℕ) (below : e < 64) (long : 3072 ≤ length t) where
+module _ (kind : Kind) (name t : List ℕ) (e : ℕ) (below : e < entries kind) (long : 32 * entries kind + 32 ≤ length t) where
   v-long : length (tab (lowChanged t (nameAt e) name) 11) ≡ 11
   v-long = length-tab (lowChanged t (nameAt e) name) 11
 
@@ -58,24 +61,25 @@ where? : (k : ℕ) → ((j : ℕ) × (j < 11) × (k ≡ 1 + j)) ⊎ ((k ≡ 0) �
 where? zero = inr (inl refl)
 where? (suc j) = ⊎-elim (λ (c : ltb j 11 ≡ true). inl (j, ltb-true j 11 c, omega arith)) (λ (c : ltb j 11 ≡ false). let m = ltb-false j 11 c in inr (inr (omega arith))) (either (ltb j 11))
 
-fresh-local : (name s t : List ℕ) (e : ℕ) → e < 64 → 3072 ≤ length s → 3072 ≤ length t → Same s e t e → Same (fresh name s e) e (fresh name t e) e
+fresh-local : (kind : Kind) (name s t : List ℕ) (e : ℕ) → e < entries kind → 32 * entries kind + 32 ≤ length s → 32 * entries kind + 32 ≤ length t
+    → Same s e t e → Same (fresh name s e) e (fresh name t e) e
 unfolding lowChanged
-fresh-local name s t e l a b h = record {
+fresh-local kind name s t e l a b h = record {
   at = λ k m.
       ⊎-elim
       (λ (q : (j : ℕ) × (j < 11) × (k ≡ 1 + j)).
       let j = q .0 in
       let z : 32 * e + k ≡ 32 * e + 1 + j = omega (arith, q .2) in
-      rw z (fresh-in name t e l b j (q .1) ∙ ap (λ (x : ℕ). x / 128 * 128 + byte name j) (name-byte s e t e (head-of s e t e h) j (q .1)) ∙ sym (fresh-in name s e l a j (q .1))))
+      rw z (fresh-in kind name t e l b j (q .1) ∙ ap (λ (x : ℕ). x / 128 * 128 + byte name j) (name-byte s e t e (head-of s e t e h) j (q .1)) ∙ sym (fresh-in kind name s e l a j (q .1))))
       (λ (q : (k ≡ 0) ⊎ (12 ≤ k)).
       let c : (32 * e + k ≤ 32 * e) ⊎ (32 * e + 12 ≤ 32 * e + k) = ⊎-elim (λ (y : k ≡ 0). inl (omega arith)) (λ (y : 12 ≤ k). inr (omega arith)) q in
-      fresh-out name t e l b (32 * e + k) c ∙ h .at k m ∙ sym (fresh-out name s e l a (32 * e + k) c))
+      fresh-out kind name t e l b (32 * e + k) c ∙ h .at k m ∙ sym (fresh-out kind name s e l a (32 * e + k) c))
       (where? k);
 }
 
-module _ (s : List ℕ) (f : File) (name : List ℕ) (g : SoundImage highest s) where
-  w : 3072 ≤ length s
-  w = length-long s (g .long)
+module _ (kind : Kind) (s : List ℕ) (f : File) (name : List ℕ) (g : SoundImage kind highest s) where
+  w : 32 * entries kind + 32 ≤ length s
+  w = length-long kind s (g .long)
 
   leave : (t : List ℕ) (e : ℕ) → isOf t f e ≡ false → renamedAt f name e t ≡ t
   unfolding renamedAt _if_else_
@@ -85,94 +89,94 @@ module _ (s : List ℕ) (f : File) (name : List ℕ) (g : SoundImage highest s) 
   unfolding renamedAt _if_else_
   change t e h = rw h
 
-  at-long : (t : List ℕ) (e : ℕ) → e < 64 → length t ≡ length s → length (renamedAt f name e t) ≡ length t
-  at-long t e l q = ⊎-elim (λ h. ap length (change t e h) ∙ fresh-long name t e l (omega (arith, w))) (λ h. ap length (leave t e h)) (either (isOf t f e))
+  at-long : (t : List ℕ) (e : ℕ) → e < entries kind → length t ≡ length s → length (renamedAt f name e t) ≡ length t
+  at-long t e l q = ⊎-elim (λ h. ap length (change t e h) ∙ fresh-long kind name t e l (omega (arith, w))) (λ h. ap length (leave t e h)) (either (isOf t f e))
 
-  at-frame : (t : List ℕ) (e d : ℕ) → e < 64 → length t ≡ length s → (d ≡ e → ⊥) → Same t d (renamedAt f name e t) d
+  at-frame : (t : List ℕ) (e d : ℕ) → e < entries kind → length t ≡ length s → (d ≡ e → ⊥) → Same t d (renamedAt f name e t) d
   at-frame t e d l q n =
-      ⊎-elim (λ (h : isOf t f e ≡ true). rw (change t e h) (fresh-around name t e l (omega (arith, w)) d n))
+      ⊎-elim (λ (h : isOf t f e ≡ true). rw (change t e h) (fresh-around kind name t e l (omega (arith, w)) d n))
       (λ (h : isOf t f e ≡ false). rw (leave t e h) (record { at = λ k m. refl })) (either (isOf t f e))
 
-  at-beyond : (t : List ℕ) (e i : ℕ) → e < 64 → length t ≡ length s → 2048 ≤ i → byte (renamedAt f name e t) i ≡ byte t i
+  at-beyond : (t : List ℕ) (e i : ℕ) → e < entries kind → length t ≡ length s → 32 * entries kind ≤ i → byte (renamedAt f name e t) i ≡ byte t i
   at-beyond t e i l q k =
-      ⊎-elim (λ (h : isOf t f e ≡ true). rw (change t e h) (fresh-out name t e l (omega (arith, w)) i (inr (omega arith))))
+      ⊎-elim (λ (h : isOf t f e ≡ true). rw (change t e h) (fresh-out kind name t e l (omega (arith, w)) i (inr (omega arith))))
       (λ (h : isOf t f e ≡ false). rw (leave t e h) refl) (either (isOf t f e))
 
-  at-local : (t : List ℕ) (e : ℕ) → e < 64 → length t ≡ length s → Same s e t e → Same (renamedAt f name e s) e (renamedAt f name e t) e
+  at-local : (t : List ℕ) (e : ℕ) → e < entries kind → length t ≡ length s → Same s e t e → Same (renamedAt f name e s) e (renamedAt f name e t) e
   at-local t e l q h =
       let o = of-same s e t e (head-of s e t e h) f in
       ⊎-elim
-      (λ (y : isOf s f e ≡ true). rw (change s e y, change t e (o ∙ y)) (fresh-local name s t e l w (omega (arith, w)) h))
+      (λ (y : isOf s f e ≡ true). rw (change s e y, change t e (o ∙ y)) (fresh-local kind name s t e l w (omega (arith, w)) h))
       (λ (y : isOf s f e ≡ false). rw (leave s e y, leave t e (o ∙ y)) h) (either (isOf s f e))
 
-  pub all-renamed : Turned (renamedAt f name) s 64 (renamed f name s)
+  pub all-renamed : Turned kind (renamedAt f name) s (entries kind) (renamed kind f name s)
   unfolding renamed
-  all-renamed = turned (renamedAt f name) s at-long at-frame at-local at-beyond 64 (omega arith)
+  all-renamed = turned kind (renamedAt f name) s at-long at-frame at-local at-beyond (entries kind) (omega arith)
 
-  pub renamed-kept : (e : ℕ) → e < 64 → isOf s f e ≡ false → Same s e (renamed f name s) e
+  pub renamed-kept : (e : ℕ) → e < entries kind → isOf s f e ≡ false → Same s e (renamed kind f name s) e
   renamed-kept e l h = rw (leave s e h) at (all-renamed .done e l l)
 
-  given-anew : (e : ℕ) → e < 64 → isOf s f e ≡ true → Same (fresh name s e) e (renamed f name s) e
+  given-anew : (e : ℕ) → e < entries kind → isOf s f e ≡ true → Same (fresh name s e) e (renamed kind f name s) e
   given-anew e l h = rw (change s e h) at (all-renamed .done e l l)
 
   -- bytes outside of the name
-  outside : (e k : ℕ) → e < 64 → k < 32 → (k ≡ 0) ⊎ (12 ≤ k) → byte (renamed f name s) (32 * e + k) ≡ byte s (32 * e + k)
+  outside : (e k : ℕ) → e < entries kind → k < 32 → (k ≡ 0) ⊎ (12 ≤ k) → byte (renamed kind f name s) (32 * e + k) ≡ byte s (32 * e + k)
   outside e k l m c =
       ⊎-elim
       (λ (h : isOf s f e ≡ true).
       given-anew e l h .at k m
-      ∙ fresh-out name s e l w (32 * e + k) (⊎-elim (λ (y : k ≡ 0). inl (omega arith)) (λ (y : 12 ≤ k). inr (omega arith)) c))
+      ∙ fresh-out kind name s e l w (32 * e + k) (⊎-elim (λ (y : k ≡ 0). inl (omega arith)) (λ (y : 12 ≤ k). inr (omega arith)) c))
       (λ (h : isOf s f e ≡ false). renamed-kept e l h .at k m) (either (isOf s f e))
 
   at-zero : (t : List ℕ) (e : ℕ) → byte t (32 * e + 0) ≡ byte t (32 * e)
   at-zero t e = ap (λ (i : ℕ). byte t i) (add-zero (32 * e))
 
-  zeroth : (e : ℕ) → e < 64 → byte (renamed f name s) (32 * e) ≡ byte s (32 * e)
-  zeroth e l = sym (at-zero (renamed f name s) e) ∙ outside e 0 l (omega arith) (inl refl) ∙ at-zero s e
+  zeroth : (e : ℕ) → e < entries kind → byte (renamed kind f name s) (32 * e) ≡ byte s (32 * e)
+  zeroth e l = sym (at-zero (renamed kind f name s) e) ∙ outside e 0 l (omega arith) (inl refl) ∙ at-zero s e
 
-  pub renamed-empty : (e : ℕ) → e < 64 → isEmpty (renamed f name s) e ≡ isEmpty s e
+  pub renamed-empty : (e : ℕ) → e < entries kind → isEmpty (renamed kind f name s) e ≡ isEmpty s e
   unfolding isEmpty
   renamed-empty e l = rw (zeroth e l)
 
-  pub renamed-extent : (e : ℕ) → e < 64 → extentAt (renamed f name s) e ≡ extentAt s e
+  pub renamed-extent : (e : ℕ) → e < entries kind → extentAt (renamed kind f name s) e ≡ extentAt s e
   renamed-extent e l = rw (outside e 12 l (omega arith) (inr (omega arith)), outside e 14 l (omega arith) (inr (omega arith)))
 
-  pub renamed-number : (e k : ℕ) → e < 64 → k < 16 → mapNumber (renamed f name s) e k ≡ mapNumber s e k
-  renamed-number e k l m = outside e (16 + k) l (omega arith) (inr (omega arith))
+  pub renamed-number : (e k : ℕ) → e < entries kind → k < numbers kind → mapNumber kind (renamed kind f name s) e k ≡ mapNumber kind s e k
+  renamed-number e k l m = map-later kind s (renamed kind f name s) e k m (λ i u v. outside e i l v (inr (omega arith)))
 
   module _ (size : length (f .name) ≡ 11) (nsize : length name ≡ 11) (clear : (k : ℕ) → k < 11 → byte name k < 128) (legal : legalName name 0 ≡ true)
-      (none : (d : ℕ) → d < 64 → isEmpty s d ≡ false → fileAt s d ≡ record { user = f .user; name = name } → ⊥) where
-    low-now : (e : ℕ) → e < 64 → isOf s f e ≡ true → (k : ℕ) → k < 11 → lowFrom (renamed f name s) (nameAt e) k ≡ byte name k
+      (none : (d : ℕ) → d < entries kind → isEmpty s d ≡ false → fileAt s d ≡ record { user = f .user; name = name } → ⊥) where
+    low-now : (e : ℕ) → e < entries kind → isOf s f e ≡ true → (k : ℕ) → k < 11 → lowFrom (renamed kind f name s) (nameAt e) k ≡ byte name k
     unfolding lowChanged
     low-now e l h k m =
         let c = clear k m in
-        let z : byte (renamed f name s) (32 * e + 1 + k) ≡ byte s (32 * e + 1 + k) / 128 * 128 + byte name k =
-        name-byte (fresh name s e) e (renamed f name s) e (head-of (fresh name s e) e (renamed f name s) e (given-anew e l h)) k m ∙ fresh-in name s e l w k m in
+        let z : byte (renamed kind f name s) (32 * e + 1 + k) ≡ byte s (32 * e + 1 + k) / 128 * 128 + byte name k =
+        name-byte (fresh name s e) e (renamed kind f name s) e (head-of (fresh name s e) e (renamed kind f name s) e (given-anew e l h)) k m ∙ fresh-in kind name s e l w k m in
         omega arith
 
-    pub renamed-new : (e : ℕ) → e < 64 → isOf s f e ≡ true → fileAt (renamed f name s) e ≡ record { user = f .user; name = name }
+    pub renamed-new : (e : ℕ) → e < entries kind → isOf s f e ≡ true → fileAt (renamed kind f name s) e ≡ record { user = f .user; name = name }
     unfolding fileAt fileFrom
     renamed-new e l h =
-        let u : byte (renamed f name s) (32 * e) ≡ f .user = zeroth e l ∙ ap (λ (x : File). x .user) (of-file s f e size h) in
-        let n = tab-ext (lowFrom (renamed f name s) (nameAt e)) (λ (k : ℕ). getD name k 0) 11 (low-now e l h) ∙ tab-getD name 0 11 nsize in
+        let u : byte (renamed kind f name s) (32 * e) ≡ f .user = zeroth e l ∙ ap (λ (x : File). x .user) (of-file s f e size h) in
+        let n = tab-ext (lowFrom (renamed kind f name s) (nameAt e)) (λ (k : ℕ). getD name k 0) 11 (low-now e l h) ∙ tab-getD name 0 11 nsize in
         λ i. record { user = u i; name = n i }
 
-    pub renamed-old : (e : ℕ) → e < 64 → isOf s f e ≡ false → fileAt (renamed f name s) e ≡ fileAt s e
-    renamed-old e l h = file-same s e (renamed f name s) e (head-of s e (renamed f name s) e (renamed-kept e l h))
+    pub renamed-old : (e : ℕ) → e < entries kind → isOf s f e ≡ false → fileAt (renamed kind f name s) e ≡ fileAt s e
+    renamed-old e l h = file-same s e (renamed kind f name s) e (head-of s e (renamed kind f name s) e (renamed-kept e l h))
 
-    legal-now : (e : ℕ) → e < 64 → isOf s f e ≡ true → legalName (renamed f name s) (nameAt e) ≡ true
+    legal-now : (e : ℕ) → e < entries kind → isOf s f e ≡ true → legalName (renamed kind f name s) (nameAt e) ≡ true
     unfolding legalName legalAt legalByte
     legal-now e l h =
-        let low : (k : ℕ) → k < 11 → byte (renamed f name s) (32 * e + 1 + k) % 128 ≡ byte name (0 + k) % 128 =
+        let low : (k : ℕ) → k < 11 → byte (renamed kind f name s) (32 * e + 1 + k) % 128 ≡ byte name (0 + k) % 128 =
         λ k m. let c = clear k m in let y = low-now e l h k m in rw (zero-add k) (omega arith) in
-        let z : byte (renamed f name s) (32 * e + 1) % 128 ≡ byte name 0 % 128 = rw add-zero at (low 0 (omega arith)) in
+        let z : byte (renamed kind f name s) (32 * e + 1) % 128 ≡ byte name 0 % 128 = rw add-zero at (low 0 (omega arith)) in
         rw (
           z,
-          all-ext (legalAt (renamed f name s) (nameAt e)) (legalAt name 0) 11
+          all-ext (legalAt (renamed kind f name s) (nameAt e)) (legalAt name 0) 11
               (λ k m. ap (λ (b : ℕ). leb 32 b and leb b 126 and not (eqb b 63)) (low k m)),
         ) legal
 
-    good-now : (e : ℕ) → e < 64 → goodFields highest s e ≡ true → goodFields highest (renamed f name s) e ≡ true
+    good-now : (e : ℕ) → e < entries kind → goodFields highest s e ≡ true → goodFields highest (renamed kind f name s) e ≡ true
     unfolding goodFields goodUser goodNumbers
     good-now e l g′ =
         ⊎-elim
@@ -184,14 +188,15 @@ module _ (s : List ℕ) (f : File) (name : List ℕ) (g : SoundImage highest s) 
         (and-both _ _ (rw (outside e 14 l (omega arith) (inr (omega arith))) (and-fst _ _ (and-snd _ _ n)))
         (rw (outside e 15 l (omega arith) (inr (omega arith))) (and-snd _ _ (and-snd _ _ n))))))
         )
-        (λ (h : isOf s f e ≡ false). fields-same s e (renamed f name s) e (renamed-kept e l h) g′) (either (isOf s f e))
+        (λ (h : isOf s f e ≡ false). fields-same s e (renamed kind f name s) e (renamed-kept e l h) g′) (either (isOf s f e))
 
-    pub renamed-stays : (e k : ℕ) → Names (renamed f name s) e k → Stays s (renamed f name s) e k
+    pub renamed-stays : (e k : ℕ) → Names kind (renamed kind f name s) e k → Stays kind s (renamed kind f name s) e k
     renamed-stays e k n =
         let y = renamed-number e k (n .entry-there) (n .place-there) in
-        record { named = names-same s (renamed f name s) e k (renamed-empty e (n .entry-there)) y n; number = y }
+        record { named = names-same kind s (renamed kind f name s) e k (renamed-empty e (n .entry-there)) y n; number = y }
 
-    back : (d e : ℕ) → d < 64 → e < 64 → isEmpty s d ≡ false → isEmpty s e ≡ false → fileAt (renamed f name s) d ≡ fileAt (renamed f name s) e → fileAt s d ≡ fileAt s e
+    back : (d e : ℕ) → d < entries kind → e < entries kind → isEmpty s d ≡ false → isEmpty s e ≡ false
+        → fileAt (renamed kind f name s) d ≡ fileAt (renamed kind f name s) e → fileAt s d ≡ fileAt s e
     back d e k l u v q =
         ⊎-elim
         (λ (a : isOf s f d ≡ true). ⊎-elim
@@ -202,7 +207,8 @@ module _ (s : List ℕ) (f : File) (name : List ℕ) (g : SoundImage highest s) 
         (λ (b : isOf s f e ≡ false). sym (renamed-old d k a) ∙ q ∙ renamed-old e l b) (either (isOf s f e)))
         (either (isOf s f d))
 
-    forth : (d e : ℕ) → d < 64 → e < 64 → isEmpty s d ≡ false → isEmpty s e ≡ false → fileAt s d ≡ fileAt s e → fileAt (renamed f name s) d ≡ fileAt (renamed f name s) e
+    forth : (d e : ℕ) → d < entries kind → e < entries kind → isEmpty s d ≡ false → isEmpty s e ≡ false → fileAt s d ≡ fileAt s e
+        → fileAt (renamed kind f name s) d ≡ fileAt (renamed kind f name s) e
     forth d e k l u v q =
         ⊎-elim
         (λ (a : isOf s f d ≡ true). renamed-new d k a ∙ sym (renamed-new e l (file-of s f e v (sym q ∙ of-file s f d size a))))
@@ -211,19 +217,19 @@ module _ (s : List ℕ) (f : File) (name : List ℕ) (g : SoundImage highest s) 
         (λ (b : isOf s f e ≡ false). renamed-old d k a ∙ q ∙ sym (renamed-old e l b)) (either (isOf s f e)))
         (either (isOf s f d))
 
-    pub renamed-sound : SoundImage highest (renamed f name s)
+    pub renamed-sound : SoundImage kind highest (renamed kind f name s)
     renamed-sound =
-        let t = renamed f name s in
-        let was : (e : ℕ) → e < 64 → isEmpty (renamed f name s) e ≡ false → isEmpty s e ≡ false = λ e l u. sym (renamed-empty e l) ∙ u in
+        let t = renamed kind f name s in
+        let was : (e : ℕ) → e < entries kind → isEmpty (renamed kind f name s) e ≡ false → isEmpty s e ≡ false = λ e l u. sym (renamed-empty e l) ∙ u in
         record {
-          long = long-same s t (all-renamed .len) (g .long);
-          entries = moves s t was (λ e l u q. good-now e l q) (λ e l u. renamed-extent e l)
+          long = long-same kind s t (all-renamed .len) (g .long);
+          files = moves kind s t was (λ e l u q. good-now e l q) (λ e l u. renamed-extent e l)
               (λ d e k l u v q. back d e k l (was d k u) (was e l v) q)
-              (λ d e k l u v q. (renamed-empty d k ∙ u, forth d e k l u (was e l v) q)) (g .entries);
-          maps = fewer s t (all-renamed .len) renamed-stays (g .maps);
+              (λ d e k l u v q. (renamed-empty d k ∙ u, forth d e k l u (was e l v) q)) (g .files);
+          maps = fewer kind s t (all-renamed .len) renamed-stays (g .maps);
         }
 
-    pub renamed-touches : Touches s (renamed f name s) f (record { user = f .user; name = name })
+    pub renamed-touches : Touches kind s (renamed kind f name s) f (record { user = f .user; name = name })
     renamed-touches = record {
       long = all-renamed .len;
       entry = λ e l. ⊎-elim

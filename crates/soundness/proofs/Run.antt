@@ -13,6 +13,7 @@ use Rattle.words.specs.Lists.{turns}
 use Rattle.words.proofs.Tests.{either, equal?, never, and-fst, and-snd, lowest-below, same-test}
 use Rattle.words.proofs.Counts.{count-one, count-yes, count-not, count-any, count-grows}
 use Rattle.words.proofs.Sets.{and-both, not-of-false, not-of-true}
+use Rattle.rules.specs.declared.kind.Kind.{Kind}
 use Rattle.rules.specs.declared.file.File.{File}
 use Rattle.rules.specs.declared.item.Item.{Item}
 use Rattle.rules.specs.declared.list.LockList.{LockList}
@@ -30,7 +31,7 @@ unfolding clash _and_ _or_
 clash-two p name k x h = h
 
 -- what 42 has made sure of
-pub record Takes (s : List ℕ) (l : LockList) (p : ℕ) (f : File) (r n : ℕ) : Type 0 where
+pub record Takes (kind : Kind) (s : List ℕ) (l : LockList) (p : ℕ) (f : File) (r n : ℕ) : Type 0 where
   pub process-fits : p ≤ 15
   pub under : f .user ≡ userOf l p
   pub name-long : length (f .name) ≡ 11
@@ -38,7 +39,7 @@ pub record Takes (s : List ℕ) (l : LockList) (p : ℕ) (f : File) (r n : ℕ) 
   pub low : all (isLow (f .name)) 11 ≡ true
   pub holder : Holder l p (f .name)
   pub fits : (k : ℕ) → k < n → r + k ≤ 262143
-  pub have-blocks : (k : ℕ) → k < n → blockOf s f (r + k) ≡ 0 → ⊥
+  pub have-blocks : (k : ℕ) → k < n → blockOf kind s f (r + k) ≡ 0 → ⊥
   pub none-others : (k : ℕ) → k < n → lockedByOther l p f (r + k) ≡ false
   pub within : locksBy l p + n ≤ l .locklimit
   pub room : count (isNew l p f r) n ≤ freePlaces l
@@ -51,20 +52,20 @@ pub record Filled (l₀ l : LockList) (p : ℕ) (f : File) (r k i : ℕ) : Type 
   pub now : itemAt l i ≡ freshLock p (f .name) (r + step)
 
 -- after k records
-pub record Running (s : List ℕ) (l₀ : LockList) (p : ℕ) (f : File) (r k : ℕ) : Type 0 where
+pub record Running (kind : Kind) (s : List ℕ) (l₀ : LockList) (p : ℕ) (f : File) (r k : ℕ) : Type 0 where
   pub items : List Item
   pub is : turns (lockedAt p f r) k l₀ ≡ withItems l₀ items
   pub shape : Shape (withItems l₀ items)
-  pub sound : SoundLocks (withItems l₀ items) s
+  pub sound : SoundLocks kind (withItems l₀ items) s
   pub place : (i : ℕ) → i < 64 → (itemAt (withItems l₀ items) i ≡ itemAt l₀ i) ⊎ Filled l₀ (withItems l₀ items) p f r k i
   pub free : freePlaces (withItems l₀ items) + count (isNew l₀ p f r) k ≡ freePlaces l₀
   pub locks : locksBy (withItems l₀ items) p ≤ locksBy l₀ p + k
 
-module _ (s : List ℕ) (l₀ : LockList) (p : ℕ) (f : File) (r n : ℕ) (h₀ : Shape l₀) (g₀ : SoundLocks l₀ s) (t : Takes s l₀ p f r n) where
+module _ (kind : Kind) (s : List ℕ) (l₀ : LockList) (p : ℕ) (f : File) (r n : ℕ) (h₀ : Shape l₀) (g₀ : SoundLocks kind l₀ s) (t : Takes kind s l₀ p f r n) where
   mine : record { user = userOf l₀ p; name = f .name } ≡ f
   mine = λ i. record { user = sym (t .under) i; name = f .name }
 
-  module _ (k : ℕ) (below : k < n) (w : Running s l₀ p f r k) where
+  module _ (k : ℕ) (below : k < n) (w : Running kind s l₀ p f r k) where
     abbrev l : LockList
     l = withItems l₀ (w .items)
 
@@ -160,7 +161,7 @@ module _ (s : List ℕ) (l₀ : LockList) (p : ℕ) (f : File) (r n : ℕ) (h₀
       unfolding isPlain
       it-plain = and-both _ _ (le-leb p 15 (t .process-fits)) (and-both _ _ (t .legal) (and-both _ _ (t .low) (le-leb (r + k) 262143 (t .fits k below))))
 
-      it-fits : Fits s l j it
+      it-fits : Fits kind s l j it
       unfolding isKindBy _and_
       it-fits = record {
         name-long = t .name-long;
@@ -175,7 +176,7 @@ module _ (s : List ℕ) (l₀ : LockList) (p : ℕ) (f : File) (r n : ℕ) (h₀
             rw (← e) (omega arith);
       }
 
-      placed-now : Running s l₀ p f r (suc k)
+      placed-now : Running kind s l₀ p f r (suc k)
       unfolding turns lockedAt placed _if_else_ freePlaces isEmptyAt locksBy
       placed-now =
           let xs = set (w .items) j it in
@@ -183,7 +184,7 @@ module _ (s : List ℕ) (l₀ : LockList) (p : ℕ) (f : File) (r n : ℕ) (h₀
             items = xs;
             is = ap (λ (m : LockList). lockedAt p f r k m) (w .is) ∙ rw new refl;
             shape = set-shape l j it (w .shape) inside (t .name-long);
-            sound = set-sound s l j it (w .shape) (w .sound) here it-fits;
+            sound = set-sound kind s l j it (w .shape) (w .sound) here it-fits;
             place = λ i m.
                 ⊎-elim
                 (λ (q : i ≡ j). inr (record {
@@ -210,7 +211,7 @@ module _ (s : List ℕ) (l₀ : LockList) (p : ℕ) (f : File) (r n : ℕ) (h₀
                 omega arith;
           }
 
-    kept-now : held l p f (r + k) ≡ true → Running s l₀ p f r (suc k)
+    kept-now : held l p f (r + k) ≡ true → Running kind s l₀ p f r (suc k)
     unfolding turns lockedAt _if_else_ isNew
     kept-now old = record {
       items = w .items;
@@ -226,7 +227,7 @@ module _ (s : List ℕ) (l₀ : LockList) (p : ℕ) (f : File) (r n : ℕ) (h₀
       locks = let a = w .locks in omega arith;
     }
 
-  pub running : (k : ℕ) → k ≤ n → Running s l₀ p f r k
+  pub running : (k : ℕ) → k ≤ n → Running kind s l₀ p f r k
   unfolding turns count
   running zero m = record {
     items = l₀ .items;

@@ -14,6 +14,8 @@ use Rattle.words.specs.Bytes.{byte, lowFrom}
 use Rattle.words.proofs.Tests.{either, never, and-fst, and-snd, or-fst, or-snd, or-so, all-ext, all-make, any-at, lowest-holds, lowest-over}
 use Rattle.words.proofs.Lists.{tab-at}
 use Rattle.words.proofs.Sets.{and-both, not-of-false}
+use Rattle.rules.specs.declared.kind.Kind.{Kind}
+use Rattle.rules.specs.Kinds.{entries}
 use Rattle.rules.specs.declared.file.File.{File}
 use Rattle.rules.specs.declared.item.Item.{Item}
 use Rattle.rules.specs.declared.list.LockList.{LockList}
@@ -91,7 +93,7 @@ mode-small fcb = (
   ⊎-elim (λ z. rw z (omega arith)) (λ z. rw z (omega arith)) (either (leb 128 (byte fcb 5))),
 )
 
-module _ (s : List ℕ) (p c : ℕ) (b : Buffers) (ok : Passed p c b) (g : SoundLocks (listOf b) s) where
+module _ (kind : Kind) (s : List ℕ) (p c : ℕ) (b : Buffers) (ok : Passed kind p c b) (g : SoundLocks kind (listOf b) s) where
   abbrev l : LockList
   l = listOf b
 
@@ -99,9 +101,9 @@ module _ (s : List ℕ) (p c : ℕ) (b : Buffers) (ok : Passed p c b) (g : Sound
   f = fileBy p b
 
   -- any other open of the file can stand beside it
-  open-fits : (mode : ℕ) → mode ≤ 2 → legalName (b .fcb) 1 ≡ true → entryOf s f 0 < 64 → opensBy l p < l .openlimit
+  open-fits : (mode : ℕ) → mode ≤ 2 → legalName (b .fcb) 1 ≡ true → entryOf kind s f 0 < entries kind → opensBy l p < l .openlimit
       → ((i : ℕ) → i < 64 → IsOpen (itemAt l i .process) (f .name) (itemAt l i) → userOf l (itemAt l i .process) ≡ f .user → standBeside (freshOpen p (f .name) mode) (itemAt l i) ≡ true)
-      → Fits s l (freePlace l) (freshOpen p (f .name) mode)
+      → Fits kind s l (freePlace l) (freshOpen p (f .name) mode)
   unfolding isPlain isKindBy sameFile _and_
   open-fits mode small legal there within beside = record {
     name-long = caller-long p l (b .fcb);
@@ -122,7 +124,7 @@ module _ (s : List ℕ) (p c : ℕ) (b : Buffers) (ok : Passed p c b) (g : Sound
   }
 
   -- 15
-  pub mayopen-fits : MayOpen p b → entryOf s f 0 < 64 → Fits s l (freePlace l) (freshOpen p (f .name) (openMode (b .fcb)))
+  pub mayopen-fits : MayOpen kind p b → entryOf kind s f 0 < entries kind → Fits kind s l (freePlace l) (freshOpen p (f .name) (openMode (b .fcb)))
   unfolding openOf opensNameAt standBeside standsAgainstAt standsAgainst opensFileAt opensFile
   mayopen-fits w there =
       open-fits (openMode (b .fcb)) (mode-small (b .fcb) .0) (w .legal) there (w .within) (λ i m o u.
@@ -140,46 +142,47 @@ module _ (s : List ℕ) (p c : ℕ) (b : Buffers) (ok : Passed p c b) (g : Sound
       then-false false y e h = absurd (never e refl)
 
   -- 22: nobody has a file open that is not there
-  pub maymake-fits : (s₀ : List ℕ) → Shape l → SoundLocks l s₀ → 64 ≤ entryOf s₀ f 0 → MayMake p b → entryOf s f 0 < 64 → Fits s l (freePlace l) (freshOpen p (f .name) (makeMode (b .fcb)))
+  pub maymake-fits : (s₀ : List ℕ) → Shape l → SoundLocks kind l s₀ → entries kind ≤ entryOf kind s₀ f 0 → MayMake kind p b → entryOf kind s f 0 < entries kind
+      → Fits kind s l (freePlace l) (freshOpen p (f .name) (makeMode (b .fcb)))
   maymake-fits s₀ h g₀ gone w there =
       open-fits (makeMode (b .fcb)) (mode-small (b .fcb) .1) (w .legal) there (w .within) (λ i m o u.
       let e : fileOf l (itemAt l i) ≡ f = λ k. record { user = u k; name = name-is (itemAt l i .name) (f .name) (h .names-long i m) (caller-long p l (b .fcb)) (o .named) k } in
-      let z : entryOf s₀ f 0 < 64 = rw e at (opened-there s₀ h g₀ i m (o .kind-one)) in
+      let z : entryOf kind s₀ f 0 < entries kind = rw e at (opened-there s₀ h g₀ i m (o .kind-one)) in
       absurd (omega arith))
     where
-      opened-there : (s₀ : List ℕ) → Shape l → SoundLocks l s₀ → (i : ℕ) → i < 64 → itemAt l i .kind ≡ 1 → entryOf s₀ (fileOf l (itemAt l i)) 0 < 64
+      opened-there : (s₀ : List ℕ) → Shape l → SoundLocks kind l s₀ → (i : ℕ) → i < 64 → itemAt l i .kind ≡ 1 → entryOf kind s₀ (fileOf l (itemAt l i)) 0 < entries kind
       opened-there s₀ h g₀ i m k =
           ⊎-elim (λ (v : Vacant l i). let z = v .kind-zero in absurd (omega arith))
-          (λ (v : Used s₀ l i). ⊎-elim (λ (o : GoodOpen s₀ l (itemAt l i)). o .there) (λ (o : GoodLock s₀ l (itemAt l i)). let z = o .kind-two in absurd (omega arith)) (v .good))
+          (λ (v : Used kind s₀ l i). ⊎-elim (λ (o : GoodOpen kind s₀ l (itemAt l i)). o .there) (λ (o : GoodLock kind s₀ l (itemAt l i)). let z = o .kind-two in absurd (omega arith)) (v .good))
           (g₀ .place i m)
 
 -- ---- a file that nobody has open has no items
 
-module _ (s : List ℕ) (l : LockList) (g : SoundLocks l s) (f : File) (none : anyOpen l f ≡ false) where
+module _ (kind : Kind) (s : List ℕ) (l : LockList) (g : SoundLocks kind l s) (f : File) (none : anyOpen l f ≡ false) where
   no-open : (i : ℕ) → i < 64 → itemAt l i .kind ≡ 1 → userOf l (itemAt l i .process) ≡ f .user → sameName (itemAt l i .name) (f .name) ≡ true → ⊥
   unfolding anyOpen opensFileAt opensFile
   no-open i m k u n = never (and-both _ _ (eq-eqb _ _ k) (and-both _ _ (eq-eqb _ _ u) n)) (any-at (opensFileAt l f) 64 i none m)
 
-  pub no-items : (i : ℕ) → i < 64 → GoodOpen s l (itemAt l i) ⊎ GoodLock s l (itemAt l i) → fileOf l (itemAt l i) ≡ f → ⊥
+  pub no-items : (i : ℕ) → i < 64 → GoodOpen kind s l (itemAt l i) ⊎ GoodLock kind s l (itemAt l i) → fileOf l (itemAt l i) ≡ f → ⊥
   no-items i m c e =
       let u : userOf l (itemAt l i .process) ≡ f .user = ap (λ (k : File). k .user) e in
       let n : sameName (itemAt l i .name) (f .name) ≡ true = rw (← e) (name-refl (itemAt l i .name)) in
       ⊎-elim
-      (λ (o : GoodOpen s l (itemAt l i)). no-open i m (o .kind-one) u n)
-      (λ (o : GoodLock s l (itemAt l i)).
+      (λ (o : GoodOpen kind s l (itemAt l i)). no-open i m (o .kind-one) u n)
+      (λ (o : GoodLock kind s l (itemAt l i)).
       let k = o .holder in
       let x = open-is _ _ (itemAt l (k .place)) (k .opens) in
       no-open (k .place) (k .below) (x .kind-one) (ap (λ (q : ℕ). userOf l q) (x .by) ∙ u) (name-then _ _ _ (x .named) n)) c
 
 -- ---- a run of locks
 
-module _ (s : List ℕ) (p c : ℕ) (b : Buffers) (ok : Passed p c b) (h : Shape (listOf b)) (g : SoundLocks (listOf b) s) where
+module _ (kind : Kind) (s : List ℕ) (p c : ℕ) (b : Buffers) (ok : Passed kind p c b) (h : Shape (listOf b)) (g : SoundLocks kind (listOf b) s) where
   -- the caller's open
   pub own-open : openBy p b < 64 → IsOpen p (fileBy p b .name) (itemAt (listOf b) (openBy p b))
   unfolding openOf opensNameAt
   own-open m = open-is p (fileBy p b .name) _ (lowest-holds (opensNameAt (listOf b) p (fileBy p b .name)) 64 m)
 
-  pub own-good : openBy p b < 64 → Used s (listOf b) (openBy p b)
+  pub own-good : openBy p b < 64 → Used kind s (listOf b) (openBy p b)
   own-good m =
       ⊎-elim (λ (v : Vacant (listOf b) (openBy p b)). let z = v .kind-zero in let y = own-open m .kind-one in absurd (omega arith)) (λ v. v) (g .place (openBy p b) m)
 
@@ -192,10 +195,10 @@ module _ (s : List ℕ) (p c : ℕ) (b : Buffers) (ok : Passed p c b) (h : Shape
       λ i. record { user = u i; name = own-name m i }
 
   -- the file of an open is there
-  pub own-there : openBy p b < 64 → entryOf s (fileBy p b) 0 < 64
+  pub own-there : openBy p b < 64 → entryOf kind s (fileBy p b) 0 < entries kind
   own-there m =
-      ⊎-elim (λ (o : GoodOpen s (listOf b) (itemAt (listOf b) (openBy p b))). rw (own-file m) at (o .there))
-      (λ (o : GoodLock s (listOf b) (itemAt (listOf b) (openBy p b))). let z = o .kind-two in let y = own-open m .kind-one in absurd (omega arith)) (own-good m .good)
+      ⊎-elim (λ (o : GoodOpen kind s (listOf b) (itemAt (listOf b) (openBy p b))). rw (own-file m) at (o .there))
+      (λ (o : GoodLock kind s (listOf b) (itemAt (listOf b) (openBy p b))). let z = o .kind-two in let y = own-open m .kind-one in absurd (omega arith)) (own-good m .good)
 
   pub own-holder : (m : openBy p b < 64) → modeBy p b ≡ 1 → Holder (listOf b) p (fileBy p b .name)
   own-holder m e = record { place = openBy p b; below = m; opens = open-so _ _ _ (own-open m); mode = e }

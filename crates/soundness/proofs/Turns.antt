@@ -1,5 +1,5 @@
 -- Changes made to one entry after the other. Assumes nothing.
-use Prim.Native.Nat.{ℕ, zero, suc, _≤_, _<_}
+use Prim.Native.Nat.{ℕ, zero, suc, _*_, _≤_, _<_}
 use mathlib.Core.Path.{_≡_, refl, _∙_}
 use mathlib.Core.List.{List}
 use mathlib.Core.Logic.{⊎-elim}
@@ -8,27 +8,29 @@ use lib.ListN.{length}
 use Rattle.words.specs.Lists.{turns}
 use Rattle.words.specs.Bytes.{byte}
 use Rattle.words.proofs.Tests.{equal?}
+use Rattle.rules.specs.declared.kind.Kind.{Kind}
+use Rattle.rules.specs.Kinds.{entries}
 use Rattle.rules.proofs.Frames.{Same, same-refl}
 
-pub record Turned (step : ℕ → List ℕ → List ℕ) (s : List ℕ) (m : ℕ) (t : List ℕ) : Type 0 where
+pub record Turned (kind : Kind) (step : ℕ → List ℕ → List ℕ) (s : List ℕ) (m : ℕ) (t : List ℕ) : Type 0 where
   pub len : length t ≡ length s
-  pub done : (e : ℕ) → e < 64 → e < m → Same (step e s) e t e
-  pub ahead : (e : ℕ) → e < 64 → m ≤ e → Same s e t e
-  pub past : (i : ℕ) → 2048 ≤ i → byte t i ≡ byte s i
+  pub done : (e : ℕ) → e < entries kind → e < m → Same (step e s) e t e
+  pub ahead : (e : ℕ) → e < entries kind → m ≤ e → Same s e t e
+  pub past : (i : ℕ) → 32 * entries kind ≤ i → byte t i ≡ byte s i
 
 -- a step at e changes entry e alone, and by what stands there alone
-module _ (step : ℕ → List ℕ → List ℕ) (s : List ℕ)
-    (long : (t : List ℕ) (e : ℕ) → e < 64 → length t ≡ length s → length (step e t) ≡ length t)
-    (frame : (t : List ℕ) (e d : ℕ) → e < 64 → length t ≡ length s → (d ≡ e → ⊥) → Same t d (step e t) d)
-    (local : (t : List ℕ) (e : ℕ) → e < 64 → length t ≡ length s → Same s e t e → Same (step e s) e (step e t) e)
-    (beyond : (t : List ℕ) (e i : ℕ) → e < 64 → length t ≡ length s → 2048 ≤ i → byte (step e t) i ≡ byte t i) where
-  pub turned : (m : ℕ) → m ≤ 64 → Turned step s m (turns step m s)
+module _ (kind : Kind) (step : ℕ → List ℕ → List ℕ) (s : List ℕ)
+    (long : (t : List ℕ) (e : ℕ) → e < entries kind → length t ≡ length s → length (step e t) ≡ length t)
+    (frame : (t : List ℕ) (e d : ℕ) → e < entries kind → length t ≡ length s → (d ≡ e → ⊥) → Same t d (step e t) d)
+    (local : (t : List ℕ) (e : ℕ) → e < entries kind → length t ≡ length s → Same s e t e → Same (step e s) e (step e t) e)
+    (beyond : (t : List ℕ) (e i : ℕ) → e < entries kind → length t ≡ length s → 32 * entries kind ≤ i → byte (step e t) i ≡ byte t i) where
+  pub turned : (m : ℕ) → m ≤ entries kind → Turned kind step s m (turns step m s)
   unfolding turns
   turned zero l = record { len = refl; done = λ e k z. absurd (omega arith); ahead = λ e k z. same-refl s e; past = λ i k. refl }
   turned (suc m) l =
       let g = turned m (omega arith) in
       let t = turns step m s in
-      let b : m < 64 = omega arith in
+      let b : m < entries kind = omega arith in
       record {
         len = long t m b (g .len) ∙ g .len;
         done = λ e k z.

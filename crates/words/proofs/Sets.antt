@@ -11,7 +11,7 @@ use borrow.Author.Tests.{lt-leb, le-leb, lt-ltb, le-ltb, eq-eqb, ne-eqb, not-tru
 use lib.Dec.{eqb, leb, ltb}
 use lib.ListN.{length}
 use Rattle.words.specs.Tests.{_and_, _or_, _if_else_, all, any, lowest, count}
-use Rattle.words.specs.Lists.{tab}
+use Rattle.words.specs.Lists.{tab, turns}
 use Rattle.words.specs.Tables.{Row, _when_, firstOf, noneZero, onlyIf}
 use Rattle.words.proofs.Tests.{and-false, all-none, all-more, all-fails, any-none, any-skip, any-found, lowest-none, lowest-found, lowest-below, either}
 use Rattle.words.proofs.Counts.{count-yes, count-not}
@@ -75,6 +75,25 @@ lowest-stops f n i l h e = sym (lowest-found f n i l h e)
 
 pub lowest-ends : (f : ℕ → Bool) (n i : ℕ) → any f i ≡ false → n ≤ i → i ≤ n → i ≡ lowest f n
 lowest-ends f n i h l g = let q : i ≡ n = omega arith in q ∙ sym (lowest-none f n (rw q at h))
+
+-- the same where the bound is what a callee answered
+pub leb-yes-as : (m n i : ℕ) → m ≡ n → m ≤ i → leb n i ≡ true
+leb-yes-as m n i q h = le-leb n i (omega arith)
+
+pub leb-no-as : (m n i : ℕ) → m ≡ n → i < m → leb n i ≡ false
+leb-no-as m n i q h = lt-leb n i (omega arith)
+
+pub all-stops-as : (f : ℕ → Bool) (m n i : ℕ) → m ≡ n → i < m → f i ≡ false → false ≡ all f n
+all-stops-as f m n i q l e = all-stops f n i (omega arith) e
+
+pub all-ends-as : (f : ℕ → Bool) (m n i : ℕ) → m ≡ n → all f i ≡ true → m ≤ i → i ≤ m → true ≡ all f n
+all-ends-as f m n i q h l g = all-ends f n i h (omega arith) (omega arith)
+
+pub lowest-stops-as : (f : ℕ → Bool) (m n i : ℕ) → m ≡ n → i < m → any f i ≡ false → f i ≡ true → i ≡ lowest f n
+lowest-stops-as f m n i q l h e = lowest-stops f n i (omega arith) h e
+
+pub lowest-ends-as : (f : ℕ → Bool) (m n i : ℕ) → m ≡ n → any f i ≡ false → m ≤ i → i ≤ m → i ≡ lowest f n
+lowest-ends-as f m n i q h l g = lowest-ends f n i h (omega arith) (omega arith)
 
 -- some number passes exactly where the lowest that does is below the bound
 pub lowest-any : (f : ℕ → Bool) (n k : ℕ) → k ≡ lowest f n → ltb k n ≡ any f n
@@ -213,6 +232,10 @@ pub ruleset answers = (is-yes, is-no, not-yes, not-no)
 
 pub ruleset alls = (needs, eq-eqb, ne-eqb, answers, all-none, all-more, all-stops, all-ends)
 
+pub ruleset alls-as = (needs, eq-eqb, ne-eqb, answers, all-none, all-more, all-stops-as, all-ends-as)
+
+pub ruleset lowests-as = (needs, answers, any-none, any-goes, lowest-stops-as, lowest-ends-as)
+
 pub ruleset anys = (needs, answers, any-none, any-goes, any-stops, any-ends)
 
 pub ruleset lowests = (needs, answers, any-none, any-goes, lowest-stops, lowest-ends)
@@ -220,6 +243,11 @@ pub ruleset lowests = (needs, answers, any-none, any-goes, lowest-stops, lowest-
 pub ruleset counts = (needs, answers, count-none, count-more, count-ends)
 
 pub ruleset fills = (needs, refl, filled-none, filled-turn, filled-ends)
+
+pub turns-ends-as : {A : Type 0} (step : ℕ → A → A) (m n i : ℕ) (x y : A) → m ≡ n → y ≡ turns step i x → m ≤ i → i ≤ m → y ≡ turns step n x
+turns-ends-as step m n i x y q h g l = turns-ends step n i x y h (omega arith) (omega arith)
+
+pub ruleset turning-as = (needs, refl, turns-none, turns-more, turns-ends-as)
 
 pub ruleset turning = (needs, refl, turns-none, turns-more, turns-ends)
 

@@ -30,3 +30,8 @@ le (suc k) n = n % 256 ∷ le k (n / 256)
 -- the number that four bytes say, low byte first
 abbrev pub word : ℕ → ℕ → ℕ → ℕ → ℕ
 word a b c d = a + 256 * (b + 256 * (c + 256 * d))
+
+-- the number in k bytes from a place on, low byte first
+unfoldable pub numberAt : ℕ → List ℕ → ℕ → ℕ
+numberAt zero s at = 0
+numberAt (suc k) s at = byte s at + 256 * numberAt k s (at + 1)

@@ -1,18 +1,27 @@
 -- Laws of the steps that change an image. Assumes nothing.
-use Prim.Native.Nat.{ℕ, _+_, _*_, _/_, _<_}
+use Prim.Native.Nat.{ℕ, _+_, _-_, _*_, _/_, _%_, _≤_, _<_}
 use mathlib.Core.Path.{_≡_, refl, ap}
-use mathlib.Core.Bool.{Bool, true}
+use mathlib.Core.Bool.{Bool, true, false}
 use mathlib.Core.List.{List, [], _∷_, _++_}
-use lib.ListN.{length, getD, replicate}
+use native.Mathlib.Omega.{arith}
+use lib.ListN.{length, getD, take, drop, replicate}
+use borrow.Rule.Slice.PartMut.{putMid}
+use Rattle.words.proofs.Bytes.{lent-zeros}
 use borrow.Author.Needs.{needs}
 use borrow.Author.Tests.{ltb-true}
-use Rattle.words.specs.Tests.{all}
+use Rattle.words.specs.Tests.{all, _if_else_, _and_}
 use Rattle.words.specs.Lists.{tab}
+use Rattle.words.specs.Bytes.{put, le}
 use Rattle.words.proofs.Tests.{all-at}
 use Rattle.words.proofs.Lists.{tab-getD, filled-turn}
 use Rattle.words.proofs.Sets.{filled-none, filled-ends}
 use Rattle.rules.specs.Locks.{isLow}
-use Rattle.rules.specs.Effects.{madeEntry, lowChanged}
+use Rattle.rules.specs.Effects.{madeEntry, lowChanged, entered, mapped, counted, cleared, stored, written}
+use Rattle.rules.specs.declared.kind.Kind.{Kind}
+use Rattle.rules.specs.declared.kind.Kind.the-variants.{Small, Large}
+use Rattle.rules.specs.Kinds.{width, blockSize}
+use Rattle.rules.specs.Drive.{mapAt, mapPlace, recordAt}
+use Rattle.rules.proofs.Sizes.{record-room}
 use Rattle.rules.specs.declared.file.File.{File}
 use Rattle.rules.specs.declared.spot.Spot.{Spot}
 
@@ -38,3 +47,54 @@ unfolding lowChanged
 low-byte s at name k x h = h
 
 pub ruleset lowering = (needs, low-at, low-byte, filled-none, filled-turn, filled-ends, refl)
+
+-- ---- a block number in an entry's map
+
+pub small-put : (t s : List ℕ) (e k b : ℕ) → t ≡ put (32 * e + (16 + k)) (b % 256 ∷ []) s → t ≡ put (mapAt Small e k) (le (width Small) b) s
+unfolding width le
+small-put t s e k b h = let q : 1 * k ≡ k = omega arith in rw q h
+
+pub large-put : (t s : List ℕ) (e k b : ℕ) → t ≡ put (32 * e + (16 + 2 * k)) (b % 256 ∷ b / 256 % 256 ∷ []) s → t ≡ put (mapAt Large e k) (le (width Large) b) s
+unfolding width le
+large-put t s e k b h = h
+
+pub number-put : (kind one : Kind) (t s : List ℕ) (e k b : ℕ) → kind ≡ one → t ≡ put (mapAt one e k) (le (width one) b) s → t ≡ put (mapAt kind e k) (le (width kind) b) s
+number-put kind one t s e k b q h = rw q h
+
+module _ (kind : Kind) (w : Spot) (r : ℕ) (s : List ℕ) where
+  pub mapped-on : (t : List ℕ) (k : ℕ) → w .taken ≡ true → k ≡ mapPlace kind r → t ≡ put (mapAt kind (w .entry) k) (le (width kind) (w .block)) s → t ≡ mapped kind w r s
+  unfolding mapped _if_else_
+  mapped-on t k y p h = rw (y, ← p) h
+
+  pub mapped-off : w .taken ≡ false → s ≡ mapped kind w r s
+  unfolding mapped _if_else_
+  mapped-off y = rw y
+
+  pub stored-as : (t v x : List ℕ) (at : ℕ) → at ≡ recordAt kind (w .block) r → x ≡ take 128 v → t ≡ put at x s → t ≡ stored kind w r v s
+  unfolding stored
+  stored-as t v x at p q h = rw (← p, ← q) h
+
+-- a record lies in the image with its block
+pub record-lies : (kind : Kind) (block r at : ℕ) (s : List ℕ) → at ≡ recordAt kind block r → blockSize kind * block + blockSize kind ≤ length s → at + 128 ≤ length s
+record-lies kind block r at s h g = rw h (record-room kind block r (length s) g)
+
+-- ---- a block cleared
+
+module _ (kind : Kind) (zeros : Bool) (w : Spot) (xs : List ℕ) where
+  pub cleared-on : (ys : List ℕ) (a m : ℕ) → zeros ≡ true → w .taken ≡ true → a ≡ blockSize kind * w .block → m ≡ blockSize kind → blockSize kind * w .block + blockSize kind ≤ length xs → ys ≡ replicate (length (take (a + m - a) (drop a xs))) 0 → putMid a (a + m - a) xs ys ≡ cleared kind zeros w xs
+  unfolding cleared _if_else_ _and_
+  cleared-on ys a m z y p q f h = rw (z, y, ← p, ← q) (lent-zeros a (a + m) m xs ys refl (omega arith) h)
+
+  pub cleared-no : zeros ≡ false → xs ≡ cleared kind zeros w xs
+  unfolding cleared _if_else_ _and_
+  cleared-no z = rw z
+
+  pub cleared-off : zeros ≡ true → w .taken ≡ false → xs ≡ cleared kind zeros w xs
+  unfolding cleared _if_else_ _and_
+  cleared-off z y = rw (z, y)
+
+-- ---- the steps of a write, one after the other
+
+pub written-as : (kind : Kind) (zeros : Bool) (w : Spot) (e₀ : ℕ) (f : File) (r : ℕ) (v s a b c d t : List ℕ) → a ≡ entered w e₀ f r s → b ≡ mapped kind w r a → c ≡ counted w r b → d ≡ cleared kind zeros w c → t ≡ stored kind w r v d → t ≡ written kind zeros w e₀ f r v s
+unfolding written
+written-as kind zeros w e₀ f r v s a b c d t ha hb hc hd ht = rw (← ha, ← hb, ← hc, ← hd) ht

@@ -1,16 +1,25 @@
 use crate::bytes::fill_zeros;
-use drive::name::eleven_from;
+use directory::name::eleven_from;
+use directory::place::block_at;
+use directory::place::map_place;
+use directory::place::record_at;
 use rules::bytes::put_bytes;
 use rules::file::File;
+use rules::kind::Kind;
+use rules::kind::block_size;
 use rules::spot::Spot;
 ghost use mathlib.Core.Path.{_≡_};
 ghost use Prim.Native.Nat.{_+_, _*_, _<_, _≤_};
 ghost use lib.ListN.{length};
+ghost use Rattle.words.specs.Bytes.{put, le};
+ghost use Rattle.rules.specs.declared.kind.Kind.the-variants.{Small, Large};
+ghost use Rattle.rules.specs.Kinds.{blockSize, numbers, width};
+ghost use Rattle.rules.specs.Drive.{mapAt, recordAt};
 ghost use Rattle.rules.specs.Effects.{newEntry, entered, mapped, counted, cleared, stored, written};
 
 // The 32 bytes of a new entry: the user, the eleven bytes of extent 0 at entry `first`, the ex and module of the extent.
 fn new_entry(image: &[u8], first: usize, f: File, extent: usize) -> [u8; 32]
-    requires { ⌜ (3072 ≤ length (now image)) × (first ≤ 64) × (extent < 2048) ⌝ }
+    requires { ⌜ (32 * first + 32 ≤ length (now image)) × (extent < 2048) ⌝ }
     ensures { λ r. ⌜ r ≡ newEntry (now (image .entry)) first f extent ⌝ }
 {
     let n = eleven_from(image, 32 * first + 1);
@@ -55,7 +64,7 @@ fn new_entry(image: &[u8], first: usize, f: File, extent: usize) -> [u8; 32]
 
 // Makes the entry of a missing extent.
 pub fn enter(image: &mut [u8], w: Spot, first: usize, f: File, r: usize)
-    requires { ⌜ (3072 ≤ length (now image)) × (first ≤ 64) × (w .entry < 64) × (r < 262144) ⌝ }
+    requires { ⌜ (32 * first + 32 ≤ length (now image)) × (32 * w .entry + 32 ≤ length (now image)) × (r < 262144) ⌝ }
     ensures { λ _. ⌜ now (image .exit) ≡ entered w first f r (now (image .entry)) ⌝ }
 {
     if w.fresh {
@@ -65,20 +74,48 @@ pub fn enter(image: &mut [u8], w: Spot, first: usize, f: File, r: usize)
     }
 }
 
+// Stores a one-byte block number in place `k` of entry `e`'s map.
+fn put_small(image: &mut [u8], e: usize, k: usize, block: usize)
+    requires { ⌜ (32 * e + 32 ≤ length (now image)) × (k < 16) ⌝ }
+    ensures { λ _. ⌜ now (image .exit) ≡ put (mapAt Small e k) (le (width Small) block) (now (image .entry)) ⌝ }
+{
+    let v = [(block % 256) as u8];
+    put_bytes(image, 32 * e + (16 + k), &v);
+}
+
+// .. a two-byte one, low byte first
+fn put_large(image: &mut [u8], e: usize, k: usize, block: usize)
+    requires { ⌜ (32 * e + 32 ≤ length (now image)) × (k < 8) ⌝ }
+    ensures { λ _. ⌜ now (image .exit) ≡ put (mapAt Large e k) (le (width Large) block) (now (image .entry)) ⌝ }
+{
+    let v = [(block % 256) as u8, (block / 256 % 256) as u8];
+    put_bytes(image, 32 * e + (16 + 2 * k), &v);
+}
+
+// .. of either kind
+fn put_number(kind: Kind, image: &mut [u8], e: usize, k: usize, block: usize)
+    requires { ⌜ (32 * e + 32 ≤ length (now image)) × (k < numbers kind) ⌝ }
+    ensures { λ _. ⌜ now (image .exit) ≡ put (mapAt kind e k) (le (width kind) block) (now (image .entry)) ⌝ }
+{
+    match kind {
+        Kind::Small => put_small(image, e, k, block),
+        Kind::Large => put_large(image, e, k, block),
+    }
+}
+
 // Puts a block that is taken into the extent's map.
-pub fn map_block(image: &mut [u8], w: Spot, r: usize)
-    requires { ⌜ (3072 ≤ length (now image)) × (w .entry < 64) × (w .block < 256) ⌝ }
-    ensures { λ _. ⌜ now (image .exit) ≡ mapped w r (now (image .entry)) ⌝ }
+pub fn map_block(kind: Kind, image: &mut [u8], w: Spot, r: usize)
+    requires { ⌜ 32 * w .entry + 32 ≤ length (now image) ⌝ }
+    ensures { λ _. ⌜ now (image .exit) ≡ mapped kind w r (now (image .entry)) ⌝ }
 {
     if w.taken {
-        let at = 32 * w.entry + (16 + r % 128 / 8);
-        image[at] = w.block as u8;
+        put_number(kind, image, w.entry, map_place(kind, r), w.block);
     }
 }
 
 // Raises the extent's count to the record's place in its extent plus one.
 pub fn raise_count(image: &mut [u8], w: Spot, r: usize)
-    requires { ⌜ (3072 ≤ length (now image)) × (w .entry < 64) ⌝ }
+    requires { ⌜ 32 * w .entry + 32 ≤ length (now image) ⌝ }
     ensures { λ _. ⌜ now (image .exit) ≡ counted w r (now (image .entry)) ⌝ }
 {
     let at = 32 * w.entry + 15;
@@ -89,30 +126,31 @@ pub fn raise_count(image: &mut [u8], w: Spot, r: usize)
 }
 
 // Clears a block that 40 has just taken: its part of the image is lent to be filled.
-pub fn clear_block(image: &mut [u8], zeros: bool, w: Spot)
-    requires { ⌜ 1024 * w .block + 1024 ≤ length (now image) ⌝ }
-    ensures { λ _. ⌜ now (image .exit) ≡ cleared zeros w (now (image .entry)) ⌝ }
+pub fn clear_block(kind: Kind, image: &mut [u8], zeros: bool, w: Spot)
+    requires { ⌜ (w .block < 65536) × (blockSize kind * w .block + blockSize kind ≤ length (now image)) ⌝ }
+    ensures { λ _. ⌜ now (image .exit) ≡ cleared kind zeros w (now (image .entry)) ⌝ }
 {
     if zeros {
         if w.taken {
-            let a = 1024 * w.block;
-            let e = a + 1024;
+            let a = block_at(kind, w.block);
+            let e = a + block_size(kind);
             fill_zeros(&mut image[a..e]);
         }
     }
 }
 
 // Stores the record's 128 bytes.
-pub fn store_record(image: &mut [u8], w: Spot, r: usize, v: &[u8])
-    requires { ⌜ (1024 * w .block + 1024 ≤ length (now image)) × (128 ≤ length (now v)) ⌝ }
-    ensures { λ _. ⌜ now (image .exit) ≡ stored w r (now (v .entry)) (now (image .entry)) ⌝ }
+pub fn store_record(kind: Kind, image: &mut [u8], w: Spot, r: usize, v: &[u8])
+    requires { ⌜ (w .block < 65536) × (recordAt kind (w .block) r + 128 ≤ length (now image)) × (128 ≤ length (now v)) ⌝ }
+    ensures { λ _. ⌜ now (image .exit) ≡ stored kind w r (now (v .entry)) (now (image .entry)) ⌝ }
 {
-    let at = 1024 * w.block + 128 * (r % 8);
+    let at = record_at(kind, w.block, r);
     put_bytes(image, at, &v[..128]);
 }
 
 // Writes record `r` of the file, whose extent 0 is at entry `first`. The spot is known to be had.
 pub fn write_record(
+    kind: Kind,
     image: &mut [u8],
     zeros: bool,
     w: Spot,
@@ -121,12 +159,12 @@ pub fn write_record(
     r: usize,
     v: &[u8],
 )
-    requires { ⌜ (3072 ≤ length (now image)) × (1024 * w .block + 1024 ≤ length (now image)) × (w .entry < 64) × (w .block < 256) × (first ≤ 64) × (r < 262144) × (128 ≤ length (now v)) ⌝ }
-    ensures { λ _. ⌜ now (image .exit) ≡ written zeros w first f r (now (v .entry)) (now (image .entry)) ⌝ }
+    requires { ⌜ (32 * first + 32 ≤ length (now image)) × (32 * w .entry + 32 ≤ length (now image)) × (w .block < 65536) × (blockSize kind * w .block + blockSize kind ≤ length (now image)) × (recordAt kind (w .block) r + 128 ≤ length (now image)) × (r < 262144) × (128 ≤ length (now v)) ⌝ }
+    ensures { λ _. ⌜ now (image .exit) ≡ written kind zeros w first f r (now (v .entry)) (now (image .entry)) ⌝ }
 {
     enter(&mut *image, w, first, f, r);
-    map_block(&mut *image, w, r);
+    map_block(kind, &mut *image, w, r);
     raise_count(&mut *image, w, r);
-    clear_block(&mut *image, zeros, w);
-    store_record(image, w, r, v);
+    clear_block(kind, &mut *image, zeros, w);
+    store_record(kind, image, w, r, v);
 }

@@ -1,20 +1,24 @@
-use drive::find::block_in;
-use drive::find::free_entry;
+use directory::find::block_in;
+use directory::find::free_entry;
 use drive::free::free_block;
+use rules::kind::Kind;
+use rules::kind::entries;
 use rules::spot::Spot;
 ghost use mathlib.Core.Path.{_≡_};
-ghost use Prim.Native.Nat.{_≤_};
+ghost use Prim.Native.Nat.{_*_, _≤_};
 ghost use lib.ListN.{length};
+ghost use Rattle.rules.specs.Kinds.{entries, most};
+ghost use Rattle.rules.specs.Drive.{blocks};
 ghost use Rattle.rules.specs.Effects.{spotAt};
 
-// Where record `r` is to be written, its extent being at entry `e` (64: missing). Nothing is taken yet.
-pub fn spot_at(image: &[u8], e: usize, r: usize) -> Spot
-    requires { ⌜ (3072 ≤ length (now image)) × (length (now image) ≤ 262144) ⌝ }
-    ensures { λ w. ⌜ w ≡ spotAt (now (image .entry)) e r ⌝ }
+// Where record `r` is to be written, its extent being at entry `e` (the number of entries: missing). Nothing is taken yet.
+pub fn spot_at(kind: Kind, image: &[u8], e: usize, r: usize) -> Spot
+    requires { ⌜ (32 * entries kind ≤ length (now image)) × (blocks kind (now image) ≤ most kind) ⌝ }
+    ensures { λ w. ⌜ w ≡ spotAt kind (now (image .entry)) e r ⌝ }
 {
-    if 64 <= e {
-        let entry = free_entry(image);
-        let block = free_block(image);
+    if entries(kind) <= e {
+        let entry = free_entry(kind, image);
+        let block = free_block(kind, image);
         return Spot {
             entry: entry,
             fresh: true,
@@ -22,9 +26,9 @@ pub fn spot_at(image: &[u8], e: usize, r: usize) -> Spot
             taken: true,
         };
     }
-    let own = block_in(image, e, r);
+    let own = block_in(kind, image, e, r);
     if own == 0 {
-        let block = free_block(image);
+        let block = free_block(kind, image);
         return Spot {
             entry: e,
             fresh: false,

@@ -10,6 +10,6 @@ mpm-look-spec =
     -- look-at-requires src/lib.rt:82:5
     (λ c κs. search needs)
     -- cast-result src/lib.rt:82:5
-    (λ c. let h = look-small _ _ _ _ _ (c .look-at .ensures) in search needs)
+    (λ c. let h = look-small _ _ _ _ _ _ (c .look-at .ensures) in search needs)
     -- returns src/lib.rt:78:1
     (λ c. search needs))

@@ -2,7 +2,7 @@ use mathlib.Core.Path.{refl}
 use borrow.Author.Needs.{needs}
 use Rattle.words.proofs.Sets.{choices}
 use Rattle.rules.specs.Drive.{imageCheck}
-use Rattle.drive.proofs.Looking.{directory-there}
+use Rattle.drive.proofs.Looking.{directory-there, blocks-few}
 use Rattle.drive.proofs.check.image_check.Statement.{statement}
 use Rattle.drive.proofs.check.image_check.Tie as tie
 
@@ -14,10 +14,10 @@ image-check-spec =
     -- good-length-requires src/check.rt:209:9
     (λ c κs. search needs)
     -- returns src/check.rt:210:9
-    (λ c. search (choices, refl, directory-there) depth 8 fits 20000)
+    (λ c. search (choices, refl, directory-there, blocks-few) depth 8 fits 20000)
     -- sound-directory-requires src/check.rt:212:9
-    (λ c κs. search (choices, refl, directory-there) depth 8 fits 20000)
+    (λ c κs. search (choices, refl, directory-there, blocks-few) depth 8 fits 20000)
     -- returns-2 src/check.rt:213:9
-    (λ c. search (choices, refl, directory-there) depth 8 fits 20000)
+    (λ c. search (choices, refl, directory-there, blocks-few) depth 8 fits 20000)
     -- returns-3 src/check.rt:206:1
-    (λ c. search (choices, refl, directory-there) depth 8 fits 20000))
+    (λ c. search (choices, refl, directory-there, blocks-few) depth 8 fits 20000))

@@ -1,5 +1,5 @@
-use borrow.Author.Needs.{needs}
-use Rattle.words.proofs.Sets.{wides}
+-- `drive::check::in_range` meets its contract.
+use Rattle.words.proofs.Sets.{choices}
 use Rattle.drive.proofs.check.in_range.Statement.{statement}
 use Rattle.drive.proofs.check.in_range.Tie as tie
 
@@ -7,11 +7,9 @@ pub in-range-spec : {M : Type 1} → statement M
 in-range-spec =
     tie.close
     (tie.spec
-    -- returns src/check.rt:63:9
-    (λ c. search wides depth 8 fits 20000)
-    -- returns-2 src/check.rt:66:9
-    (λ c. search wides depth 8 fits 20000)
-    -- wide-requires src/check.rt:68:5
-    (λ c κs. search needs)
-    -- returns-3 src/check.rt:59:1
-    (λ c. search wides depth 8 fits 20000))
+    -- returns
+    (λ c. search choices depth 8 fits 20000)
+    -- returns-2
+    (λ c. search choices depth 8 fits 20000)
+    -- returns-3
+    (λ c. search choices depth 8 fits 20000))

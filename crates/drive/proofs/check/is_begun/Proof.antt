@@ -1,7 +1,8 @@
+-- `drive::check::is_begun` meets its contract.
 use borrow.Author.Needs.{needs}
 use Rattle.words.proofs.Sets.{choices}
 use Rattle.rules.specs.Drive.{isBegun}
-use Rattle.drive.proofs.Begun.{begun-self}
+use Rattle.drive.proofs.Begun.{begun-self, first-as}
 use Rattle.drive.proofs.check.is_begun.Statement.{statement}
 use Rattle.drive.proofs.check.is_begun.Tie as tie
 
@@ -10,15 +11,17 @@ unfolding isBegun
 is-begun-spec =
     tie.close
     (tie.spec
-    -- is-empty-requires src/check.rt:172:8
+    -- is-empty-requires
     (λ c κs. search needs)
-    -- returns src/check.rt:173:9
-    (λ c. search (choices, begun-self) depth 8 fits 20000)
-    -- extent-at-requires src/check.rt:175:8
+    -- returns
+    (λ c. search (choices, begun-self, first-as) depth 8 fits 20000)
+    -- extent-at-requires
     (λ c κs. search needs)
-    -- returns-2 src/check.rt:176:9
-    (λ c. search (choices, begun-self) depth 8 fits 20000)
-    -- has-first-requires src/check.rt:178:5
+    -- returns-2
+    (λ c. search (choices, begun-self, first-as) depth 8 fits 20000)
+    -- entries-requires
     (λ c κs. search needs)
-    -- returns-3 src/check.rt:168:1
-    (λ c. search (choices, begun-self) depth 8 fits 20000))
+    -- has-first-requires
+    (λ c κs. search needs)
+    -- returns-3
+    (λ c. search (choices, begun-self, first-as) depth 8 fits 20000))

@@ -11,38 +11,40 @@ use Rattle.drive.proofs.check.mark_entry.Statement.{statement}
 use Rattle.drive.proofs.check.mark_entry.Tie as tie
 
 abbrev Inv-loop : tie.InvT-loop
-Inv-loop image e seen₀ k₀ seen k = (k ≤ 16) × (length seen ≡ length seen₀) × (all (isFirst image e) k ≡ true) × Marks 1 image e k seen
+Inv-loop kind image e seen₀ m k₀ seen k = (k ≤ m) × (length seen ≡ length seen₀) × (all (isFirst kind image e) k ≡ true) × Marks kind 1 image e k seen
 
 abbrev μ-loop : tie.MeasureT-loop
-μ-loop image e seen₀ k₀ seen k = 16 - k
+μ-loop kind image e seen₀ m k₀ seen k = m - k
 
 pub mark-entry-spec : {M : Type 1} → statement M
 mark-entry-spec =
     tie.close
     (tie.spec Inv-loop μ-loop
+    -- numbers-requires
+    (λ c κs. search marking depth 7 fits 20000)
     -- loop-holds
-    (λ c. search marking depth 6 fits 20000)
+    (λ c. search marking depth 7 fits 20000)
     -- map-number-requires
-    (λ c κs. search marking depth 6 fits 20000)
+    (λ c κs. search marking depth 7 fits 20000)
     -- add-k
-    (λ c. search marking depth 6 fits 20000)
+    (λ c. search marking depth 7 fits 20000)
     -- is-set-requires
-    (λ c κs. search marking depth 6 fits 20000)
+    (λ c κs. search marking depth 7 fits 20000)
     -- same-length
-    (λ c. search marking depth 6 fits 20000)
+    (λ c. search marking depth 7 fits 20000)
     -- returns
-    (λ c. search marking depth 6 fits 20000)
+    (λ c. search marking depth 7 fits 20000)
     -- set-requires
-    (λ c κs. search marking depth 6 fits 20000)
+    (λ c κs. search marking depth 7 fits 20000)
     -- loop-less
-    (λ c. search marking depth 6 fits 20000)
+    (λ c. search marking depth 7 fits 20000)
     -- loop-again
-    (λ c. search marking depth 6 fits 20000)
+    (λ c. search marking depth 7 fits 20000)
     -- loop-less-2
-    (λ c. search marking depth 6 fits 20000)
+    (λ c. search marking depth 7 fits 20000)
     -- loop-again-2
-    (λ c. search marking depth 6 fits 20000)
+    (λ c. search marking depth 7 fits 20000)
     -- same-length-2
-    (λ c. search marking depth 6 fits 20000)
+    (λ c. search marking depth 7 fits 20000)
     -- returns-2
-    (λ c. search marking depth 6 fits 20000))
+    (λ c. search marking depth 7 fits 20000))

@@ -1,7 +1,7 @@
 use borrow.Author.Needs.{needs}
 use Rattle.words.proofs.Sets.{choices}
 use Rattle.rules.specs.Drive.{soundImage}
-use Rattle.drive.proofs.Looking.{directory-there}
+use Rattle.drive.proofs.Looking.{directory-there, blocks-few}
 use Rattle.drive.proofs.check.sound_image.Statement.{statement}
 use Rattle.drive.proofs.check.sound_image.Tie as tie
 
@@ -13,8 +13,8 @@ sound-image-spec =
     -- good-length-requires src/check.rt:222:9
     (λ c κs. search needs)
     -- returns src/check.rt:223:9
-    (λ c. search (choices, directory-there) depth 8 fits 20000)
+    (λ c. search (choices, directory-there, blocks-few) depth 8 fits 20000)
     -- sound-directory-requires src/check.rt:225:5
-    (λ c κs. search (choices, directory-there) depth 8 fits 20000)
+    (λ c κs. search (choices, directory-there, blocks-few) depth 8 fits 20000)
     -- returns-2 src/check.rt:219:1
-    (λ c. search (choices, directory-there) depth 8 fits 20000))
+    (λ c. search (choices, directory-there, blocks-few) depth 8 fits 20000))

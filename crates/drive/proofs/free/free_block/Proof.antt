@@ -1,6 +1,6 @@
 -- `drive::free::free_block` meets its contract.
 use borrow.Author.Needs.{needs}
-use Rattle.drive.proofs.Marks.{freeing}
+use Rattle.drive.proofs.Marks.{one-kind}
 use Rattle.drive.proofs.free.free_block.Statement.{statement}
 use Rattle.drive.proofs.free.free_block.Tie as tie
 
@@ -8,11 +8,15 @@ pub free-block-spec : {M : Type 1} → statement M
 free-block-spec =
     tie.close
     (tie.spec
-    -- used-blocks-requires
-    (λ c κs. search needs)
-    -- slice-aggregate-lowest-clear
+    -- enum-told
     (λ c. search needs)
-    -- lowest-clear-requires
-    (λ c κs. search needs)
+    -- small-free-requires
+    (λ c κs. search (needs, one-kind) depth 6)
+    -- enum-told-2
+    (λ c. search needs)
+    -- large-free-requires
+    (λ c κs. search (needs, one-kind) depth 6)
     -- returns
-    (λ c. search freeing))
+    (λ c. search (needs, one-kind) depth 6)
+    -- returns-2
+    (λ c. search (needs, one-kind) depth 6))

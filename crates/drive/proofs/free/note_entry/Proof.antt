@@ -8,10 +8,10 @@ use Rattle.drive.proofs.free.note_entry.Statement.{statement}
 use Rattle.drive.proofs.free.note_entry.Tie as tie
 
 abbrev Inv-loop : tie.InvT-loop
-Inv-loop image e used₀ k₀ used k = (k ≤ 16) × (length used ≡ length used₀) × InUse image e k used
+Inv-loop kind image e used₀ m k₀ used k = (k ≤ m) × (length used ≡ length used₀) × InUse kind image e k used
 
 abbrev μ-loop : tie.MeasureT-loop
-μ-loop image e used₀ k₀ used k = 16 - k
+μ-loop kind image e used₀ m k₀ used k = m - k
 
 pub note-entry-spec : {M : Type 1} → statement M
 note-entry-spec =
@@ -21,6 +21,8 @@ note-entry-spec =
     (λ c κs. search noting depth 6 fits 20000)
     -- returns
     (λ c. search noting depth 6 fits 20000)
+    -- numbers-requires
+    (λ c κs. search noting depth 6 fits 20000)
     -- loop-holds
     (λ c. search noting depth 6 fits 20000)
     -- map-number-requires

@@ -20,12 +20,12 @@ look-spec =
     -- returns src/look.rt:62:9
     (λ c. search look-none)
     -- add-end src/look.rt:64:15
-    (λ c. omega (arith, look-room _ _ _ _ _ _ (c .before .look-at .ensures) (c .if1 .left)))
+    (λ c. omega (arith, look-room _ _ _ _ _ _ _ (c .before .look-at .ensures) (c .if1 .left)))
     -- sub-result-2 src/look.rt:65:5
     (λ c. search needs)
     -- part-result-start-2 src/look.rt:65:5
     (λ c. search needs)
     -- part-result-end-2 src/look.rt:65:5
-    (λ c. let h = look-room _ _ _ _ _ _ (c .before .look-at .ensures) (c .if1 .left) in search needs)
+    (λ c. let h = look-room _ _ _ _ _ _ _ (c .before .look-at .ensures) (c .if1 .left) in search needs)
     -- returns-2 src/look.rt:57:1
-    (λ c. look-some _ _ _ _ _ _ (c .before .before .look-at .ensures) (c .before .if1 .left) _ refl))
+    (λ c. look-some _ _ _ _ _ _ _ (c .before .before .look-at .ensures) (c .before .if1 .left) _ refl))

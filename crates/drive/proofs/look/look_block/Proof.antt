@@ -13,7 +13,7 @@ look-block-spec =
     -- returns src/look.rt:32:9
     (λ c. search (looked-not, needs))
     -- cast-file-from src/look.rt:34:23
-    (λ c. omega (arith, looked-user _ _ _ _ _ (c .before .may-look .ensures) (c .if1 .left)))
+    (λ c. omega (arith, looked-user _ _ _ _ _ _ (c .before .may-look .ensures) (c .if1 .left)))
     -- file-from-requires src/look.rt:34:9
     (λ c κs. search looked-long)
     -- block-of-requires src/look.rt:35:5

@@ -46,7 +46,7 @@ answer-spec =
     (λ c κs.
     let e = c .before .before .before .before .before .before .before .before .before .before .before .before .bad-numbers .ensures in
     let t = c .before .before .before .before .before .before .before .before .before .before .before .if1 .left in
-    let g = all-passed _ _ _ _ _ _ _ e t _ _ (c .before .before .before .before .before .refusal .ensures) (c .before .before .before .before .if2 .left) in
+    let g = all-passed _ _ _ _ _ _ _ e t _ _ _ (c .before .before .before .before .before .refusal .ensures) (c .before .before .before .before .if2 .left) in
     (search is-call, g .0 .process-fits, search needs, g .0 .run-some, g .0 .run-fits, g .1, g .0 .ready))
     -- same-length-8 src/lib.rt:25:1
     (λ c. search needs)
@@ -57,4 +57,4 @@ answer-spec =
     -- same-length-11 src/lib.rt:25:1
     (λ c. search needs)
     -- returns-4 src/lib.rt:25:1
-    (λ c. ends-served _ _ _ _ _ _ (c .before .before .before .before .before .before .before .before .before .before .before .before .before .before .before .before .before .before .before .before .before .bad-numbers .ensures) (c .before .before .before .before .before .before .before .before .before .before .before .before .before .before .before .before .before .before .before .before .if1 .left) _ (c .before .before .before .before .before .before .before .before .before .before .before .before .before .before .refusal .ensures) _ _ _ _ _ _ _ (c .before .before .before .before .before .before .before .before .before .before .before .before .before .if2 .left) (c .before .before .before .before .before .before .before .before .before .before .before .before .before .before .before .before .before .before .before .before .before .before .before .before .before .before .before .before .routine-of .ensures) (c .before .before .before .before .before .before .before .before .serve-by .ensures) (search (c .before .before .before .before .before .before .before .before .before .before .before .before .before .before .before .before .before .before .before .before .before .before .before .before .before .before .before .match, c .before .before .before .before .before .before .before .before .before .before .before .before .before .before .before .before .before .before .before .before .before .before .before .before .before .known-told .given, c .before .before .before .before .before .before .before .before .before .before .before .before .before .before .before .before .before .before .before .before .before .before .before .before .before .before .chosen .given))))
+    (λ c. ends-served _ _ _ _ _ _ _ (c .before .before .before .before .before .before .before .before .before .before .before .before .before .before .before .before .before .before .before .before .before .bad-numbers .ensures) (c .before .before .before .before .before .before .before .before .before .before .before .before .before .before .before .before .before .before .before .before .if1 .left) _ (c .before .before .before .before .before .before .before .before .before .before .before .before .before .before .refusal .ensures) _ _ _ _ _ _ _ (c .before .before .before .before .before .before .before .before .before .before .before .before .before .if2 .left) (c .before .before .before .before .before .before .before .before .before .before .before .before .before .before .before .before .before .before .before .before .before .before .before .before .before .before .before .before .routine-of .ensures) (c .before .before .before .before .before .before .before .before .serve-by .ensures) (search (c .before .before .before .before .before .before .before .before .before .before .before .before .before .before .before .before .before .before .before .before .before .before .before .before .before .before .before .match, c .before .before .before .before .before .before .before .before .before .before .before .before .before .before .before .before .before .before .before .before .before .before .before .before .before .known-told .given, c .before .before .before .before .before .before .before .before .before .before .before .before .before .before .before .before .before .before .before .before .before .before .before .before .before .before .chosen .given))))

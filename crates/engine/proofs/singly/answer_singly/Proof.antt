@@ -37,7 +37,7 @@ answer-singly-spec =
     (λ c. search singly-stopped)
     -- call-each-requires
     (λ c κs.
-    let g = goes-each _ _ _ _ _ _ _ _ (c .before .before .before .before .before .general-refusal .ensures) (c .before .before .before .before .if2 .left) in
+    let g = goes-each _ _ _ _ _ _ _ _ _ (c .before .before .before .before .before .general-refusal .ensures) (c .before .before .before .before .if2 .left) in
     (search not-yes, g .0, g .1, g .2))
     -- same-length-9
     (λ c. search needs)

@@ -25,9 +25,9 @@ make-by-spec =
     -- free-place-requires src/make.rt:70:9
     (λ c κs. search needs)
     -- make-entry-requires src/make.rt:71:5
-    (λ c κs. let h = make-room _ _ _ _ _ _ _ (c .before .before .before .before .before .before .before .make-refusal .ensures) (c .before .before .before .before .before .before .if1 .left) (c .before .before .free-entry .ensures .0) in search needs)
+    (λ c κs. let h = make-room _ _ _ _ _ _ _ _ (c .before .before .before .before .before .before .before .make-refusal .ensures) (c .before .before .before .before .before .before .if1 .left) (c .before .before .free-entry .ensures .0) in search needs)
     -- set-fcb-requires src/make.rt:72:5
-    (λ c κs. let h = place-fits _ _ (c .before .before .before .before .before .before .free-place .ensures) (search needs) in search needs)
+    (λ c κs. let h = place-fits _ _ (c .before .before .before .before .before .before .free-place .ensures) (search (needs, c .before .before .before .before .before .before .before .before .before .before .before .before .before .before .before .before .before .before .before .before .before .good .1 .1 .0)) in search needs)
     -- open-requires src/make.rt:73:10
     (λ c κs. search needs)
     -- pack-requires src/make.rt:73:5
@@ -39,4 +39,17 @@ make-by-spec =
     -- same-length-5 src/make.rt:51:1
     (λ c. search needs)
     -- returns-2 src/make.rt:51:1
-    (λ c. search make-done))
+    (λ c.
+    let packed = c .before .before in
+    let held = packed .before .before in
+    let set = held .before .before .before in
+    let entered = set .before .before .before .before .before in
+    let place = entered .before .before in
+    let free = place .before in
+    let mode = free .before .before in
+    let passed = mode .before .before in
+    let code = passed .before in
+    let found = code .before .before .before in
+    make-done _ _ _ _ _ _ _ (found .look-up .ensures .0) (code .make-refusal .ensures) _ _ _ _ _ _ _ (passed .if1 .left)
+    (mode .make-mode .ensures) (free .free-entry .ensures .0) (place .free-place .ensures) (entered .make-entry .ensures)
+    (set .set-fcb .ensures) (held .«open» .ensures) (packed .pack .ensures)))

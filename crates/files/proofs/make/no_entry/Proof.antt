@@ -6,6 +6,8 @@ pub no-entry-spec : {M : Type 1} → statement M
 no-entry-spec =
     tie.close
     (tie.spec
+    -- entries-requires
+    (λ c κs. search needs)
     -- free-entry-requires src/make.rt:34:11
     (λ c κs. search needs)
     -- returns src/make.rt:30:1

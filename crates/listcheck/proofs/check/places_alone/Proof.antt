@@ -8,10 +8,10 @@ use Rattle.listcheck.proofs.check.places_alone.Statement.{statement}
 use Rattle.listcheck.proofs.check.places_alone.Tie as tie
 
 abbrev Inv-loop : tie.InvT-loop
-Inv-loop image l users capacity i₀ i = (i ≤ 64) × (all (placeAloneAt image l) i ≡ true)
+Inv-loop kind image l users capacity i₀ i = (i ≤ 64) × (all (placeAloneAt kind image l) i ≡ true)
 
 abbrev μ-loop : tie.MeasureT-loop
-μ-loop image l users capacity i₀ i = 64 - i
+μ-loop kind image l users capacity i₀ i = 64 - i
 
 pub places-alone-spec : {M : Type 1} → statement M
 unfolding placeAloneAt

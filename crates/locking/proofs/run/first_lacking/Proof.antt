@@ -8,10 +8,10 @@ use Rattle.locking.proofs.run.first_lacking.Statement.{statement}
 use Rattle.locking.proofs.run.first_lacking.Tie as tie
 
 abbrev Inv-loop : tie.InvT-loop
-Inv-loop image f r n k₀ k = (k ≤ n) × (any (lacks image f r) k ≡ false)
+Inv-loop kind image f r n k₀ k = (k ≤ n) × (any (lacks kind image f r) k ≡ false)
 
 abbrev μ-loop : tie.MeasureT-loop
-μ-loop image f r n k₀ k = n - k
+μ-loop kind image f r n k₀ k = n - k
 
 pub first-lacking-spec : {M : Type 1} → statement M
 unfolding firstLacking

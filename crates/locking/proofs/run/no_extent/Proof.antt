@@ -8,6 +8,8 @@ unfolding noExtent
 no-extent-spec =
     tie.close
     (tie.spec
+    -- entries-requires
+    (λ c κs. search needs)
     -- add-entry-of src/run.rt:45:31
     (λ c. search needs)
     -- entry-of-requires src/run.rt:45:11

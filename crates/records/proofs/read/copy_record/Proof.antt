@@ -1,5 +1,6 @@
 -- `records::read::copy_record` meets its contract.
 use borrow.Author.Needs.{needs}
+use Rattle.writing.proofs.Entries.{record-lies}
 use Rattle.records.proofs.Reading.{copied}
 use Rattle.records.proofs.read.copy_record.Statement.{statement}
 use Rattle.records.proofs.read.copy_record.Tie as tie
@@ -8,12 +9,8 @@ pub copy-record-spec : {M : Type 1} → statement M
 copy-record-spec =
     tie.close
     (tie.spec
-    -- mul-start
-    (λ c. search needs)
-    -- mul-start-2
-    (λ c. search needs)
-    -- add-start
-    (λ c. search needs)
+    -- record-at-requires
+    (λ c κs. search needs)
     -- add-end
     (λ c. search needs)
     -- sub-put-bytes
@@ -21,7 +18,7 @@ copy-record-spec =
     -- part-put-bytes-start
     (λ c. search needs)
     -- part-put-bytes-end
-    (λ c. search needs)
+    (λ c. search (needs, record-lies))
     -- put-bytes-requires
     (λ c κs. search needs)
     -- same-length

@@ -1,3 +1,4 @@
+-- `records::space::free_space` meets its contract.
 use borrow.Author.Needs.{needs}
 use Rattle.records.proofs.Testing.{space-done}
 use Rattle.records.proofs.space.free_space.Statement.{statement}
@@ -7,17 +8,15 @@ pub free-space-spec : {M : Type 1} → statement M
 free-space-spec =
     tie.close
     (tie.spec
-    -- free-blocks-requires src/space.rt:27:29
+    -- free-records-requires
     (λ c κs. search needs)
-    -- mul-three-bytes src/space.rt:27:25
-    (λ c. search needs)
-    -- three-bytes-requires src/space.rt:27:13
+    -- three-bytes-requires
     (λ c κs. search needs)
-    -- slice-aggregate-put-bytes src/space.rt:28:23
+    -- slice-aggregate-put-bytes
     (λ c. search needs)
-    -- put-bytes-requires src/space.rt:28:5
+    -- put-bytes-requires
     (λ c κs. search needs)
-    -- same-length src/space.rt:23:1
+    -- same-length
     (λ c. search needs)
-    -- returns src/space.rt:23:1
+    -- returns
     (λ c. search space-done))

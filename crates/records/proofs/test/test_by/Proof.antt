@@ -1,7 +1,9 @@
 use borrow.Author.Needs.{needs}
+use native.Mathlib.Omega.{arith}
 use Rattle.rules.specs.Drive.{highest}
 use Rattle.rules.proofs.Room.{there-within}
-use Rattle.records.proofs.Testing.{test-refused, test-lacking, test-differs, test-done}
+use Rattle.writing.proofs.Entries.{record-lies}
+use Rattle.records.proofs.Testing.{record-at-room, test-refused, test-lacking, test-differs, test-done}
 use Rattle.records.proofs.Writing.{may-number}
 use Rattle.records.proofs.test.test_by.Statement.{statement}
 use Rattle.records.proofs.test.test_by.Tie as tie
@@ -28,14 +30,10 @@ test-by-spec =
     (λ c. search test-lacking)
     -- spot-at-requires src/test.rt:65:9
     (λ c κs. search needs)
-    -- mul-any-differs src/test.rt:67:34
-    (λ c. let h = there-within highest _ (c .before .before .before .before .before .before .before .before .before .before .before .before .before .before .before .before .before .pre .image-sound) _ _ _ _ _ (c .before .before .before .before .before .before .entry-of2 .ensures .0) (c .before .spot-at .ensures) (c .before .before .before .before .not-there .ensures) (c .before .before .before .if2 .left) in search needs)
-    -- mul-any-differs-2 src/test.rt:67:49
-    (λ c. search needs)
-    -- add-any-differs src/test.rt:67:34
-    (λ c. let h = there-within highest _ (c .before .before .before .before .before .before .before .before .before .before .before .before .before .before .before .before .before .pre .image-sound) _ _ _ _ _ (c .before .before .before .before .before .before .entry-of2 .ensures .0) (c .before .spot-at .ensures) (c .before .before .before .before .not-there .ensures) (c .before .before .before .if2 .left) in search needs)
-    -- any-differs-requires src/test.rt:67:8
-    (λ c κs. let h = there-within highest _ (c .before .before .before .before .before .before .before .before .before .before .before .before .before .before .before .before .before .pre .image-sound) _ _ _ _ _ (c .before .before .before .before .before .before .entry-of2 .ensures .0) (c .before .spot-at .ensures) (c .before .before .before .before .not-there .ensures) (c .before .before .before .if2 .left) in search needs)
+    -- record-at-requires
+    (λ c κs. let h = there-within _ highest _ (c .before .before .before .before .before .before .before .before .before .before .before .before .before .before .before .before .before .pre .image-sound) _ _ _ _ _ (c .before .before .before .before .before .before .entry-of2 .ensures .0) (c .before .spot-at .ensures) (c .before .before .before .before .not-there .ensures) (c .before .before .before .if2 .left) in search needs)
+    -- any-differs-requires
+    (λ c κs. let h = there-within _ highest _ (c .before .before .before .before .before .before .before .before .before .before .before .before .before .before .before .before .before .before .pre .image-sound) _ _ _ _ _ (c .before .before .before .before .before .before .before .entry-of2 .ensures .0) (c .before .before .spot-at .ensures) (c .before .before .before .before .before .not-there .ensures) (c .before .before .before .before .if2 .left) in search (needs, record-lies))
     -- same-length-3 src/test.rt:68:9
     (λ c. search needs)
     -- returns-3 src/test.rt:68:9
@@ -45,9 +43,16 @@ test-by-spec =
     -- part-write-record-start src/test.rt:70:55
     (λ c. search needs)
     -- part-write-record-end src/test.rt:70:55
-    (λ c. search needs)
-    -- write-record-requires src/test.rt:70:5
-    (λ c κs. let h = there-within highest _ (c .before .before .before .before .before .before .before .before .before .before .before .before .before .before .before .before .before .before .before .before .before .pre .image-sound) _ _ _ _ _ (c .before .before .before .before .before .before .before .before .before .before .entry-of2 .ensures .0) (c .before .before .before .before .before .spot-at .ensures) (c .before .before .before .before .before .before .before .before .not-there .ensures) (c .before .before .before .before .before .before .before .if2 .left) in let n = may-number _ _ _ _ _ _ _ _ (c .before .before .before .before .before .before .before .before .before .before .before .before .before .may-write .ensures) (c .before .before .before .before .before .before .before .before .before .before .before .before .if1 .left) in search needs)
+    (λ c. let d = c .before .before .before .before .before .before .before .before .before .before .before .before .before .before .before .before .before .before .before .before .before .pre .dma-long in search needs)
+    -- write-record-requires
+    (λ c κs.
+    let h = there-within _ highest _ (c .before .before .before .before .before .before .before .before .before .before .before .before .before .before .before .before .before .before .before .before .before .before .pre .image-sound) _ _ _ _ _ (c .before .before .before .before .before .before .before .before .before .before .before .entry-of2 .ensures .0) (c .before .before .before .before .before .before .spot-at .ensures) (c .before .before .before .before .before .before .before .before .before .not-there .ensures) (c .before .before .before .before .before .before .before .before .if2 .left) in
+    let n = may-number _ _ _ _ _ _ _ _ (c .before .before .before .before .before .before .before .before .before .before .before .before .before .before .may-write .ensures) (c .before .before .before .before .before .before .before .before .before .before .before .before .before .if1 .left) in
+    let i = c .before .before .before .before .before .before .before .before .before .before .before .before .before .before .before .before .before .before .before .before .before .before .pre .image-long in
+    let d = c .before .before .before .before .before .before .before .before .before .before .before .before .before .before .before .before .before .before .before .before .before .before .pre .dma-long in
+    let a = c .before .before .before .before .before .before .before .before .before .before .before .before .before .before .before .before .entry-of .ensures .1 in
+    let k = record-at-room _ _ _ _ n (h .block-inside) in
+    omega arith)
     -- same-length-4 src/test.rt:40:1
     (λ c. search needs)
     -- returns-4 src/test.rt:40:1

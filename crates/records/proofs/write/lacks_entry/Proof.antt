@@ -6,7 +6,7 @@ pub lacks-entry-spec : {M : Type 1} → statement M
 lacks-entry-spec =
     tie.close
     (tie.spec
-    -- returns src/write.rt:33:9
+    -- returns
     (λ c. search choices depth 8 fits 20000)
-    -- returns-2 src/write.rt:29:1
+    -- returns
     (λ c. search choices depth 8 fits 20000))

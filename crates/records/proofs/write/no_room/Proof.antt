@@ -1,3 +1,4 @@
+-- `records::write::no_room` meets its contract.
 use borrow.Author.Needs.{needs}
 use Rattle.words.proofs.Sets.{codes}
 use Rattle.rules.specs.Codes.{rowsRoom}
@@ -10,13 +11,17 @@ unfolding rowsRoom
 no-room-spec =
     tie.close
     (tie.spec
-    -- lacks-entry-requires src/write.rt:53:8
+    -- entries-requires
     (λ c κs. search needs)
-    -- returns src/write.rt:54:9
-    (λ c. search (codes, spot-entry, spot-block) depth 8 fits 20000)
-    -- lacks-block-requires src/write.rt:56:8
+    -- lacks-entry-requires
     (λ c κs. search needs)
-    -- returns-2 src/write.rt:57:9
+    -- returns
     (λ c. search (codes, spot-entry, spot-block) depth 8 fits 20000)
-    -- returns-3 src/write.rt:49:1
+    -- blocks-in-requires
+    (λ c κs. search needs)
+    -- lacks-block-requires
+    (λ c κs. search needs)
+    -- returns-2
+    (λ c. search (codes, spot-entry, spot-block) depth 8 fits 20000)
+    -- returns-3
     (λ c. search (codes, spot-entry, spot-block) depth 8 fits 20000))

@@ -19,4 +19,4 @@ entry-at-spec =
     -- returns-2
     (λ c. search needs)
     -- returns-3
-    (λ c. known-still _ _ _ _ _ (c .before .before .before .pre .3) (c .before .if1 .left) (c .if2 .left)))
+    (λ c. known-still _ _ _ _ _ _ (c .before .before .before .pre .3) (c .before .if1 .left) (c .if2 .left)))

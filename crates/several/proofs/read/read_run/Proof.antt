@@ -9,10 +9,10 @@ use Rattle.several.proofs.read.read_run.Statement.{statement}
 use Rattle.several.proofs.read.read_run.Tie as tie
 
 abbrev Inv-loop : tie.InvT-loop
-Inv-loop p o f r count fcb dma₀ list image e₀ i₀ dma e i = (i ≤ count) × Reading p f r (buffers fcb dma₀ list image) i e dma
+Inv-loop kind p o f r count fcb dma₀ list image e₀ i₀ dma e i = (i ≤ count) × Reading kind p f r (buffers fcb dma₀ list image) i e dma
 
 abbrev μ-loop : tie.MeasureT-loop
-μ-loop p o f r count fcb dma₀ list image e₀ i₀ dma e i = count - i
+μ-loop kind p o f r count fcb dma₀ list image e₀ i₀ dma e i = count - i
 
 pub read-run-spec : {M : Type 1} → statement M
 read-run-spec =

@@ -1,17 +1,18 @@
 -- `several::write::write_run` meets its contract.
 use Prim.Native.Nat.{_-_, _≤_}
 use borrow.Author.Needs.{needs}
+use native.Mathlib.Omega.{arith}
 use Rattle.rules.specs.Serves.{buffers}
 use Rattle.several.specs.So.{Writing}
-use Rattle.several.proofs.WriteTurns.{lent-long, below-34, writing-none, writing-more, writing-stops, writing-ends}
+use Rattle.several.proofs.WriteTurns.{lent-long, few-of, below-34, writing-none, writing-more, writing-stops, writing-ends}
 use Rattle.several.proofs.write.write_run.Statement.{statement}
 use Rattle.several.proofs.write.write_run.Tie as tie
 
 abbrev Inv-loop : tie.InvT-loop
-Inv-loop zeros p o mode f r count locked fcb dma list image₀ first e₀ i₀ image e i = (i ≤ count) × Writing zeros p f first r locked (buffers fcb dma list image₀) i e image
+Inv-loop kind zeros p o mode f r count locked fcb dma list image₀ first e₀ i₀ image e i = (i ≤ count) × Writing kind zeros p f first r locked (buffers fcb dma list image₀) i e image
 
 abbrev μ-loop : tie.MeasureT-loop
-μ-loop zeros p o mode f r count locked fcb dma list image₀ first e₀ i₀ image e i = count - i
+μ-loop kind zeros p o mode f r count locked fcb dma list image₀ first e₀ i₀ image e i = count - i
 
 pub write-run-spec : {M : Type 1} → statement M
 write-run-spec =
@@ -42,23 +43,33 @@ write-run-spec =
     -- part-write-one-end
     (λ c. search needs)
     -- write-one-requires
-    (λ c κs. (search lent-long, search needs, search needs, search needs, search needs, search needs, search needs))
+    (λ c κs. (search lent-long, search needs, search (few-of, needs), search needs, search needs, search needs, search needs))
     -- cast-after
-    (λ c. search needs)
+    (λ c.
+    let below = c .before .before .before .before .before .before .before .before .before .before .before .loop-test .taken in
+    let small = c .before .before .before .before .before .before .before .before .before .before .before .before .before .before .before .before .before .before .before .fits .count in
+    omega arith)
     -- after-requires
-    (λ c κs. (search below-34, search needs))
+    (λ c κs.
+    let below = c .before .before .before .before .before .before .before .before .before .before .before .loop-test .taken in
+    let few = c .before .before .before .before .before .before .before .before .before .before .before .before .before .before .before .before .before .before .before .pre .2 .run-fits in
+    (search below-34, omega arith))
     -- same-length
     (λ c. search needs)
     -- returns
     (λ c. search writing-stops)
     -- add-i
-    (λ c. search needs)
+    (λ c.
+    let below = c .before .before .before .before .before .before .before .before .before .before .before .loop-test .taken in
+    let small = c .before .before .before .before .before .before .before .before .before .before .before .before .before .before .before .before .before .before .before .fits .count in
+    omega arith)
     -- loop-less
-    (λ c. search needs)
+    (λ c. let below = c .before .before .before .before .before .before .before .before .before .before .before .loop-test .taken in omega arith)
     -- loop-again
     (λ c.
     let pre = c .before .before .before .before .before .before .before .before .before .before .before .before .before .before .before .before .before .before .before .pre in
-    (search needs, writing-more _ _ _ _ _ _ _ _ _ _ (pre .1) (pre .2) _ _ _ (c .before .before .before .before .before .before .before .before .before .before .before .before .loop .inv .1) (c .before .before .before .before .before .before .before .before .before .before .before .loop-test .taken) _ _ _ _ _ (c .before .before .before .before .before .before .before .before .before .entry-at .ensures .0) (c .before .before .before .before .before .before .before .write-stopped .ensures) (c .before .before .before .before .write-one .ensures) (c .if1 .left) (search needs)))
+    let below = c .before .before .before .before .before .before .before .before .before .before .before .loop-test .taken in
+    (omega arith, writing-more _ _ _ _ _ _ _ _ _ _ _ (pre .1) (pre .2) _ _ _ (c .before .before .before .before .before .before .before .before .before .before .before .before .loop .inv .1) (c .before .before .before .before .before .before .before .before .before .before .before .loop-test .taken) _ _ _ _ _ (c .before .before .before .before .before .before .before .before .before .entry-at .ensures .0) (c .before .before .before .before .before .before .before .write-stopped .ensures) (c .before .before .before .before .write-one .ensures) (c .if1 .left) (search needs)))
     -- same-length-2
     (λ c. search needs)
     -- returns-2

@@ -1,3 +1,4 @@
+use Rattle.writing.proofs.Entries.{written-as}
 use borrow.Author.Needs.{needs}
 use Rattle.rules.specs.Effects.{written}
 use Rattle.writing.proofs.record.write_record.Statement.{statement}
@@ -21,4 +22,4 @@ write-record-spec =
     -- same-length src/record.rt:115:1
     (λ c. search needs)
     -- returns src/record.rt:115:1
-    (λ c. cc))
+    (λ c. search written-as depth 8 fits 20000))

@@ -1,8 +1,8 @@
-use mathlib.Core.Path.{refl}
-use borrow.Author.Needs.{needs}
-use Rattle.words.proofs.Sets.{choices}
-use Rattle.rules.specs.Effects.{spotAt}
 use Rattle.writing.proofs.Entries.{spot-is}
+use mathlib.Core.Path.{refl}
+use Rattle.words.proofs.Sets.{choices, leb-yes-as, leb-no-as}
+use Rattle.rules.specs.Effects.{spotAt}
+use borrow.Author.Needs.{needs}
 use Rattle.writing.proofs.spot.spot_at.Statement.{statement}
 use Rattle.writing.proofs.spot.spot_at.Tie as tie
 
@@ -11,17 +11,19 @@ unfolding spotAt
 spot-at-spec =
     tie.close
     (tie.spec
-    -- free-entry-requires src/spot.rt:16:13
+    -- entries-requires src/spot.rt:19:8
     (λ c κs. search needs)
-    -- free-block-requires src/spot.rt:17:13
+    -- free-entry-requires src/spot.rt:20:13
     (λ c κs. search needs)
-    -- returns src/spot.rt:18:9
-    (λ c. search (choices, spot-is, refl) depth 8 fits 20000)
-    -- block-in-requires src/spot.rt:25:9
+    -- free-block-requires src/spot.rt:21:13
     (λ c κs. search needs)
-    -- free-block-requires-2 src/spot.rt:27:13
+    -- returns src/spot.rt:22:9
+    (λ c. search (choices, spot-is, leb-yes-as, leb-no-as, refl) depth 8 fits 20000)
+    -- block-in-requires src/spot.rt:29:9
     (λ c κs. search needs)
-    -- returns-2 src/spot.rt:28:9
-    (λ c. search (choices, spot-is, refl) depth 8 fits 20000)
-    -- returns-3 src/spot.rt:11:1
-    (λ c. search (choices, spot-is, refl) depth 8 fits 20000))
+    -- free-block-requires-2 src/spot.rt:31:13
+    (λ c κs. search needs)
+    -- returns-2 src/spot.rt:32:9
+    (λ c. search (choices, spot-is, leb-yes-as, leb-no-as, refl) depth 8 fits 20000)
+    -- returns-3 src/spot.rt:15:1
+    (λ c. search (choices, spot-is, leb-yes-as, leb-no-as, refl) depth 8 fits 20000))

@@ -1,0 +1,19 @@
+use borrow.Author.Needs.{needs}
+use mathlib.Core.Path.{refl}
+use Rattle.directory.proofs.Arms.{large-is}
+use Rattle.directory.proofs.entry.large_number.Statement.{statement}
+use Rattle.directory.proofs.entry.large_number.Tie as tie
+
+pub large-number-spec : {M : Type 1} → statement M
+large-number-spec =
+    tie.close
+    (tie.spec
+    (λ c. search needs)
+    (λ c. search needs)
+    (λ c. search needs)
+    (λ c. search needs)
+    (λ c. search needs)
+    (λ c. search needs)
+    (λ c. search needs)
+    (λ c κs. search needs)
+    (λ c. (large-is _ _ _ _ _ refl (c .two-bytes .ensures .0), search needs)))

@@ -1,0 +1,14 @@
+use borrow.Author.Needs.{needs}
+use Rattle.rules.specs.Drive.{fileFrom}
+use Rattle.directory.proofs.name.file_from.Statement.{statement}
+use Rattle.directory.proofs.name.file_from.Tie as tie
+
+pub file-from-spec : {M : Type 1} → statement M
+unfolding fileFrom
+file-from-spec =
+    tie.close
+    (tie.spec
+    -- name-from-requires src/name.rt:97:9
+    (λ c κs. search needs)
+    -- returns src/name.rt:93:1
+    (λ c. cc))

@@ -1,0 +1,19 @@
+use borrow.Author.Needs.{needs}
+use Rattle.words.proofs.Sets.{choices}
+use Rattle.rules.specs.Drive.{legalName}
+use Rattle.directory.proofs.name.legal_name.Statement.{statement}
+use Rattle.directory.proofs.name.legal_name.Tie as tie
+
+pub legal-name-spec : {M : Type 1} → statement M
+unfolding legalName
+legal-name-spec =
+    tie.close
+    (tie.spec
+    -- shared-slice-read-if1 src/name.rt:43:8
+    (λ c. search needs)
+    -- returns src/name.rt:44:9
+    (λ c. search choices depth 8 fits 20000)
+    -- legal-bytes-requires src/name.rt:46:5
+    (λ c κs. search needs)
+    -- returns-2 src/name.rt:39:1
+    (λ c. search choices depth 8 fits 20000))

@@ -1,0 +1,31 @@
+use Prim.Native.Nat.{_-_, _≤_}
+use mathlib.Core.Path.{_≡_}
+use mathlib.Core.Bool.{true}
+use lib.ListN.{length}
+use Rattle.words.specs.Tests.{all}
+use Rattle.rules.specs.Drive.{goodEntry}
+use Rattle.drive.specs.Marks.{Marks}
+use Rattle.drive.proofs.Marks.{entering}
+use Rattle.drive.proofs.check.judge_all.Statement.{statement}
+use Rattle.drive.proofs.check.judge_all.Tie as tie
+
+abbrev Inv-loop : tie.InvT-loop
+Inv-loop kind image top seen₀ n e₀ seen e = (e ≤ n) × (length seen ≡ length seen₀) × (all (goodEntry kind top image) e ≡ true) × Marks kind 1 image e 0 seen
+
+abbrev μ-loop : tie.MeasureT-loop
+μ-loop kind image top seen₀ n e₀ seen e = n - e
+
+pub judge-all-spec : {M : Type 1} → statement M
+judge-all-spec =
+    tie.close
+    (tie.spec Inv-loop μ-loop
+    (λ c κs. search entering depth 6 fits 20000)
+    (λ c. search entering depth 6 fits 20000)
+    (λ c κs. search entering depth 6 fits 20000)
+    (λ c. search entering depth 6 fits 20000)
+    (λ c. search entering depth 6 fits 20000)
+    (λ c. search entering depth 6 fits 20000)
+    (λ c. search entering depth 6 fits 20000)
+    (λ c. search entering depth 6 fits 20000)
+    (λ c. search entering depth 6 fits 20000)
+    (λ c. search entering depth 6 fits 20000))

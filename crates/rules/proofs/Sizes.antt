@@ -1,0 +1,203 @@
+-- The sizes of a drive of either kind: all the arithmetic in which they meet. Assumes nothing.
+use Prim.Native.Nat.{ℕ, _+_, _*_, _/_, _%_, _≤_, _<_}
+use mathlib.Core.Path.{_≡_, refl, sym}
+use mathlib.Core.Bool.{true, false}
+use mathlib.Core.List.{List}
+use mathlib.Core.Logic.{_⊎_, inl, inr, ⊎-elim}
+use native.Mathlib.Omega.{arith}
+use lib.ListN.{length}
+use lib.Dec.{leb}
+use borrow.Author.Tests.{eqb-true, leb-true, leb-false}
+use Rattle.words.specs.Tests.{_and_}
+use Rattle.words.specs.Bytes.{byte, numberAt}
+use Rattle.words.proofs.Tests.{either, and-fst, and-snd}
+use Rattle.rules.specs.declared.kind.Kind.{Kind}
+use Rattle.rules.specs.declared.kind.Kind.the-variants.{Small, Large}
+use Rattle.rules.specs.Kinds.{blockSize, blockRecords, fewest, most, entries, numbers, width}
+use Rattle.rules.specs.Drive.{blocks, goodLength, mapPlace, mapNumber, recordAt}
+
+-- ---- the directory
+
+-- it fills blocks 0 and 1
+pub directory-size : (kind : Kind) → 32 * entries kind ≡ 2 * blockSize kind
+unfolding entries blockSize
+directory-size Small = refl
+directory-size Large = refl
+
+-- ---- the length
+
+pub size-whole : (kind : Kind) (s : List ℕ) → goodLength kind s ≡ true → blockSize kind * blocks kind s ≡ length s
+unfolding goodLength blocks blockSize
+size-whole Small s h = let a : length s % 1024 ≡ 0 = eqb-true _ _ (and-fst _ _ h) in omega arith
+size-whole Large s h = let a : length s % 2048 ≡ 0 = eqb-true _ _ (and-fst _ _ h) in omega arith
+
+-- an entry more than the directory has
+pub size-long : (kind : Kind) (s : List ℕ) → fewest kind ≤ blocks kind s → 32 * entries kind + 32 ≤ length s
+unfolding blocks fewest blockSize entries
+size-long Small s h = omega arith
+size-long Large s h = omega arith
+
+-- every block's number is one of two bytes
+pub most-fits : (kind : Kind) → most kind < 65536
+unfolding most
+most-fits Small = omega arith
+most-fits Large = omega arith
+
+-- no length is one of both kinds
+lengths-apart : (s : List ℕ) → goodLength Small s ≡ true → goodLength Large s ≡ true → ⊥
+unfolding goodLength blocks blockSize fewest most
+lengths-apart s h g =
+    let a : length s / 1024 ≤ 256 = leb-true _ _ (and-snd _ _ (and-snd _ _ h)) in
+    let b : 257 ≤ length s / 2048 = leb-true _ _ (and-fst _ _ (and-snd _ _ g)) in
+    absurd (omega arith)
+
+pub one-length : (a b : Kind) (s : List ℕ) → goodLength a s ≡ true → goodLength b s ≡ true → a ≡ b
+one-length Small Small s h g = refl
+one-length Small Large s h g = absurd (lengths-apart s h g)
+one-length Large Small s h g = absurd (lengths-apart s g h)
+one-length Large Large s h g = refl
+
+-- some blocks beside the directory's
+pub most-some : (kind : Kind) → 2 < most kind
+unfolding most
+most-some Small = omega arith
+most-some Large = omega arith
+
+-- ---- places and records
+
+pub place-fits : (kind : Kind) (r : ℕ) → mapPlace kind r < numbers kind
+unfolding mapPlace numbers blockRecords
+place-fits Small r = omega arith
+place-fits Large r = omega arith
+
+-- one extent and one place: the same group of records
+pub same-places : (kind : Kind) (r q : ℕ) → r / 128 ≡ q / 128 → mapPlace kind r ≡ mapPlace kind q → r / blockRecords kind ≡ q / blockRecords kind
+unfolding mapPlace blockRecords
+same-places Small r q h g = omega arith
+same-places Large r q h g = omega arith
+
+-- a record begins at one place only
+pub record-block : (kind : Kind) (a b r q : ℕ) → recordAt kind a r ≡ recordAt kind b q → a ≡ b
+unfolding recordAt blockSize blockRecords
+record-block Small a b r q h = omega arith
+record-block Large a b r q h = omega arith
+
+pub record-rest : (kind : Kind) (a r q : ℕ) → recordAt kind a r ≡ recordAt kind a q → r / blockRecords kind ≡ q / blockRecords kind → r ≡ q
+unfolding recordAt blockSize blockRecords
+record-rest Small a r q h g = let z : r % 8 ≡ q % 8 = omega arith in omega arith
+record-rest Large a r q h g = let z : r % 16 ≡ q % 16 = omega arith in omega arith
+
+over : (kind : Kind) (a b r q : ℕ) → recordAt kind a r ≤ recordAt kind b q → (recordAt kind a r ≡ recordAt kind b q → ⊥) → recordAt kind a r + 128 ≤ recordAt kind b q
+unfolding recordAt blockSize blockRecords
+over Small a b r q h n = omega arith
+over Large a b r q h n = omega arith
+
+pub record-apart : (kind : Kind) (a b r q : ℕ) → (recordAt kind a r ≡ recordAt kind b q → ⊥) → (recordAt kind a r + 128 ≤ recordAt kind b q) ⊎ (recordAt kind b q + 128 ≤ recordAt kind a r)
+record-apart kind a b r q n =
+    ⊎-elim
+    (λ (x : leb (recordAt kind b q) (recordAt kind a r) ≡ true). inr (over kind b a q r (leb-true _ _ x) (λ e. n (sym e))))
+    (λ (x : leb (recordAt kind b q) (recordAt kind a r) ≡ false). inl (over kind a b r q (let y = leb-false (recordAt kind b q) (recordAt kind a r) x in omega arith) n)) (either (leb (recordAt kind b q) (recordAt kind a r)))
+
+-- a data block lies past the directory, a block below n in n blocks
+pub record-past : (kind : Kind) (b r : ℕ) → 2 ≤ b → 32 * entries kind ≤ recordAt kind b r
+unfolding recordAt blockSize entries
+record-past Small b r h = omega arith
+record-past Large b r h = omega arith
+
+pub record-inside : (kind : Kind) (b n r : ℕ) → b < n → recordAt kind b r + 128 ≤ blockSize kind * n
+unfolding recordAt blockRecords blockSize
+record-inside Small b n r h = omega arith
+record-inside Large b n r h = omega arith
+
+pub block-inside : (kind : Kind) (b n : ℕ) → b < n → blockSize kind * b + blockSize kind ≤ blockSize kind * n
+unfolding blockSize
+block-inside Small b n h = omega arith
+block-inside Large b n h = omega arith
+
+-- a block of any two-byte number begins where a machine can count
+pub begins-below : (kind : Kind) (b : ℕ) → b < 65536 → blockSize kind * b ≤ 134217728
+unfolding blockSize
+begins-below Small b h = omega arith
+begins-below Large b h = omega arith
+
+-- a record's place in its block
+pub rest-below : (kind : Kind) (r : ℕ) → r % blockRecords kind < 16
+unfolding blockRecords
+rest-below Small r = omega arith
+rest-below Large r = omega arith
+
+-- the records of all blocks are three bytes' worth at most
+pub records-few : (kind : Kind) (n : ℕ) → n ≤ most kind → blockRecords kind * n ≤ 65536
+unfolding blockRecords most
+records-few Small n h = omega arith
+records-few Large n h = omega arith
+
+-- a record begins in its block, and lies in it
+pub record-over : (kind : Kind) (b r : ℕ) → blockSize kind * b ≤ recordAt kind b r
+unfolding recordAt
+record-over kind b r = omega arith
+
+pub record-room : (kind : Kind) (b r size : ℕ) → blockSize kind * b + blockSize kind ≤ size → recordAt kind b r + 128 ≤ size
+unfolding recordAt blockRecords blockSize
+record-room Small b r size h = omega arith
+record-room Large b r size h = omega arith
+
+-- ---- the numbers of a map
+
+pub map-small : (s : List ℕ) (e k : ℕ) → byte s (32 * e + (16 + k)) ≡ mapNumber Small s e k
+unfolding mapNumber numberAt width
+map-small s e k = let q : 1 * k ≡ k = omega arith in rw q (omega arith)
+
+pub map-large : (s : List ℕ) (e k : ℕ) → byte s (32 * e + (16 + 2 * k)) + 256 * byte s (32 * e + (16 + 2 * k) + 1) ≡ mapNumber Large s e k
+unfolding mapNumber numberAt width
+map-large s e k = omega arith
+
+-- of two entries with the same 32 bytes
+pub map-bytes : (kind : Kind) (s t : List ℕ) (e d k : ℕ) → k < numbers kind → ((i : ℕ) → i < 32 → byte t (32 * d + i) ≡ byte s (32 * e + i)) → mapNumber kind t d k ≡ mapNumber kind s e k
+unfolding numbers
+map-bytes Small s t e d k l h = rw (← map-small t d k, ← map-small s e k) (h (16 + k) (omega arith))
+map-bytes Large s t e d k l h =
+    let a : byte t (32 * d + (16 + 2 * k) + 1) ≡ byte s (32 * e + (16 + 2 * k) + 1) =
+    rw (plus d, plus e) (h (16 + 2 * k + 1) (omega arith)) in
+    rw (← map-large t d k, ← map-large s e k, h (16 + 2 * k) (omega arith), a)
+  where
+    plus : (x : ℕ) → 32 * x + (16 + 2 * k) + 1 ≡ 32 * x + (16 + 2 * k + 1)
+    plus x = omega arith
+
+-- ---- the places of all the maps, one after the other: place k of entry e is numbers kind * e + k
+
+pub flat-entry : (kind : Kind) (e k : ℕ) → k < numbers kind → (numbers kind * e + k) / numbers kind ≡ e
+unfolding numbers
+flat-entry Small e k l = omega arith
+flat-entry Large e k l = omega arith
+
+pub flat-place : (kind : Kind) (e k : ℕ) → k < numbers kind → (numbers kind * e + k) % numbers kind ≡ k
+unfolding numbers
+flat-place Small e k l = omega arith
+flat-place Large e k l = omega arith
+
+pub flat-both : (kind : Kind) (i : ℕ) → numbers kind * (i / numbers kind) + i % numbers kind ≡ i
+unfolding numbers
+flat-both Small i = omega arith
+flat-both Large i = omega arith
+
+pub flat-short : (kind : Kind) (i : ℕ) → i % numbers kind < numbers kind
+unfolding numbers
+flat-short Small i = omega arith
+flat-short Large i = omega arith
+
+pub flat-there : (kind : Kind) (i : ℕ) → i < numbers kind * entries kind → i / numbers kind < entries kind
+unfolding numbers entries
+flat-there Small i l = omega arith
+flat-there Large i l = omega arith
+
+pub flat-below : (kind : Kind) (e k : ℕ) → e < entries kind → k < numbers kind → numbers kind * e + k < numbers kind * entries kind
+unfolding numbers entries
+flat-below Small e k m l = omega arith
+flat-below Large e k m l = omega arith
+
+-- the groups of records, so many to an extent
+pub flat-group : (kind : Kind) (r : ℕ) → numbers kind * (r / 128) + mapPlace kind r ≡ r / blockRecords kind
+unfolding mapPlace numbers blockRecords
+flat-group Small r = omega arith
+flat-group Large r = omega arith

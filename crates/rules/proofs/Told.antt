@@ -1,0 +1,69 @@
+-- A book of one kind is never read as the other. Assumes nothing.
+use Prim.Native.Nat.{ℕ}
+use mathlib.Core.Path.{_≡_, refl, sym, ap, _∙_}
+use mathlib.Core.Bool.{true, false, not}
+use mathlib.Core.List.{List}
+use mathlib.Core.Logic.{_⊎_, inl, inr, ⊎-elim}
+use native.Mathlib.Omega.{arith}
+use Rattle.words.specs.Tests.{_and_, _if_else_}
+use Rattle.words.specs.Tables.{_∕_, firstOf}
+use Rattle.words.proofs.Tests.{either}
+use Rattle.words.proofs.Sets.{row-yes, row-no}
+use Rattle.rules.specs.declared.kind.Kind.{Kind}
+use Rattle.rules.specs.declared.answer.ImageAnswer.the-variants.{WrongLength}
+use Rattle.rules.specs.Serves.{Buffers, outcome}
+use Rattle.rules.specs.Drive.{highest, goodLength, soundImage, imageCheck}
+use Rattle.rules.specs.Look.{mayLook, lookBlock, partAt, lookAt}
+use Rattle.rules.specs.Codes.{badNumbers, rowsInside, rowsAll}
+use Rattle.rules.specs.Several.{servesRun, callRun}
+use Rattle.rules.proofs.Sizes.{one-length}
+use Rattle.rules.proofs.Sound.{sound-length}
+use Rattle.rules.proofs.Tables.{call-refused}
+use Rattle.rules.proofs.Several.{run-plain, run-refused}
+
+-- no image is sound for both kinds
+pub one-kind : (a b : Kind) (s : List ℕ) → soundImage a highest s ≡ true → soundImage b highest s ≡ true → a ≡ b
+one-kind a b s h g = one-length a b s (sound-length a highest s h) (sound-length b highest s g)
+
+-- told the other kind, ..
+module _ (own kind : Kind) (other : own ≡ kind → ⊥) (s : List ℕ) (sound : soundImage own highest s ≡ true) where
+  other-length : goodLength kind s ≡ false
+  other-length =
+      ⊎-elim (λ (h : goodLength kind s ≡ true). absurd (other (one-length own kind s (sound-length own highest s sound) h)))
+      (λ (h : goodLength kind s ≡ false). h) (either (goodLength kind s))
+
+  other-sound : soundImage kind highest s ≡ false
+  unfolding soundImage _and_
+  other-sound = rw other-length
+
+  -- .. the image check answers 1, ..
+  pub other-check : imageCheck kind highest s ≡ WrongLength
+  unfolding imageCheck _if_else_
+  other-check = rw other-length
+
+  -- .. Look shows an empty part, ..
+  pub other-look : (user : ℕ) (name : List ℕ) (r : ℕ) → lookAt kind highest user name r s ≡ 0
+  unfolding lookAt lookBlock mayLook partAt _and_ _if_else_
+  other-look user name r = rw other-sound
+
+  -- .. and a call is refused, with 255/13 or 255/1, and changes nothing
+  module _ (n p c : ℕ) (b : Buffers) (is : b .image ≡ s) where
+    image-bad : not (soundImage kind highest (b .image)) ≡ true
+    image-bad = ap (λ (t : List ℕ). not (soundImage kind highest t)) is ∙ ap not other-sound
+
+    rows-told : (firstOf (rowsAll kind n p c b) ≡ 255 ∕ 13) ⊎ (firstOf (rowsAll kind n p c b) ≡ 255 ∕ 1)
+    unfolding rowsInside rowsAll
+    rows-told =
+        ⊎-elim (λ (h : badNumbers n p c (b .fcb) (b .dma) (b .list) ≡ true). inl (sym (row-yes _ _ _ _ h refl)))
+        (λ (h : badNumbers n p c (b .fcb) (b .dma) (b .list) ≡ false). inr (sym (row-no _ _ _ _ h (row-yes _ _ _ _ image-bad refl))))
+        (either (badNumbers n p c (b .fcb) (b .dma) (b .list)))
+
+    refused-so : (code : ℕ) → (code ≡ 0 → ⊥) → firstOf (rowsAll kind n p c b) ≡ code → callRun kind n p c b ≡ outcome code b
+    refused-so code some h =
+        let z : firstOf (rowsAll kind n p c b) ≡ 0 → ⊥ = λ q. some (sym h ∙ q) in
+        ⊎-elim (λ (q : servesRun n ≡ true). run-refused kind n p c b q z) (λ (q : servesRun n ≡ false). run-plain kind n p c b q ∙ call-refused kind n p c b z)
+        (either (servesRun n))
+        ∙ ap (λ (a : ℕ). outcome a b) h
+
+    pub other-call : (callRun kind n p c b ≡ outcome (255 ∕ 13) b) ⊎ (callRun kind n p c b ≡ outcome (255 ∕ 1) b)
+    other-call = ⊎-elim (λ h. inl (refused-so (255 ∕ 13) (λ q. omega arith) h)) (λ h. inr (refused-so (255 ∕ 1) (λ q. omega arith) h)) rows-told

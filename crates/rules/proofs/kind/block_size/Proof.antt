@@ -1,0 +1,19 @@
+use mathlib.Core.Path.{refl}
+use borrow.Author.Needs.{needs}
+use Rattle.rules.specs.Kinds.{blockSize}
+use Rattle.rules.proofs.kind.block_size.Statement.{statement}
+use Rattle.rules.proofs.kind.block_size.Tie as tie
+
+pub block-size-spec : {M : Type 1} → statement M
+unfolding blockSize
+block-size-spec =
+    tie.close
+    (tie.spec
+    -- enum-told
+    (λ c. search needs)
+    -- enum-told-2
+    (λ c. search needs)
+    -- returns
+    (λ c. search (refl, needs))
+    -- returns-2
+    (λ c. search (refl, needs)))

@@ -1,0 +1,36 @@
+-- "every entry point, Start and Look too, is told the kind of drive (0 the first, 1 this one)" (T-09). Assumes nothing.
+use Prim.Native.Nat.{ℕ}
+use mathlib.Core.List.{List}
+use Rattle.words.specs.Tables.{_∕_}
+use Rattle.rules.specs.declared.answer.ImageAnswer.the-variants.{WrongLength}
+use Rattle.rules.specs.declared.kind.Told.{Told}
+use Rattle.rules.specs.declared.kind.Told.the-variants.{Known, Other}
+use Rattle.rules.specs.Serves.{Buffers, Outcome, outcome}
+use Rattle.rules.specs.Drive.{highest, imageCheck, imageNumber}
+use Rattle.rules.specs.Locks.{Started, start}
+use Rattle.rules.specs.Look.{lookAt}
+use Rattle.rules.specs.Several.{callRun, callSingly}
+
+-- Refusals: 255/13 also for an unknown kind, before everything; ..
+unfoldable pub callTold : Told → ℕ → ℕ → ℕ → Buffers → Outcome
+callTold (Known kind) n p c b = callRun kind n p c b
+callTold Other n p c b = outcome (255 ∕ 13) b
+
+unfoldable pub singlyTold : Told → ℕ → ℕ → ℕ → Buffers → Outcome
+singlyTold (Known kind) n p c b = callSingly kind n p c b
+singlyTold Other n p c b = outcome (255 ∕ 13) b
+
+-- (a fresh list is the same for both kinds)
+unfoldable pub startTold : Told → ℕ → ℕ → ℕ → List ℕ → List ℕ → Started
+startTold (Known kind) c o k users list = start c o k users list
+startTold Other c o k users list = record { answer = 255 ∕ 13; list = list }
+
+-- .. 1 from the image check.
+unfoldable pub checkTold : Told → List ℕ → ℕ
+checkTold (Known kind) s = imageNumber (imageCheck kind highest s)
+checkTold Other s = imageNumber WrongLength
+
+-- Look gives an empty part for an unknown one.
+unfoldable pub lookTold : Told → ℕ → List ℕ → ℕ → List ℕ → ℕ
+lookTold (Known kind) user name r s = lookAt kind highest user name r s
+lookTold Other user name r s = 0

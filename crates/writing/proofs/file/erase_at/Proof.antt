@@ -1,0 +1,26 @@
+use mathlib.Core.Path.{refl}
+use borrow.Author.Needs.{needs}
+use Rattle.words.proofs.Sets.{choices}
+use Rattle.rules.specs.Effects.{erasedAt}
+use Rattle.writing.proofs.file.erase_at.Statement.{statement}
+use Rattle.writing.proofs.file.erase_at.Tie as tie
+
+pub erase-at-spec : {M : Type 1} → statement M
+unfolding erasedAt
+erase-at-spec =
+    tie.close
+    (tie.spec
+    -- is-of-requires src/directory.rt:69:8
+    (λ c κs. search needs)
+    -- mul-image src/directory.rt:70:15
+    (λ c. search needs)
+    -- slice-write-image src/directory.rt:70:9
+    (λ c. search needs)
+    -- same-length src/directory.rt:65:1
+    (λ c. search needs)
+    -- returns src/directory.rt:65:1
+    (λ c. search (choices, refl) depth 8 fits 20000)
+    -- same-length-2 src/directory.rt:65:1
+    (λ c. search needs)
+    -- returns-2 src/directory.rt:65:1
+    (λ c. search (choices, refl) depth 8 fits 20000))
