@@ -6,9 +6,9 @@ pub mpm-check-spec : {M : Type 1} → statement M
 mpm-check-spec =
     tie.close
     (tie.spec
-    -- image-check-requires src/lib.rt:74:18
+    -- image-check-requires
     (λ c κs. search needs)
-    -- image-number-requires src/lib.rt:74:5
+    -- image-number-requires
     (λ c κs. search needs)
-    -- returns src/lib.rt:70:1
+    -- returns
     (λ c. cc))

@@ -7,9 +7,9 @@ pub mpm-look-spec : {M : Type 1} → statement M
 mpm-look-spec =
     tie.close
     (tie.spec
-    -- look-at-requires src/lib.rt:82:5
+    -- look-at-requires
     (λ c κs. search needs)
-    -- cast-result src/lib.rt:82:5
+    -- cast-result
     (λ c. let h = look-small _ _ _ _ _ _ (c .look-at .ensures) in search needs)
-    -- returns src/lib.rt:78:1
+    -- returns
     (λ c. search needs))

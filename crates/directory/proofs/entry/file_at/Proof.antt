@@ -8,15 +8,15 @@ unfolding fileAt
 file-at-spec =
     tie.close
     (tie.spec
-    -- mul-user src/entry.rt:39:22
+    -- mul-user
     (λ c. search needs)
-    -- shared-slice-read-user src/entry.rt:39:16
+    -- shared-slice-read-user
     (λ c. search needs)
-    -- mul-file-from src/entry.rt:40:28
+    -- mul-file-from
     (λ c. search needs)
-    -- add-file-from src/entry.rt:40:28
+    -- add-file-from
     (λ c. search needs)
-    -- file-from-requires src/entry.rt:40:5
+    -- file-from-requires
     (λ c κs. search needs)
-    -- returns src/entry.rt:35:1
+    -- returns
     (λ c. cc))

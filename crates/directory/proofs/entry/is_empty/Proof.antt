@@ -10,9 +10,9 @@ unfolding isEmpty
 is-empty-spec =
     tie.close
     (tie.spec
-    -- mul-result src/entry.rt:15:11
+    -- mul-result
     (λ c. search needs)
-    -- shared-slice-read-result src/entry.rt:15:5
+    -- shared-slice-read-result
     (λ c. search needs)
-    -- returns src/entry.rt:11:1
+    -- returns
     (λ c. search (choices, refl) depth 8 fits 20000))

@@ -9,27 +9,27 @@ unfolding isEntry isEmpty
 is-entry-spec =
     tie.close
     (tie.spec
-    -- mul-if1 src/entry.rt:63:14
+    -- mul-if1
     (λ c. search needs)
-    -- shared-slice-read-if1 src/entry.rt:63:8
+    -- shared-slice-read-if1
     (λ c. search needs)
-    -- returns src/entry.rt:64:9
+    -- returns
     (λ c. search choices depth 8 fits 20000)
-    -- mul-if2 src/entry.rt:66:14
+    -- mul-if2
     (λ c. search needs)
-    -- shared-slice-read-if2 src/entry.rt:66:8
+    -- shared-slice-read-if2
     (λ c. search needs)
-    -- returns-2 src/entry.rt:67:9
+    -- returns-2
     (λ c. search choices depth 8 fits 20000)
-    -- extent-at-requires src/entry.rt:69:8
+    -- extent-at-requires
     (λ c κs. search needs)
-    -- returns-3 src/entry.rt:70:9
+    -- returns-3
     (λ c. search choices depth 8 fits 20000)
-    -- mul-is-named src/entry.rt:73:21
+    -- mul-is-named
     (λ c. search needs)
-    -- add-is-named src/entry.rt:73:21
+    -- add-is-named
     (λ c. search needs)
-    -- is-named-requires src/entry.rt:73:5
+    -- is-named-requires
     (λ c κs. search needs)
-    -- returns-4 src/entry.rt:59:1
+    -- returns-4
     (λ c. search choices depth 8 fits 20000))

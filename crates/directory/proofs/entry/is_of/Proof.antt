@@ -9,23 +9,23 @@ unfolding isOf isEmpty
 is-of-spec =
     tie.close
     (tie.spec
-    -- mul-if1 src/entry.rt:48:14
+    -- mul-if1
     (λ c. search needs)
-    -- shared-slice-read-if1 src/entry.rt:48:8
+    -- shared-slice-read-if1
     (λ c. search needs)
-    -- returns src/entry.rt:49:9
+    -- returns
     (λ c. search choices depth 8 fits 20000)
-    -- mul-if2 src/entry.rt:51:14
+    -- mul-if2
     (λ c. search needs)
-    -- shared-slice-read-if2 src/entry.rt:51:8
+    -- shared-slice-read-if2
     (λ c. search needs)
-    -- returns-2 src/entry.rt:52:9
+    -- returns-2
     (λ c. search choices depth 8 fits 20000)
-    -- mul-is-named src/entry.rt:55:21
+    -- mul-is-named
     (λ c. search needs)
-    -- add-is-named src/entry.rt:55:21
+    -- add-is-named
     (λ c. search needs)
-    -- is-named-requires src/entry.rt:55:5
+    -- is-named-requires
     (λ c κs. search needs)
-    -- returns-3 src/entry.rt:44:1
+    -- returns-3
     (λ c. search choices depth 8 fits 20000))

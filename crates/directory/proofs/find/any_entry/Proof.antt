@@ -17,17 +17,17 @@ pub any-entry-spec : {M : Type 1} → statement M
 any-entry-spec =
     tie.close
     (tie.spec Inv-loop μ-loop
-    -- loop-holds src/find.rt:18:5
+    -- loop-holds
     (λ c. search anys)
-    -- is-entry-requires src/find.rt:19:12
+    -- is-entry-requires
     (λ c κs. search anys)
-    -- returns src/find.rt:20:13
+    -- returns
     (λ c. search anys)
-    -- add-e src/find.rt:22:9
+    -- add-e
     (λ c. search anys)
-    -- loop-less src/find.rt:18:5
+    -- loop-less
     (λ c. search anys)
-    -- loop-again src/find.rt:18:5
+    -- loop-again
     (λ c. search anys)
-    -- returns-2 src/find.rt:13:1
+    -- returns-2
     (λ c. search anys))

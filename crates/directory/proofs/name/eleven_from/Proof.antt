@@ -16,19 +16,19 @@ pub eleven-from-spec : {M : Type 1} → statement M
 eleven-from-spec =
     tie.close
     (tie.spec Inv-loop μ-loop
-    -- loop-holds src/name.rt:71:5
+    -- loop-holds
     (λ c. search fills)
-    -- add-bytes src/name.rt:72:22
+    -- add-bytes
     (λ c. search fills)
-    -- shared-slice-read-bytes src/name.rt:72:20
+    -- shared-slice-read-bytes
     (λ c. search fills)
-    -- array-write-bytes src/name.rt:72:9
+    -- array-write-bytes
     (λ c. search fills)
-    -- add-k src/name.rt:73:9
+    -- add-k
     (λ c. search fills)
-    -- loop-less src/name.rt:71:5
+    -- loop-less
     (λ c. search fills)
-    -- loop-again src/name.rt:71:5
+    -- loop-again
     (λ c. search fills)
-    -- returns src/name.rt:65:1
+    -- returns
     (λ c. search fills))

@@ -8,7 +8,7 @@ unfolding fileFrom
 file-from-spec =
     tie.close
     (tie.spec
-    -- name-from-requires src/name.rt:97:9
+    -- name-from-requires
     (λ c κs. search needs)
-    -- returns src/name.rt:93:1
+    -- returns
     (λ c. cc))

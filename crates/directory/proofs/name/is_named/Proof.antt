@@ -18,21 +18,21 @@ unfolding isNamed sameLow
 is-named-spec =
     tie.close
     (tie.spec Inv-loop μ-loop
-    -- loop-holds src/name.rt:55:5
+    -- loop-holds
     (λ c. search alls)
-    -- add-if1 src/name.rt:56:14
+    -- add-if1
     (λ c. search alls)
-    -- shared-slice-read-if1 src/name.rt:56:12
+    -- shared-slice-read-if1
     (λ c. search alls)
-    -- array-read-if1 src/name.rt:56:31
+    -- array-read-if1
     (λ c. search alls)
-    -- returns src/name.rt:57:13
+    -- returns
     (λ c. search alls)
-    -- add-k src/name.rt:59:9
+    -- add-k
     (λ c. search alls)
-    -- loop-less src/name.rt:55:5
+    -- loop-less
     (λ c. search alls)
-    -- loop-again src/name.rt:55:5
+    -- loop-again
     (λ c. search alls)
-    -- returns-2 src/name.rt:50:1
+    -- returns-2
     (λ c. search alls))

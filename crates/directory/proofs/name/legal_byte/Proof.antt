@@ -8,9 +8,9 @@ unfolding legalByte
 legal-byte-spec =
     tie.close
     (tie.spec
-    -- returns src/name.rt:16:9
+    -- returns
     (λ c. search choices depth 8 fits 20000)
-    -- returns-2 src/name.rt:19:9
+    -- returns-2
     (λ c. search choices depth 8 fits 20000)
-    -- returns-3 src/name.rt:11:1
+    -- returns-3
     (λ c. search choices depth 8 fits 20000))

@@ -18,21 +18,21 @@ unfolding legalAt
 legal-bytes-spec =
     tie.close
     (tie.spec Inv-loop μ-loop
-    -- loop-holds src/name.rt:29:5
+    -- loop-holds
     (λ c. search alls)
-    -- add-legal-byte src/name.rt:30:26
+    -- add-legal-byte
     (λ c. search alls)
-    -- shared-slice-read-legal-byte src/name.rt:30:24
+    -- shared-slice-read-legal-byte
     (λ c. search alls)
-    -- legal-byte-requires src/name.rt:30:13
+    -- legal-byte-requires
     (λ c κs. search alls)
-    -- returns src/name.rt:31:13
+    -- returns
     (λ c. search alls)
-    -- add-k src/name.rt:33:9
+    -- add-k
     (λ c. search alls)
-    -- loop-less src/name.rt:29:5
+    -- loop-less
     (λ c. search alls)
-    -- loop-again src/name.rt:29:5
+    -- loop-again
     (λ c. search alls)
-    -- returns-2 src/name.rt:24:1
+    -- returns-2
     (λ c. search alls))

@@ -9,11 +9,11 @@ unfolding legalName
 legal-name-spec =
     tie.close
     (tie.spec
-    -- shared-slice-read-if1 src/name.rt:43:8
+    -- shared-slice-read-if1
     (λ c. search needs)
-    -- returns src/name.rt:44:9
+    -- returns
     (λ c. search choices depth 8 fits 20000)
-    -- legal-bytes-requires src/name.rt:46:5
+    -- legal-bytes-requires
     (λ c κs. search needs)
-    -- returns-2 src/name.rt:39:1
+    -- returns-2
     (λ c. search choices depth 8 fits 20000))

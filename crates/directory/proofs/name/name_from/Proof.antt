@@ -16,19 +16,19 @@ pub name-from-spec : {M : Type 1} → statement M
 name-from-spec =
     tie.close
     (tie.spec Inv-loop μ-loop
-    -- loop-holds src/name.rt:85:5
+    -- loop-holds
     (λ c. search fills)
-    -- add-name src/name.rt:86:21
+    -- add-name
     (λ c. search fills)
-    -- shared-slice-read-name src/name.rt:86:19
+    -- shared-slice-read-name
     (λ c. search fills)
-    -- array-write-name src/name.rt:86:9
+    -- array-write-name
     (λ c. search fills)
-    -- add-k src/name.rt:87:9
+    -- add-k
     (λ c. search fills)
-    -- loop-less src/name.rt:85:5
+    -- loop-less
     (λ c. search fills)
-    -- loop-again src/name.rt:85:5
+    -- loop-again
     (λ c. search fills)
-    -- returns src/name.rt:79:1
+    -- returns
     (λ c. search fills))

@@ -10,27 +10,27 @@ unfolding goodEntry
 good-entry-spec =
     tie.close
     (tie.spec
-    -- is-empty-requires src/check.rt:128:8
+    -- is-empty-requires
     (λ c κs. search needs)
-    -- returns src/check.rt:129:9
+    -- returns
     (λ c. search judging depth 8 fits 20000)
-    -- good-fields-requires src/check.rt:131:9
+    -- good-fields-requires
     (λ c κs. search needs)
-    -- returns-2 src/check.rt:132:9
+    -- returns-2
     (λ c. search judging depth 8 fits 20000)
-    -- all-in-range-requires src/check.rt:134:9
+    -- all-in-range-requires
     (λ c κs. search needs)
-    -- returns-3 src/check.rt:135:9
+    -- returns-3
     (λ c. search judging depth 8 fits 20000)
-    -- mark-entry-requires src/check.rt:137:9
+    -- mark-entry-requires
     (λ c κs. search (needs, answers))
     -- same-length
     (λ c. search needs)
-    -- returns-4 src/check.rt:138:9
+    -- returns-4
     (λ c. search judging depth 8 fits 20000)
-    -- is-repeat-requires src/check.rt:140:6
+    -- is-repeat-requires
     (λ c κs. search needs)
     -- same-length-2
     (λ c. search needs)
-    -- returns-5 src/check.rt:124:1
+    -- returns-5
     (λ c. search judging depth 8 fits 20000))

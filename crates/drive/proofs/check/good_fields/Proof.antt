@@ -9,21 +9,21 @@ unfolding goodFields goodUser
 good-fields-spec =
     tie.close
     (tie.spec
-    -- mul-if1 src/check.rt:49:19
+    -- mul-if1
     (λ c. search needs)
-    -- shared-slice-read-if1 src/check.rt:49:13
+    -- shared-slice-read-if1
     (λ c. search needs)
-    -- returns src/check.rt:50:9
+    -- returns
     (λ c. search choices depth 8 fits 20000)
-    -- mul-legal-name src/check.rt:52:27
+    -- mul-legal-name
     (λ c. search needs)
-    -- add-legal-name src/check.rt:52:27
+    -- add-legal-name
     (λ c. search needs)
-    -- legal-name-requires src/check.rt:52:9
+    -- legal-name-requires
     (λ c κs. search needs)
-    -- returns-2 src/check.rt:53:9
+    -- returns-2
     (λ c. search choices depth 8 fits 20000)
-    -- good-numbers-requires src/check.rt:55:5
+    -- good-numbers-requires
     (λ c κs. search needs)
-    -- returns-3 src/check.rt:45:1
+    -- returns-3
     (λ c. search choices depth 8 fits 20000))

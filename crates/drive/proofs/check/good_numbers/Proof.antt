@@ -9,29 +9,29 @@ unfolding goodNumbers
 good-numbers-spec =
     tie.close
     (tie.spec
-    -- mul-if1 src/check.rt:42:19
+    -- mul-if1
     (λ c. search needs)
-    -- add-if1 src/check.rt:42:19
+    -- add-if1
     (λ c. search needs)
-    -- shared-slice-read-if1 src/check.rt:42:13
+    -- shared-slice-read-if1
     (λ c. search needs)
-    -- returns src/check.rt:43:9
+    -- returns
     (λ c. search choices depth 8 fits 20000)
-    -- mul-module-fits src/check.rt:45:27
+    -- mul-module-fits
     (λ c. search needs)
-    -- add-module-fits src/check.rt:45:27
+    -- add-module-fits
     (λ c. search needs)
-    -- shared-slice-read-module-fits src/check.rt:45:21
+    -- shared-slice-read-module-fits
     (λ c. search needs)
-    -- module-fits-requires src/check.rt:45:9
+    -- module-fits-requires
     (λ c κs. search needs)
-    -- returns-2 src/check.rt:46:9
+    -- returns-2
     (λ c. search choices depth 8 fits 20000)
-    -- mul-result src/check.rt:48:11
+    -- mul-result
     (λ c. search needs)
-    -- add-result src/check.rt:48:11
+    -- add-result
     (λ c. search needs)
-    -- shared-slice-read-result src/check.rt:48:5
+    -- shared-slice-read-result
     (λ c. search needs)
-    -- returns-3 src/check.rt:38:1
+    -- returns-3
     (λ c. search choices depth 8 fits 20000))

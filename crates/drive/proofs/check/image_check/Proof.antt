@@ -11,13 +11,13 @@ unfolding imageCheck
 image-check-spec =
     tie.close
     (tie.spec
-    -- good-length-requires src/check.rt:209:9
+    -- good-length-requires
     (λ c κs. search needs)
-    -- returns src/check.rt:210:9
+    -- returns
     (λ c. search (choices, refl, directory-there, blocks-few) depth 8 fits 20000)
-    -- sound-directory-requires src/check.rt:212:9
+    -- sound-directory-requires
     (λ c κs. search (choices, refl, directory-there, blocks-few) depth 8 fits 20000)
-    -- returns-2 src/check.rt:213:9
+    -- returns-2
     (λ c. search (choices, refl, directory-there, blocks-few) depth 8 fits 20000)
-    -- returns-3 src/check.rt:206:1
+    -- returns-3
     (λ c. search (choices, refl, directory-there, blocks-few) depth 8 fits 20000))

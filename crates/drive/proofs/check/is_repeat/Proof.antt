@@ -8,11 +8,11 @@ unfolding isRepeat
 is-repeat-spec =
     tie.close
     (tie.spec
-    -- file-at-requires src/check.rt:111:9
+    -- file-at-requires
     (λ c κs. search needs)
-    -- extent-at-requires src/check.rt:112:9
+    -- extent-at-requires
     (λ c κs. search needs)
-    -- any-entry-requires src/check.rt:113:5
+    -- any-entry-requires
     (λ c κs. search needs)
-    -- returns src/check.rt:107:1
+    -- returns
     (λ c. cc))

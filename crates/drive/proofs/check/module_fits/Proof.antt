@@ -7,7 +7,7 @@ pub module-fits-spec : {M : Type 1} → statement M
 module-fits-spec =
     tie.close
     (tie.spec
-    -- wide-requires src/check.rt:34:5
+    -- wide-requires
     (λ c κs. search needs)
-    -- returns src/check.rt:31:1
+    -- returns
     (λ c. search wides depth 8 fits 20000))

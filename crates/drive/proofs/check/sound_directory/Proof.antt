@@ -9,11 +9,11 @@ unfolding soundDirectory
 sound-directory-spec =
     tie.close
     (tie.spec
-    -- good-entries-requires src/check.rt:199:9
+    -- good-entries-requires
     (λ c κs. search needs)
-    -- returns src/check.rt:200:9
+    -- returns
     (λ c. search choices depth 8 fits 20000)
-    -- all-begun-requires src/check.rt:202:5
+    -- all-begun-requires
     (λ c κs. search needs)
-    -- returns-2 src/check.rt:195:1
+    -- returns-2
     (λ c. search choices depth 8 fits 20000))

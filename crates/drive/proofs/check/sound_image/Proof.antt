@@ -10,11 +10,11 @@ unfolding soundImage
 sound-image-spec =
     tie.close
     (tie.spec
-    -- good-length-requires src/check.rt:222:9
+    -- good-length-requires
     (λ c κs. search needs)
-    -- returns src/check.rt:223:9
+    -- returns
     (λ c. search (choices, directory-there, blocks-few) depth 8 fits 20000)
-    -- sound-directory-requires src/check.rt:225:5
+    -- sound-directory-requires
     (λ c κs. search (choices, directory-there, blocks-few) depth 8 fits 20000)
-    -- returns-2 src/check.rt:219:1
+    -- returns-2
     (λ c. search (choices, directory-there, blocks-few) depth 8 fits 20000))

@@ -9,23 +9,23 @@ pub look-spec : {M : Type 1} → statement M
 look-spec =
     tie.close
     (tie.spec
-    -- look-at-requires src/look.rt:60:9
+    -- look-at-requires
     (λ c κs. search needs)
-    -- sub-result src/look.rt:62:16
+    -- sub-result
     (λ c. search needs)
-    -- part-result-start src/look.rt:62:16
+    -- part-result-start
     (λ c. search needs)
-    -- part-result-end src/look.rt:62:16
+    -- part-result-end
     (λ c. search needs)
-    -- returns src/look.rt:62:9
+    -- returns
     (λ c. search look-none)
-    -- add-end src/look.rt:64:15
+    -- add-end
     (λ c. omega (arith, look-room _ _ _ _ _ _ _ (c .before .look-at .ensures) (c .if1 .left)))
-    -- sub-result-2 src/look.rt:65:5
+    -- sub-result-2
     (λ c. search needs)
-    -- part-result-start-2 src/look.rt:65:5
+    -- part-result-start-2
     (λ c. search needs)
-    -- part-result-end-2 src/look.rt:65:5
+    -- part-result-end-2
     (λ c. let h = look-room _ _ _ _ _ _ _ (c .before .look-at .ensures) (c .if1 .left) in search needs)
-    -- returns-2 src/look.rt:57:1
+    -- returns-2
     (λ c. look-some _ _ _ _ _ _ _ (c .before .before .look-at .ensures) (c .before .if1 .left) _ refl))

@@ -7,9 +7,9 @@ pub look-at-spec : {M : Type 1} → statement M
 look-at-spec =
     tie.close
     (tie.spec
-    -- look-block-requires src/look.rt:53:13
+    -- look-block-requires
     (λ c κs. search needs)
-    -- part-at-requires src/look.rt:53:5
+    -- part-at-requires
     (λ c κs. search needs)
-    -- returns src/look.rt:50:1
+    -- returns
     (λ c. search look-begins))

@@ -8,15 +8,15 @@ pub look-block-spec : {M : Type 1} → statement M
 look-block-spec =
     tie.close
     (tie.spec
-    -- may-look-requires src/look.rt:31:9
+    -- may-look-requires
     (λ c κs. search needs)
-    -- returns src/look.rt:32:9
+    -- returns
     (λ c. search (looked-not, needs))
-    -- cast-file-from src/look.rt:34:23
+    -- cast-file-from
     (λ c. omega (arith, looked-user _ _ _ _ _ _ (c .before .may-look .ensures) (c .if1 .left)))
-    -- file-from-requires src/look.rt:34:9
+    -- file-from-requires
     (λ c κs. search looked-long)
-    -- block-of-requires src/look.rt:35:5
+    -- block-of-requires
     (λ c κs. search looked-image)
-    -- returns-2 src/look.rt:28:1
+    -- returns-2
     (λ c. search (looked-block, needs)))

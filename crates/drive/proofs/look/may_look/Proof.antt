@@ -9,15 +9,15 @@ unfolding mayLook
 may-look-spec =
     tie.close
     (tie.spec
-    -- sound-image-requires src/look.rt:15:9
+    -- sound-image-requires
     (λ c κs. search needs)
-    -- returns src/look.rt:16:9
+    -- returns
     (λ c. search choices depth 8 fits 20000)
-    -- returns-2 src/look.rt:19:9
+    -- returns-2
     (λ c. search choices depth 8 fits 20000)
-    -- returns-3 src/look.rt:22:9
+    -- returns-3
     (λ c. search choices depth 8 fits 20000)
-    -- legal-name-requires src/look.rt:24:5
+    -- legal-name-requires
     (λ c κs. search needs)
-    -- returns-4 src/look.rt:12:1
+    -- returns-4
     (λ c. search choices depth 8 fits 20000))

@@ -8,37 +8,37 @@ pub answer-spec : {M : Type 1} → statement M
 answer-spec =
     tie.close
     (tie.spec
-    -- routine-of-requires src/lib.rt:37:9
+    -- routine-of-requires
     (λ c κs. search needs)
-    -- enum-known-chosen src/lib.rt:38:22
+    -- enum-known-chosen
     (λ c. search needs)
-    -- enum-told src/lib.rt:39:9
+    -- enum-told
     (λ c. search needs)
-    -- returns src/lib.rt:39:9
+    -- returns
     (λ c. search ends-unknown)
-    -- bad-numbers-requires src/lib.rt:41:8
+    -- bad-numbers-requires
     (λ c κs. search is-call)
-    -- same-length src/lib.rt:42:9
+    -- same-length
     (λ c. search needs)
-    -- same-length-2 src/lib.rt:42:9
+    -- same-length-2
     (λ c. search needs)
-    -- same-length-3 src/lib.rt:42:9
+    -- same-length-3
     (λ c. search needs)
-    -- returns-2 src/lib.rt:42:9
+    -- returns-2
     (λ c. search ends-bad)
-    -- unpack-requires src/lib.rt:44:9
+    -- unpack-requires
     (λ c κs. search list-there)
-    -- refusal-requires src/lib.rt:45:9
+    -- refusal-requires
     (λ c κs. (search is-call, search needs, search fcb-there, search list-there))
-    -- same-length-4 src/lib.rt:47:9
+    -- same-length-4
     (λ c. search needs)
-    -- same-length-5 src/lib.rt:47:9
+    -- same-length-5
     (λ c. search needs)
-    -- same-length-6 src/lib.rt:47:9
+    -- same-length-6
     (λ c. search needs)
-    -- same-length-7 src/lib.rt:47:9
+    -- same-length-7
     (λ c. search needs)
-    -- returns-3 src/lib.rt:47:9
+    -- returns-3
     (λ c. search ends-refused)
     -- cast-serve-by
     (λ c. omega (arith, numbers _ _ _ _ _ _ _ (c .before .before .before .before .before .before .before .before .bad-numbers .ensures) (c .before .before .before .before .before .before .before .if1 .left) .process-fits))
@@ -48,13 +48,13 @@ answer-spec =
     let t = c .before .before .before .before .before .before .before .before .before .before .before .if1 .left in
     let g = all-passed _ _ _ _ _ _ _ e t _ _ _ (c .before .before .before .before .before .refusal .ensures) (c .before .before .before .before .if2 .left) in
     (search is-call, g .0 .process-fits, search needs, g .0 .run-some, g .0 .run-fits, g .1, g .0 .ready))
-    -- same-length-8 src/lib.rt:25:1
+    -- same-length-8
     (λ c. search needs)
-    -- same-length-9 src/lib.rt:25:1
+    -- same-length-9
     (λ c. search needs)
-    -- same-length-10 src/lib.rt:25:1
+    -- same-length-10
     (λ c. search needs)
-    -- same-length-11 src/lib.rt:25:1
+    -- same-length-11
     (λ c. search needs)
-    -- returns-4 src/lib.rt:25:1
+    -- returns-4
     (λ c. ends-served _ _ _ _ _ _ _ (c .before .before .before .before .before .before .before .before .before .before .before .before .before .before .before .before .before .before .before .before .before .bad-numbers .ensures) (c .before .before .before .before .before .before .before .before .before .before .before .before .before .before .before .before .before .before .before .before .if1 .left) _ (c .before .before .before .before .before .before .before .before .before .before .before .before .before .before .refusal .ensures) _ _ _ _ _ _ _ (c .before .before .before .before .before .before .before .before .before .before .before .before .before .if2 .left) (c .before .before .before .before .before .before .before .before .before .before .before .before .before .before .before .before .before .before .before .before .before .before .before .before .before .before .before .before .routine-of .ensures) (c .before .before .before .before .before .before .before .before .serve-by .ensures) (search (c .before .before .before .before .before .before .before .before .before .before .before .before .before .before .before .before .before .before .before .before .before .before .before .before .before .before .before .match, c .before .before .before .before .before .before .before .before .before .before .before .before .before .before .before .before .before .before .before .before .before .before .before .before .before .known-told .given, c .before .before .before .before .before .before .before .before .before .before .before .before .before .before .before .before .before .before .before .before .before .before .before .before .before .before .chosen .given))))

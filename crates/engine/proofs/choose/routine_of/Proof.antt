@@ -8,31 +8,31 @@ unfolding chosen
 routine-of-spec =
     tie.close
     (tie.spec
-    -- returns src/choose.rt:7:1
+    -- returns
     (λ c. search keys depth 20 fits 50000)
-    -- returns-2 src/choose.rt:7:1
+    -- returns-2
     (λ c. search keys depth 20 fits 50000)
-    -- returns-3 src/choose.rt:7:1
+    -- returns-3
     (λ c. search keys depth 20 fits 50000)
-    -- returns-4 src/choose.rt:7:1
+    -- returns-4
     (λ c. search keys depth 20 fits 50000)
-    -- returns-5 src/choose.rt:7:1
+    -- returns-5
     (λ c. search keys depth 20 fits 50000)
-    -- returns-6 src/choose.rt:7:1
+    -- returns-6
     (λ c. search keys depth 20 fits 50000)
-    -- returns-7 src/choose.rt:7:1
+    -- returns-7
     (λ c. search keys depth 20 fits 50000)
-    -- returns-8 src/choose.rt:7:1
+    -- returns-8
     (λ c. search keys depth 20 fits 50000)
-    -- returns-9 src/choose.rt:7:1
+    -- returns-9
     (λ c. search keys depth 20 fits 50000)
-    -- returns-10 src/choose.rt:7:1
+    -- returns-10
     (λ c. search keys depth 20 fits 50000)
-    -- returns-11 src/choose.rt:7:1
+    -- returns-11
     (λ c. search keys depth 20 fits 50000)
-    -- returns-12 src/choose.rt:7:1
+    -- returns-12
     (λ c. search keys depth 20 fits 50000)
-    -- returns-13 src/choose.rt:7:1
+    -- returns-13
     (λ c. search keys depth 20 fits 50000)
-    -- returns-14 src/choose.rt:7:1
+    -- returns-14
     (λ c. search keys depth 20 fits 50000))

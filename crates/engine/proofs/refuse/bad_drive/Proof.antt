@@ -10,11 +10,11 @@ unfolding badDrive
 bad-drive-spec =
     tie.close
     (tie.spec
-    -- shared-slice-read-if1 src/refuse.rt:71:8
+    -- shared-slice-read-if1
     (λ c. search needs)
-    -- returns src/refuse.rt:72:9
+    -- returns
     (λ c. search (choices, drive-told) depth 8 fits 20000)
-    -- reads-drive-requires src/refuse.rt:74:5
+    -- reads-drive-requires
     (λ c κs. search needs)
-    -- returns-2 src/refuse.rt:67:1
+    -- returns-2
     (λ c. search (choices, drive-told) depth 8 fits 20000))

@@ -9,15 +9,15 @@ unfolding badNumbers
 bad-numbers-spec =
     tie.close
     (tie.spec
-    -- returns src/refuse.rt:28:9
+    -- returns
     (λ c. search (choices, known) depth 10 fits 20000)
-    -- returns-2 src/refuse.rt:31:9
+    -- returns-2
     (λ c. search (choices, known) depth 10 fits 20000)
-    -- returns-3 src/refuse.rt:34:9
+    -- returns-3
     (λ c. search (choices, known) depth 10 fits 20000)
-    -- returns-4 src/refuse.rt:37:9
+    -- returns-4
     (λ c. search (choices, known) depth 10 fits 20000)
-    -- returns-5 src/refuse.rt:40:9
+    -- returns-5
     (λ c. search (choices, known) depth 10 fits 20000)
-    -- returns-6 src/refuse.rt:15:1
+    -- returns-6
     (λ c. search (choices, known) depth 10 fits 20000))

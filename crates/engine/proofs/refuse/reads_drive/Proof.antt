@@ -9,55 +9,55 @@ unfolding readsDrive
 reads-drive-spec =
     tie.close
     (tie.spec
-    -- enum-told src/refuse.rt:50:31
+    -- enum-told
     (λ c. search needs)
-    -- enum-told-2 src/refuse.rt:51:31
+    -- enum-told-2
     (λ c. search needs)
-    -- enum-told-3 src/refuse.rt:52:26
+    -- enum-told-3
     (λ c. search needs)
-    -- enum-told-4 src/refuse.rt:53:27
+    -- enum-told-4
     (λ c. search needs)
-    -- enum-told-5 src/refuse.rt:54:28
+    -- enum-told-5
     (λ c. search needs)
-    -- enum-told-6 src/refuse.rt:55:26
+    -- enum-told-6
     (λ c. search needs)
-    -- enum-told-7 src/refuse.rt:56:28
+    -- enum-told-7
     (λ c. search needs)
-    -- enum-told-8 src/refuse.rt:57:26
+    -- enum-told-8
     (λ c. search needs)
-    -- enum-told-9 src/refuse.rt:58:27
+    -- enum-told-9
     (λ c. search needs)
-    -- enum-told-10 src/refuse.rt:59:32
+    -- enum-told-10
     (λ c. search needs)
-    -- enum-told-11 src/refuse.rt:60:31
+    -- enum-told-11
     (λ c. search needs)
-    -- enum-told-12 src/refuse.rt:61:26
+    -- enum-told-12
     (λ c. search needs)
-    -- enum-told-13 src/refuse.rt:62:28
+    -- enum-told-13
     (λ c. search needs)
-    -- returns src/refuse.rt:46:1
+    -- returns
     (λ c. search refl)
-    -- returns-2 src/refuse.rt:46:1
+    -- returns-2
     (λ c. search refl)
-    -- returns-3 src/refuse.rt:46:1
+    -- returns-3
     (λ c. search refl)
-    -- returns-4 src/refuse.rt:46:1
+    -- returns-4
     (λ c. search refl)
-    -- returns-5 src/refuse.rt:46:1
+    -- returns-5
     (λ c. search refl)
-    -- returns-6 src/refuse.rt:46:1
+    -- returns-6
     (λ c. search refl)
-    -- returns-7 src/refuse.rt:46:1
+    -- returns-7
     (λ c. search refl)
-    -- returns-8 src/refuse.rt:46:1
+    -- returns-8
     (λ c. search refl)
-    -- returns-9 src/refuse.rt:46:1
+    -- returns-9
     (λ c. search refl)
-    -- returns-10 src/refuse.rt:46:1
+    -- returns-10
     (λ c. search refl)
-    -- returns-11 src/refuse.rt:46:1
+    -- returns-11
     (λ c. search refl)
-    -- returns-12 src/refuse.rt:46:1
+    -- returns-12
     (λ c. search refl)
-    -- returns-13 src/refuse.rt:46:1
+    -- returns-13
     (λ c. search refl))

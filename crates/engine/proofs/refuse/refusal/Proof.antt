@@ -10,17 +10,17 @@ unfolding rowsInside
 refusal-spec =
     tie.close
     (tie.spec
-    -- sound-image-requires src/refuse.rt:92:9
+    -- sound-image-requires
     (λ c κs. search needs)
-    -- returns src/refuse.rt:93:9
+    -- returns
     (λ c. search codes depth 8 fits 20000)
-    -- sound-list-requires src/refuse.rt:95:9
+    -- sound-list-requires
     (λ c κs. search (needs, image-enough))
-    -- returns-2 src/refuse.rt:96:9
+    -- returns-2
     (λ c. search codes depth 8 fits 20000)
-    -- bad-drive-requires src/refuse.rt:98:8
+    -- bad-drive-requires
     (λ c κs. search needs)
-    -- returns-3 src/refuse.rt:99:9
+    -- returns-3
     (λ c. search codes depth 8 fits 20000)
-    -- returns-4 src/refuse.rt:80:1
+    -- returns-4
     (λ c. search codes depth 8 fits 20000))

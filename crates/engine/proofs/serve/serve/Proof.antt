@@ -10,185 +10,185 @@ unfolding usesCount
 serve-spec =
     tie.close
     (tie.spec
-    -- enum-told src/serve.rt:22:52
+    -- enum-told
     (λ c. search needs)
-    -- open-file-requires src/serve.rt:22:26
+    -- open-file-requires
     (λ c κs. search needs)
-    -- enum-told-2 src/serve.rt:23:55
+    -- enum-told-2
     (λ c. search needs)
-    -- close-file-requires src/serve.rt:23:27
+    -- close-file-requires
     (λ c κs. search needs)
-    -- enum-told-3 src/serve.rt:24:58
+    -- enum-told-3
     (λ c. search needs)
-    -- delete-file-requires src/serve.rt:24:28
+    -- delete-file-requires
     (λ c κs. search needs)
-    -- enum-told-4 src/serve.rt:25:52
+    -- enum-told-4
     (λ c. search needs)
-    -- make-file-requires src/serve.rt:25:26
+    -- make-file-requires
     (λ c κs. search needs)
-    -- enum-told-5 src/serve.rt:26:58
+    -- enum-told-5
     (λ c. search needs)
-    -- rename-file-requires src/serve.rt:26:28
+    -- rename-file-requires
     (λ c κs. search needs)
-    -- enum-told-6 src/serve.rt:27:56
+    -- enum-told-6
     (λ c. search needs)
-    -- read-random-requires src/serve.rt:27:26
+    -- read-random-requires
     (λ c κs. search needs)
-    -- enum-told-7 src/serve.rt:28:59
+    -- enum-told-7
     (λ c. search needs)
-    -- write-random-requires src/serve.rt:28:27
+    -- write-random-requires
     (λ c κs. search needs)
-    -- enum-told-8 src/serve.rt:29:67
+    -- enum-told-8
     (λ c. search needs)
-    -- write-zero-fill-requires src/serve.rt:29:32
+    -- write-zero-fill-requires
     (λ c κs. search needs)
-    -- enum-told-9 src/serve.rt:30:60
+    -- enum-told-9
     (λ c. search needs)
-    -- test-write-requires src/serve.rt:30:31
+    -- test-write-requires
     (λ c κs. search needs)
-    -- enum-told-10 src/serve.rt:31:64
+    -- enum-told-10
     (λ c. search needs)
-    -- lock-records-requires src/serve.rt:31:26
+    -- lock-records-requires
     (λ c κs. search needs)
-    -- enum-told-11 src/serve.rt:32:70
+    -- enum-told-11
     (λ c. search needs)
-    -- unlock-records-requires src/serve.rt:32:28
+    -- unlock-records-requires
     (λ c κs. search needs)
-    -- enum-told-12 src/serve.rt:33:61
+    -- enum-told-12
     (λ c. search needs)
-    -- free-space-requires src/serve.rt:33:31
+    -- free-space-requires
     (λ c κs. search needs)
-    -- enum-told-13 src/serve.rt:34:64
+    -- enum-told-13
     (λ c. search needs)
-    -- terminate-requires src/serve.rt:34:31
+    -- terminate-requires
     (λ c κs. search needs)
-    -- same-length src/serve.rt:9:1
+    -- same-length
     (λ c. search needs)
-    -- same-length-2 src/serve.rt:9:1
+    -- same-length-2
     (λ c. search needs)
-    -- same-length-3 src/serve.rt:9:1
+    -- same-length-3
     (λ c. search needs)
-    -- same-length-4 src/serve.rt:9:1
+    -- same-length-4
     (λ c. search needs)
-    -- returns src/serve.rt:9:1
+    -- returns
     (λ c. search (serve-any, refl))
-    -- same-length-5 src/serve.rt:9:1
+    -- same-length-5
     (λ c. search needs)
-    -- same-length-6 src/serve.rt:9:1
+    -- same-length-6
     (λ c. search needs)
-    -- same-length-7 src/serve.rt:9:1
+    -- same-length-7
     (λ c. search needs)
-    -- same-length-8 src/serve.rt:9:1
+    -- same-length-8
     (λ c. search needs)
-    -- returns-2 src/serve.rt:9:1
+    -- returns-2
     (λ c. search (serve-any, refl))
-    -- same-length-9 src/serve.rt:9:1
+    -- same-length-9
     (λ c. search needs)
-    -- same-length-10 src/serve.rt:9:1
+    -- same-length-10
     (λ c. search needs)
-    -- same-length-11 src/serve.rt:9:1
+    -- same-length-11
     (λ c. search needs)
-    -- same-length-12 src/serve.rt:9:1
+    -- same-length-12
     (λ c. search needs)
-    -- returns-3 src/serve.rt:9:1
+    -- returns-3
     (λ c. search (serve-any, refl))
-    -- same-length-13 src/serve.rt:9:1
+    -- same-length-13
     (λ c. search needs)
-    -- same-length-14 src/serve.rt:9:1
+    -- same-length-14
     (λ c. search needs)
-    -- same-length-15 src/serve.rt:9:1
+    -- same-length-15
     (λ c. search needs)
-    -- same-length-16 src/serve.rt:9:1
+    -- same-length-16
     (λ c. search needs)
-    -- returns-4 src/serve.rt:9:1
+    -- returns-4
     (λ c. search (serve-any, refl))
-    -- same-length-17 src/serve.rt:9:1
+    -- same-length-17
     (λ c. search needs)
-    -- same-length-18 src/serve.rt:9:1
+    -- same-length-18
     (λ c. search needs)
-    -- same-length-19 src/serve.rt:9:1
+    -- same-length-19
     (λ c. search needs)
-    -- same-length-20 src/serve.rt:9:1
+    -- same-length-20
     (λ c. search needs)
-    -- returns-5 src/serve.rt:9:1
+    -- returns-5
     (λ c. search (serve-any, refl))
-    -- same-length-21 src/serve.rt:9:1
+    -- same-length-21
     (λ c. search needs)
-    -- same-length-22 src/serve.rt:9:1
+    -- same-length-22
     (λ c. search needs)
-    -- same-length-23 src/serve.rt:9:1
+    -- same-length-23
     (λ c. search needs)
-    -- same-length-24 src/serve.rt:9:1
+    -- same-length-24
     (λ c. search needs)
-    -- returns-6 src/serve.rt:9:1
+    -- returns-6
     (λ c. search (serve-any, refl))
-    -- same-length-25 src/serve.rt:9:1
+    -- same-length-25
     (λ c. search needs)
-    -- same-length-26 src/serve.rt:9:1
+    -- same-length-26
     (λ c. search needs)
-    -- same-length-27 src/serve.rt:9:1
+    -- same-length-27
     (λ c. search needs)
-    -- same-length-28 src/serve.rt:9:1
+    -- same-length-28
     (λ c. search needs)
-    -- returns-7 src/serve.rt:9:1
+    -- returns-7
     (λ c. search (serve-any, refl))
-    -- same-length-29 src/serve.rt:9:1
+    -- same-length-29
     (λ c. search needs)
-    -- same-length-30 src/serve.rt:9:1
+    -- same-length-30
     (λ c. search needs)
-    -- same-length-31 src/serve.rt:9:1
+    -- same-length-31
     (λ c. search needs)
-    -- same-length-32 src/serve.rt:9:1
+    -- same-length-32
     (λ c. search needs)
-    -- returns-8 src/serve.rt:9:1
+    -- returns-8
     (λ c. search (serve-any, refl))
-    -- same-length-33 src/serve.rt:9:1
+    -- same-length-33
     (λ c. search needs)
-    -- same-length-34 src/serve.rt:9:1
+    -- same-length-34
     (λ c. search needs)
-    -- same-length-35 src/serve.rt:9:1
+    -- same-length-35
     (λ c. search needs)
-    -- same-length-36 src/serve.rt:9:1
+    -- same-length-36
     (λ c. search needs)
-    -- returns-9 src/serve.rt:9:1
+    -- returns-9
     (λ c. search (serve-any, refl))
-    -- same-length-37 src/serve.rt:9:1
+    -- same-length-37
     (λ c. search needs)
-    -- same-length-38 src/serve.rt:9:1
+    -- same-length-38
     (λ c. search needs)
-    -- same-length-39 src/serve.rt:9:1
+    -- same-length-39
     (λ c. search needs)
-    -- same-length-40 src/serve.rt:9:1
+    -- same-length-40
     (λ c. search needs)
-    -- returns-10 src/serve.rt:9:1
+    -- returns-10
     (λ c. search serve-run)
-    -- same-length-41 src/serve.rt:9:1
+    -- same-length-41
     (λ c. search needs)
-    -- same-length-42 src/serve.rt:9:1
+    -- same-length-42
     (λ c. search needs)
-    -- same-length-43 src/serve.rt:9:1
+    -- same-length-43
     (λ c. search needs)
-    -- same-length-44 src/serve.rt:9:1
+    -- same-length-44
     (λ c. search needs)
-    -- returns-11 src/serve.rt:9:1
+    -- returns-11
     (λ c. search serve-run)
-    -- same-length-45 src/serve.rt:9:1
+    -- same-length-45
     (λ c. search needs)
-    -- same-length-46 src/serve.rt:9:1
+    -- same-length-46
     (λ c. search needs)
-    -- same-length-47 src/serve.rt:9:1
+    -- same-length-47
     (λ c. search needs)
-    -- same-length-48 src/serve.rt:9:1
+    -- same-length-48
     (λ c. search needs)
-    -- returns-12 src/serve.rt:9:1
+    -- returns-12
     (λ c. search (serve-any, refl))
-    -- same-length-49 src/serve.rt:9:1
+    -- same-length-49
     (λ c. search needs)
-    -- same-length-50 src/serve.rt:9:1
+    -- same-length-50
     (λ c. search needs)
-    -- same-length-51 src/serve.rt:9:1
+    -- same-length-51
     (λ c. search needs)
-    -- same-length-52 src/serve.rt:9:1
+    -- same-length-52
     (λ c. search needs)
-    -- returns-13 src/serve.rt:9:1
+    -- returns-13
     (λ c. search (serve-any, refl)))

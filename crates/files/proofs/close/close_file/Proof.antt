@@ -7,17 +7,17 @@ pub close-file-spec : {M : Type 1} → statement M
 close-file-spec =
     tie.close
     (tie.spec
-    -- caller-file-requires src/close.rt:16:9
+    -- caller-file-requires
     (λ c κs. search needs)
-    -- open-of-requires src/close.rt:17:14
+    -- open-of-requires
     (λ c κs. search needs)
-    -- returns src/close.rt:18:9
+    -- returns
     (λ c. search close-refused)
-    -- close-requires src/close.rt:20:10
+    -- close-requires
     (λ c κs. search needs)
-    -- pack-requires src/close.rt:20:5
+    -- pack-requires
     (λ c κs. search needs)
-    -- same-length-2 src/close.rt:11:1
+    -- same-length-2
     (λ c. search needs)
-    -- returns-2 src/close.rt:11:1
+    -- returns-2
     (λ c. search close-done))

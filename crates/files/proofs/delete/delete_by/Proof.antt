@@ -7,17 +7,17 @@ pub delete-by-spec : {M : Type 1} → statement M
 delete-by-spec =
     tie.close
     (tie.spec
-    -- look-up-requires src/delete.rt:47:9
+    -- look-up-requires
     (λ c κs. search needs)
-    -- delete-refusal-requires src/delete.rt:48:9
+    -- delete-refusal-requires
     (λ c κs. search needs)
-    -- same-length src/delete.rt:50:9
+    -- same-length
     (λ c. search needs)
-    -- returns src/delete.rt:50:9
+    -- returns
     (λ c. search delete-refused)
-    -- erase-requires src/delete.rt:52:5
+    -- erase-requires
     (λ c κs. search needs)
-    -- same-length-2 src/delete.rt:43:1
+    -- same-length-2
     (λ c. search needs)
-    -- returns-2 src/delete.rt:43:1
+    -- returns-2
     (λ c. search delete-done))

@@ -7,11 +7,11 @@ pub delete-file-spec : {M : Type 1} → statement M
 delete-file-spec =
     tie.close
     (tie.spec
-    -- caller-file-requires src/delete.rt:62:9
+    -- caller-file-requires
     (λ c κs. search needs)
-    -- delete-by-requires src/delete.rt:63:5
+    -- delete-by-requires
     (λ c κs. search needs)
-    -- same-length src/delete.rt:57:1
+    -- same-length
     (λ c. search needs)
-    -- returns src/delete.rt:57:1
+    -- returns
     (λ c. search delete-called))

@@ -9,21 +9,21 @@ unfolding rows19 stopsDelete
 delete-refusal-spec =
     tie.close
     (tie.spec
-    -- legal-name-requires src/delete.rt:27:9
+    -- legal-name-requires
     (λ c κs. search needs)
-    -- returns src/delete.rt:28:9
+    -- returns
     (λ c. search codes depth 8 fits 20000)
-    -- is-missing-requires src/delete.rt:30:8
+    -- is-missing-requires
     (λ c κs. search needs)
-    -- returns-2 src/delete.rt:31:9
+    -- returns-2
     (λ c. search codes depth 8 fits 20000)
-    -- any-open-requires src/delete.rt:33:8
+    -- any-open-requires
     (λ c κs. search needs)
-    -- returns-3 src/delete.rt:34:9
+    -- returns-3
     (λ c. search codes depth 8 fits 20000)
-    -- read-only-requires src/delete.rt:36:8
+    -- read-only-requires
     (λ c κs. search needs)
-    -- returns-4 src/delete.rt:37:9
+    -- returns-4
     (λ c. search codes depth 8 fits 20000)
-    -- returns-5 src/delete.rt:23:1
+    -- returns-5
     (λ c. search codes depth 8 fits 20000))

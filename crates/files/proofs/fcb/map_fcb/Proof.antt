@@ -7,25 +7,25 @@ pub map-fcb-spec : {M : Type 1} → statement M
 map-fcb-spec =
     tie.close
     (tie.spec
-    -- slice-aggregate-put-bytes src/fcb.rt:13:30
+    -- slice-aggregate-put-bytes
     (λ c. search needs)
-    -- put-bytes-requires src/fcb.rt:13:5
+    -- put-bytes-requires
     (λ c κs. search needs)
-    -- mul-at src/fcb.rt:14:14
+    -- mul-at
     (λ c. search needs)
-    -- add-at src/fcb.rt:14:14
+    -- add-at
     (λ c. search needs)
-    -- add-end src/fcb.rt:15:15
+    -- add-end
     (λ c. search needs)
-    -- sub-put-bytes src/fcb.rt:16:24
+    -- sub-put-bytes
     (λ c. search needs)
-    -- part-put-bytes-start src/fcb.rt:16:24
+    -- part-put-bytes-start
     (λ c. search needs)
-    -- part-put-bytes-end src/fcb.rt:16:24
+    -- part-put-bytes-end
     (λ c. search needs)
-    -- put-bytes-requires-2 src/fcb.rt:16:5
+    -- put-bytes-requires-2
     (λ c κs. search needs)
-    -- same-length src/fcb.rt:8:1
+    -- same-length
     (λ c. search needs)
-    -- returns src/fcb.rt:8:1
+    -- returns
     (λ c. search fcb-mapped))

@@ -10,15 +10,15 @@ unfolding fcbNumbered
 number-fcb-spec =
     tie.close
     (tie.spec
-    -- cast-t6 src/fcb.rt:25:19
+    -- cast-t6
     (λ c. search needs)
-    -- slice-aggregate-put-bytes src/fcb.rt:26:28
+    -- slice-aggregate-put-bytes
     (λ c. search needs)
-    -- put-bytes-requires src/fcb.rt:26:9
+    -- put-bytes-requires
     (λ c κs. search needs)
-    -- same-length src/fcb.rt:20:1
+    -- same-length
     (λ c. search needs)
-    -- returns src/fcb.rt:20:1
+    -- returns
     (λ c. search (choices, refl) depth 8 fits 20000)
-    -- returns-2 src/fcb.rt:20:1
+    -- returns-2
     (λ c. search (choices, refl) depth 8 fits 20000))

@@ -8,11 +8,11 @@ unfolding fcbOpened
 set-fcb-spec =
     tie.close
     (tie.spec
-    -- map-fcb-requires src/fcb.rt:35:5
+    -- map-fcb-requires
     (λ c κs. search needs)
-    -- number-fcb-requires src/fcb.rt:36:5
+    -- number-fcb-requires
     (λ c κs. search needs)
-    -- same-length src/fcb.rt:31:1
+    -- same-length
     (λ c. search needs)
-    -- returns src/fcb.rt:31:1
+    -- returns
     (λ c. cc))

@@ -6,9 +6,9 @@ pub at-open-limit-spec : {M : Type 1} → statement M
 at-open-limit-spec =
     tie.close
     (tie.spec
-    -- wide-requires src/limit.rt:11:5
+    -- wide-requires
     (λ c κs. search needs)
-    -- opens-by-requires src/limit.rt:11:26
+    -- opens-by-requires
     (λ c κs. search needs)
-    -- returns src/limit.rt:8:1
+    -- returns
     (λ c. cc))

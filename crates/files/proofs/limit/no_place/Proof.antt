@@ -6,9 +6,9 @@ pub no-place-spec : {M : Type 1} → statement M
 no-place-spec =
     tie.close
     (tie.spec
-    -- wide-requires src/limit.rt:18:5
+    -- wide-requires
     (λ c κs. search needs)
-    -- free-place-requires src/limit.rt:18:25
+    -- free-place-requires
     (λ c κs. search needs)
-    -- returns src/limit.rt:15:1
+    -- returns
     (λ c. cc))

@@ -8,37 +8,37 @@ pub make-by-spec : {M : Type 1} → statement M
 make-by-spec =
     tie.close
     (tie.spec
-    -- look-up-requires src/make.rt:63:9
+    -- look-up-requires
     (λ c κs. search needs)
-    -- make-refusal-requires src/make.rt:64:9
+    -- make-refusal-requires
     (λ c κs. search needs)
-    -- same-length src/make.rt:66:9
+    -- same-length
     (λ c. search needs)
-    -- same-length-2 src/make.rt:66:9
+    -- same-length-2
     (λ c. search needs)
-    -- returns src/make.rt:66:9
+    -- returns
     (λ c. search make-refused)
-    -- make-mode-requires src/make.rt:68:9
+    -- make-mode-requires
     (λ c κs. search needs)
-    -- free-entry-requires src/make.rt:69:9
+    -- free-entry-requires
     (λ c κs. search needs)
-    -- free-place-requires src/make.rt:70:9
+    -- free-place-requires
     (λ c κs. search needs)
-    -- make-entry-requires src/make.rt:71:5
+    -- make-entry-requires
     (λ c κs. let h = make-room _ _ _ _ _ _ _ _ (c .before .before .before .before .before .before .before .make-refusal .ensures) (c .before .before .before .before .before .before .if1 .left) (c .before .before .free-entry .ensures .0) in search needs)
-    -- set-fcb-requires src/make.rt:72:5
+    -- set-fcb-requires
     (λ c κs. let h = place-fits _ _ (c .before .before .before .before .before .before .free-place .ensures) (search (needs, c .before .before .before .before .before .before .before .before .before .before .before .before .before .before .before .before .before .before .before .before .before .good .1 .1 .0)) in search needs)
-    -- open-requires src/make.rt:73:10
+    -- open-requires
     (λ c κs. search needs)
-    -- pack-requires src/make.rt:73:5
+    -- pack-requires
     (λ c κs. c .before .before .before .before .before .before .before .before .before .before .before .before .before .before .before .before .before .before .before .before .before .before .before .before .before .before .pre .list-long)
-    -- same-length-3 src/make.rt:51:1
+    -- same-length-3
     (λ c. search needs)
-    -- same-length-4 src/make.rt:51:1
+    -- same-length-4
     (λ c. search needs)
-    -- same-length-5 src/make.rt:51:1
+    -- same-length-5
     (λ c. search needs)
-    -- returns-2 src/make.rt:51:1
+    -- returns-2
     (λ c.
     let packed = c .before .before in
     let held = packed .before .before in

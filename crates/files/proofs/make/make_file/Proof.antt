@@ -7,15 +7,15 @@ pub make-file-spec : {M : Type 1} → statement M
 make-file-spec =
     tie.close
     (tie.spec
-    -- caller-file-requires src/make.rt:83:9
+    -- caller-file-requires
     (λ c κs. search needs)
-    -- make-by-requires src/make.rt:84:5
+    -- make-by-requires
     (λ c κs. search needs)
-    -- same-length src/make.rt:78:1
+    -- same-length
     (λ c. search needs)
-    -- same-length-2 src/make.rt:78:1
+    -- same-length-2
     (λ c. search needs)
-    -- same-length-3 src/make.rt:78:1
+    -- same-length-3
     (λ c. search needs)
-    -- returns src/make.rt:78:1
+    -- returns
     (λ c. search make-called))

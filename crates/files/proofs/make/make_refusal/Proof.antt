@@ -10,25 +10,25 @@ unfolding rows22
 make-refusal-spec =
     tie.close
     (tie.spec
-    -- legal-name-requires src/make.rt:42:9
+    -- legal-name-requires
     (λ c κs. search needs)
-    -- returns src/make.rt:43:9
+    -- returns
     (λ c. search (row-yes, row-no, row-none, is-yes, is-no, not-yes, not-no, not-of-false, not-of-true, refl) depth 8 fits 20000)
-    -- is-missing-requires src/make.rt:45:9
+    -- is-missing-requires
     (λ c κs. search needs)
-    -- returns-2 src/make.rt:46:9
+    -- returns-2
     (λ c. search (row-yes, row-no, row-none, is-yes, is-no, not-yes, not-no, not-of-false, not-of-true, refl) depth 8 fits 20000)
-    -- at-open-limit-requires src/make.rt:48:8
+    -- at-open-limit-requires
     (λ c κs. search needs)
-    -- returns-3 src/make.rt:49:9
+    -- returns-3
     (λ c. search (row-yes, row-no, row-none, is-yes, is-no, not-yes, not-no, not-of-false, not-of-true, refl) depth 8 fits 20000)
-    -- no-place-requires src/make.rt:51:8
+    -- no-place-requires
     (λ c κs. search needs)
-    -- returns-4 src/make.rt:52:9
+    -- returns-4
     (λ c. search (row-yes, row-no, row-none, is-yes, is-no, not-yes, not-no, not-of-false, not-of-true, refl) depth 8 fits 20000)
-    -- no-entry-requires src/make.rt:54:8
+    -- no-entry-requires
     (λ c κs. search needs)
-    -- returns-5 src/make.rt:55:9
+    -- returns-5
     (λ c. search (row-yes, row-no, row-none, is-yes, is-no, not-yes, not-no, not-of-false, not-of-true, refl) depth 8 fits 20000)
-    -- returns-6 src/make.rt:38:1
+    -- returns-6
     (λ c. search (row-yes, row-no, row-none, is-yes, is-no, not-yes, not-no, not-of-false, not-of-true, refl) depth 8 fits 20000))

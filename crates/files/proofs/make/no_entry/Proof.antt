@@ -8,7 +8,7 @@ no-entry-spec =
     (tie.spec
     -- entries-requires
     (λ c κs. search needs)
-    -- free-entry-requires src/make.rt:34:11
+    -- free-entry-requires
     (λ c κs. search needs)
-    -- returns src/make.rt:30:1
+    -- returns
     (λ c. cc))

@@ -6,9 +6,9 @@ pub any-against-spec : {M : Type 1} → statement M
 any-against-spec =
     tie.close
     (tie.spec
-    -- open-mode-requires src/open.rt:53:9
+    -- open-mode-requires
     (λ c κs. search needs)
-    -- any-against-requires src/open.rt:54:5
+    -- any-against-requires
     (λ c κs. search needs)
-    -- returns src/open.rt:49:1
+    -- returns
     (λ c. cc))

@@ -9,17 +9,17 @@ unfolding rowsNew
 new-refusal-spec =
     tie.close
     (tie.spec
-    -- any-against-requires src/open.rt:62:8
+    -- any-against-requires
     (λ c κs. search needs)
-    -- returns src/open.rt:63:9
+    -- returns
     (λ c. search codes depth 8 fits 20000)
-    -- at-open-limit-requires src/open.rt:65:8
+    -- at-open-limit-requires
     (λ c κs. search needs)
-    -- returns-2 src/open.rt:66:9
+    -- returns-2
     (λ c. search codes depth 8 fits 20000)
-    -- no-place-requires src/open.rt:68:8
+    -- no-place-requires
     (λ c κs. search needs)
-    -- returns-3 src/open.rt:69:9
+    -- returns-3
     (λ c. search codes depth 8 fits 20000)
-    -- returns-4 src/open.rt:58:1
+    -- returns-4
     (λ c. search codes depth 8 fits 20000))

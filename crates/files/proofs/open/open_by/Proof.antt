@@ -8,33 +8,33 @@ pub open-by-spec : {M : Type 1} → statement M
 open-by-spec =
     tie.close
     (tie.spec
-    -- look-up-requires src/open.rt:108:9
+    -- look-up-requires
     (λ c κs. search needs)
-    -- open-refusal-requires src/open.rt:109:9
+    -- open-refusal-requires
     (λ c κs. search needs)
-    -- same-length src/open.rt:111:9
+    -- same-length
     (λ c. search needs)
-    -- returns src/open.rt:111:9
+    -- returns
     (λ c. search open-refused)
-    -- open-mode-requires src/open.rt:113:9
+    -- open-mode-requires
     (λ c κs. search needs)
-    -- set-fcb-requires src/open.rt:116:9
+    -- set-fcb-requires
     (λ c κs. search needs)
-    -- same-length-2 src/open.rt:117:9
+    -- same-length-2
     (λ c. search needs)
-    -- returns-2 src/open.rt:117:9
+    -- returns-2
     (λ c. search (open-again, refl))
-    -- free-place-requires src/open.rt:119:9
+    -- free-place-requires
     (λ c κs. search needs)
-    -- set-fcb-requires-2 src/open.rt:120:5
+    -- set-fcb-requires-2
     (λ c κs. let h = place-fits _ _ (c .before .free-place .ensures) (search needs) in search needs)
-    -- open-requires src/open.rt:121:10
+    -- open-requires
     (λ c κs. search needs)
-    -- pack-requires src/open.rt:121:5
+    -- pack-requires
     (λ c κs. search needs)
-    -- same-length-3 src/open.rt:95:1
+    -- same-length-3
     (λ c. search needs)
-    -- same-length-4 src/open.rt:95:1
+    -- same-length-4
     (λ c. search needs)
-    -- returns-3 src/open.rt:95:1
+    -- returns-3
     (λ c. search open-new))

@@ -7,15 +7,15 @@ pub open-file-spec : {M : Type 1} → statement M
 open-file-spec =
     tie.close
     (tie.spec
-    -- caller-file-requires src/open.rt:131:9
+    -- caller-file-requires
     (λ c κs. search needs)
-    -- open-of-requires src/open.rt:132:9
+    -- open-of-requires
     (λ c κs. search needs)
-    -- open-by-requires src/open.rt:133:5
+    -- open-by-requires
     (λ c κs. search needs)
-    -- same-length src/open.rt:126:1
+    -- same-length
     (λ c. search needs)
-    -- same-length-2 src/open.rt:126:1
+    -- same-length-2
     (λ c. search needs)
-    -- returns src/open.rt:126:1
+    -- returns
     (λ c. search open-called))

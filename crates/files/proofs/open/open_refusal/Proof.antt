@@ -10,21 +10,21 @@ unfolding rows15 rowsNew isOpened
 open-refusal-spec =
     tie.close
     (tie.spec
-    -- legal-name-requires src/open.rt:79:9
+    -- legal-name-requires
     (λ c κs. search needs)
-    -- returns src/open.rt:80:9
+    -- returns
     (λ c. search codes depth 8 fits 20000)
-    -- is-missing-requires src/open.rt:82:8
+    -- is-missing-requires
     (λ c κs. search needs)
-    -- returns-2 src/open.rt:83:9
+    -- returns-2
     (λ c. search codes depth 8 fits 20000)
-    -- opened-otherwise-requires src/open.rt:85:8
+    -- opened-otherwise-requires
     (λ c κs. search needs)
-    -- returns-3 src/open.rt:86:9
+    -- returns-3
     (λ c. search codes depth 8 fits 20000)
-    -- returns-4 src/open.rt:89:9
+    -- returns-4
     (λ c. search codes depth 8 fits 20000)
-    -- new-refusal-requires src/open.rt:91:5
+    -- new-refusal-requires
     (λ c κs. search needs)
-    -- returns-5 src/open.rt:75:1
+    -- returns-5
     (λ c. search codes depth 8 fits 20000))

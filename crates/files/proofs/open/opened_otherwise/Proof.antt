@@ -9,9 +9,9 @@ unfolding isOpened
 opened-otherwise-spec =
     tie.close
     (tie.spec
-    -- returns src/open.rt:43:9
+    -- returns
     (λ c. search choices depth 8 fits 20000)
-    -- same-mode-requires src/open.rt:45:6
+    -- same-mode-requires
     (λ c κs. search needs)
-    -- returns-2 src/open.rt:38:1
+    -- returns-2
     (λ c. search choices depth 8 fits 20000))

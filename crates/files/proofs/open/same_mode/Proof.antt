@@ -6,9 +6,9 @@ pub same-mode-spec : {M : Type 1} → statement M
 same-mode-spec =
     tie.close
     (tie.spec
-    -- mode-at-requires src/open.rt:34:5
+    -- mode-at-requires
     (λ c κs. search needs)
-    -- open-mode-requires src/open.rt:34:21
+    -- open-mode-requires
     (λ c κs. search needs)
-    -- returns src/open.rt:30:1
+    -- returns
     (λ c. cc))

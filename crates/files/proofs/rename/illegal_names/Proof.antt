@@ -7,11 +7,11 @@ pub illegal-names-spec : {M : Type 1} → statement M
 illegal-names-spec =
     tie.close
     (tie.spec
-    -- legal-name-requires src/rename.rt:32:9
+    -- legal-name-requires
     (λ c κs. search needs)
-    -- returns src/rename.rt:33:9
+    -- returns
     (λ c. search choices depth 8 fits 20000)
-    -- legal-name-requires-2 src/rename.rt:35:6
+    -- legal-name-requires-2
     (λ c κs. search needs)
-    -- returns-2 src/rename.rt:28:1
+    -- returns-2
     (λ c. search choices depth 8 fits 20000))

@@ -7,7 +7,7 @@ pub is-there-spec : {M : Type 1} → statement M
 is-there-spec =
     tie.close
     (tie.spec
-    -- is-missing-requires src/rename.rt:42:6
+    -- is-missing-requires
     (λ c κs. search needs)
-    -- returns src/rename.rt:39:1
+    -- returns
     (λ c. search not-answer))

@@ -7,19 +7,19 @@ pub rename-by-spec : {M : Type 1} → statement M
 rename-by-spec =
     tie.close
     (tie.spec
-    -- look-up-requires src/rename.rt:74:9
+    -- look-up-requires
     (λ c κs. search needs)
-    -- look-up-requires-2 src/rename.rt:75:9
+    -- look-up-requires-2
     (λ c κs. search needs)
-    -- rename-refusal-requires src/rename.rt:76:9
+    -- rename-refusal-requires
     (λ c κs. search needs)
-    -- same-length src/rename.rt:78:9
+    -- same-length
     (λ c. search needs)
-    -- returns src/rename.rt:78:9
+    -- returns
     (λ c. search rename-refused)
-    -- rename-requires src/rename.rt:81:5
+    -- rename-requires
     (λ c κs. search needs)
-    -- same-length-2 src/rename.rt:62:1
+    -- same-length-2
     (λ c. search needs)
-    -- returns-2 src/rename.rt:62:1
+    -- returns-2
     (λ c. search rename-done))

@@ -7,13 +7,13 @@ pub rename-file-spec : {M : Type 1} → statement M
 rename-file-spec =
     tie.close
     (tie.spec
-    -- caller-file-requires src/rename.rt:91:9
+    -- caller-file-requires
     (λ c κs. search needs)
-    -- new-file-requires src/rename.rt:92:9
+    -- new-file-requires
     (λ c κs. search needs)
-    -- rename-by-requires src/rename.rt:93:5
+    -- rename-by-requires
     (λ c κs. search (name-low, needs))
-    -- same-length src/rename.rt:86:1
+    -- same-length
     (λ c. search needs)
-    -- returns src/rename.rt:86:1
+    -- returns
     (λ c. search rename-called))

@@ -10,25 +10,25 @@ unfolding rows23 stopsRename
 rename-refusal-spec =
     tie.close
     (tie.spec
-    -- illegal-names-requires src/rename.rt:50:8
+    -- illegal-names-requires
     (λ c κs. search needs)
-    -- returns src/rename.rt:51:9
+    -- returns
     (λ c. search (row-yes, row-no, row-none, is-yes, is-no, not-yes, not-no, not-of-false, not-of-true, refl) depth 8 fits 20000)
-    -- is-missing-requires src/rename.rt:53:8
+    -- is-missing-requires
     (λ c κs. search needs)
-    -- returns-2 src/rename.rt:54:9
+    -- returns-2
     (λ c. search (row-yes, row-no, row-none, is-yes, is-no, not-yes, not-no, not-of-false, not-of-true, refl) depth 8 fits 20000)
-    -- any-open-requires src/rename.rt:56:8
+    -- any-open-requires
     (λ c κs. search needs)
-    -- returns-3 src/rename.rt:57:9
+    -- returns-3
     (λ c. search (row-yes, row-no, row-none, is-yes, is-no, not-yes, not-no, not-of-false, not-of-true, refl) depth 8 fits 20000)
-    -- read-only-requires src/rename.rt:59:8
+    -- read-only-requires
     (λ c κs. search needs)
-    -- returns-4 src/rename.rt:60:9
+    -- returns-4
     (λ c. search (row-yes, row-no, row-none, is-yes, is-no, not-yes, not-no, not-of-false, not-of-true, refl) depth 8 fits 20000)
-    -- is-there-requires src/rename.rt:62:8
+    -- is-there-requires
     (λ c κs. search needs)
-    -- returns-5 src/rename.rt:63:9
+    -- returns-5
     (λ c. search (row-yes, row-no, row-none, is-yes, is-no, not-yes, not-no, not-of-false, not-of-true, refl) depth 8 fits 20000)
-    -- returns-6 src/rename.rt:46:1
+    -- returns-6
     (λ c. search (row-yes, row-no, row-none, is-yes, is-no, not-yes, not-no, not-of-false, not-of-true, refl) depth 8 fits 20000))

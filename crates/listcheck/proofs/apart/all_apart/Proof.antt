@@ -25,49 +25,49 @@ unfolding clashAt
 all-apart-spec =
     tie.close
     (tie.spec Inv-loop2 μ-loop2 Inv-loop μ-loop
-    -- loop-holds src/apart.rt:92:5
+    -- loop-holds
     (λ c. search aparts)
-    -- mul-it src/apart.rt:93:18
+    -- mul-it
     (λ c. search aparts)
-    -- element-copy-out-it src/apart.rt:93:18
+    -- element-copy-out-it
     (λ c. search aparts)
-    -- add-i src/apart.rt:95:13
+    -- add-i
     (λ c. search aparts)
-    -- loop-less src/apart.rt:92:5
+    -- loop-less
     (λ c. search aparts)
-    -- loop-again src/apart.rt:92:5
+    -- loop-again
     (λ c. search aparts)
-    -- loop2-holds src/apart.rt:99:9
+    -- loop2-holds
     (λ c. search aparts)
-    -- mul-if2 src/apart.rt:100:16
+    -- mul-if2
     (λ c. search aparts)
-    -- element-copy-out-if2 src/apart.rt:100:16
+    -- element-copy-out-if2
     (λ c. search aparts)
-    -- add-j src/apart.rt:101:17
+    -- add-j
     (λ c. search aparts)
-    -- loop2-less src/apart.rt:99:9
+    -- loop2-less
     (λ c. search aparts)
-    -- loop2-again src/apart.rt:99:9
+    -- loop2-again
     (λ c. (search aparts, search aparts, search aparts, search aparts))
-    -- mul-other src/apart.rt:104:25
+    -- mul-other
     (λ c. search aparts)
-    -- element-copy-out-other src/apart.rt:104:25
+    -- element-copy-out-other
     (λ c. search aparts)
-    -- file-clash-requires src/apart.rt:105:16
+    -- file-clash-requires
     (λ c κs. search aparts)
-    -- returns src/apart.rt:106:17
+    -- returns
     (λ c. search aparts)
-    -- add-j-2 src/apart.rt:108:13
+    -- add-j-2
     (λ c. search aparts)
-    -- loop2-less-2 src/apart.rt:99:9
+    -- loop2-less-2
     (λ c. search aparts)
-    -- loop2-again-2 src/apart.rt:99:9
+    -- loop2-again-2
     (λ c. let i = c .before .before .before .before .before .before .loop2 .inv in (i .0, i .1, search aparts, any-goes _ _ (i .3) (is-no _ _ (c .before .file-clash .ensures) (c .if3 .left))))
-    -- add-i-2 src/apart.rt:110:9
+    -- add-i-2
     (λ c. search aparts)
-    -- loop-less-2 src/apart.rt:92:5
+    -- loop-less-2
     (λ c. search aparts)
-    -- loop-again-2 src/apart.rt:92:5
+    -- loop-again-2
     (λ c. search aparts)
-    -- returns-2 src/apart.rt:87:1
+    -- returns-2
     (λ c. search aparts))

@@ -9,11 +9,11 @@ unfolding clash
 clash-spec =
     tie.close
     (tie.spec
-    -- opens-clash-requires src/apart.rt:69:8
+    -- opens-clash-requires
     (λ c κs. search needs)
-    -- returns src/apart.rt:70:9
+    -- returns
     (λ c. search choices depth 8 fits 20000)
-    -- locks-clash-requires src/apart.rt:72:5
+    -- locks-clash-requires
     (λ c κs. search needs)
-    -- returns-2 src/apart.rt:66:1
+    -- returns-2
     (λ c. search choices depth 8 fits 20000))

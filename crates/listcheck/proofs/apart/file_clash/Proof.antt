@@ -7,15 +7,15 @@ pub file-clash-spec : {M : Type 1} → statement M
 file-clash-spec =
     tie.close
     (tie.spec
-    -- clash-requires src/apart.rt:79:9
+    -- clash-requires
     (λ c κs. search needs)
-    -- returns src/apart.rt:80:9
+    -- returns
     (λ c. search clashing depth 8 fits 20000)
-    -- file-by-requires src/apart.rt:82:9
+    -- file-by-requires
     (λ c κs. search needs)
-    -- file-by-requires-2 src/apart.rt:83:9
+    -- file-by-requires-2
     (λ c κs. search needs)
-    -- same-file-requires src/apart.rt:84:5
+    -- same-file-requires
     (λ c κs. search needs)
-    -- returns-2 src/apart.rt:76:1
+    -- returns-2
     (λ c. search clashing depth 8 fits 20000))

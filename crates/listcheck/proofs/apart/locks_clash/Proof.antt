@@ -6,9 +6,9 @@ pub locks-clash-spec : {M : Type 1} → statement M
 locks-clash-spec =
     tie.close
     (tie.spec
-    -- returns src/apart.rt:57:9
+    -- returns
     (λ c. search choices depth 8 fits 20000)
-    -- returns-2 src/apart.rt:60:9
+    -- returns-2
     (λ c. search choices depth 8 fits 20000)
-    -- returns-3 src/apart.rt:53:1
+    -- returns-3
     (λ c. search choices depth 8 fits 20000))

@@ -7,11 +7,11 @@ pub opens-clash-spec : {M : Type 1} → statement M
 opens-clash-spec =
     tie.close
     (tie.spec
-    -- returns src/apart.rt:44:9
+    -- returns
     (λ c. search choices depth 8 fits 20000)
-    -- returns-2 src/apart.rt:47:9
+    -- returns-2
     (λ c. search choices depth 8 fits 20000)
-    -- stand-beside-requires src/apart.rt:49:6
+    -- stand-beside-requires
     (λ c κs. search needs)
-    -- returns-3 src/apart.rt:40:1
+    -- returns-3
     (λ c. search choices depth 8 fits 20000))

@@ -9,9 +9,9 @@ unfolding sameFile
 same-file-spec =
     tie.close
     (tie.spec
-    -- returns src/apart.rt:19:9
+    -- returns
     (λ c. search choices depth 8 fits 20000)
-    -- same-name-requires src/apart.rt:23:5
+    -- same-name-requires
     (λ c κs. search needs)
-    -- returns-2 src/apart.rt:15:1
+    -- returns-2
     (λ c. search choices depth 8 fits 20000))

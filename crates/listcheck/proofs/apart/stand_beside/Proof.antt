@@ -8,9 +8,9 @@ unfolding standBeside
 stand-beside-spec =
     tie.close
     (tie.spec
-    -- returns src/apart.rt:31:9
+    -- returns
     (λ c. search choices depth 8 fits 20000)
-    -- returns-2 src/apart.rt:34:9
+    -- returns-2
     (λ c. search choices depth 8 fits 20000)
-    -- returns-3 src/apart.rt:27:1
+    -- returns-3
     (λ c. search choices depth 8 fits 20000))

@@ -17,23 +17,23 @@ pub all-zero-spec : {M : Type 1} → statement M
 all-zero-spec =
     tie.close
     (tie.spec Inv-loop μ-loop
-    -- loop-holds src/check.rt:23:5
+    -- loop-holds
     (λ c. search zeros)
-    -- mul-if1 src/check.rt:24:22
+    -- mul-if1
     (λ c. search zeros)
-    -- add-if1 src/check.rt:24:17
+    -- add-if1
     (λ c. search zeros)
-    -- add-if1-2 src/check.rt:24:17
+    -- add-if1-2
     (λ c. search zeros)
-    -- shared-slice-read-if1 src/check.rt:24:12
+    -- shared-slice-read-if1
     (λ c. search zeros)
-    -- returns src/check.rt:25:13
+    -- returns
     (λ c. search zeros)
-    -- add-i src/check.rt:27:9
+    -- add-i
     (λ c. search zeros)
-    -- loop-less src/check.rt:23:5
+    -- loop-less
     (λ c. search zeros)
-    -- loop-again src/check.rt:23:5
+    -- loop-again
     (λ c. search zeros)
-    -- returns-2 src/check.rt:18:1
+    -- returns-2
     (λ c. search zeros))

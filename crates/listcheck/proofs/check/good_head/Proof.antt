@@ -9,21 +9,21 @@ unfolding goodHead
 good-head-spec =
     tie.close
     (tie.spec
-    -- is-limit-requires src/check.rt:83:9
+    -- is-limit-requires
     (λ c κs. search needs)
-    -- returns src/check.rt:84:9
+    -- returns
     (λ c. search sounds depth 8 fits 20000)
-    -- is-limit-requires-2 src/check.rt:86:9
+    -- is-limit-requires-2
     (λ c κs. search needs)
-    -- returns-2 src/check.rt:87:9
+    -- returns-2
     (λ c. search sounds depth 8 fits 20000)
-    -- is-limit-requires-3 src/check.rt:89:9
+    -- is-limit-requires-3
     (λ c κs. search needs)
-    -- returns-3 src/check.rt:90:9
+    -- returns-3
     (λ c. search sounds depth 8 fits 20000)
-    -- slice-aggregate-all-users src/check.rt:92:15
+    -- slice-aggregate-all-users
     (λ c. search needs)
-    -- all-users-requires src/check.rt:92:5
+    -- all-users-requires
     (λ c κs. search needs)
-    -- returns-4 src/check.rt:80:1
+    -- returns-4
     (λ c. search sounds depth 8 fits 20000))

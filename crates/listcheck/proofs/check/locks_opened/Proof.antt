@@ -27,41 +27,41 @@ unfolding opensNameAt
 locks-opened-spec =
     tie.close
     (tie.spec Inv-loop μ-loop Inv-locks μ-locks
-    -- locks-holds src/check.rt:54:5
+    -- locks-holds
     (λ c. search opens)
-    -- mul-it src/check.rt:55:18
+    -- mul-it
     (λ c. search opens)
-    -- element-copy-out-it src/check.rt:55:18
+    -- element-copy-out-it
     (λ c. search opens)
-    -- add-i src/check.rt:57:13
+    -- add-i
     (λ c. search opens)
-    -- locks-less src/check.rt:54:5
+    -- locks-less
     (λ c. search opens)
-    -- locks-again src/check.rt:54:5
+    -- locks-again
     (λ c. search opens)
-    -- loop-holds src/check.rt:63:9
+    -- loop-holds
     (λ c. search opens)
-    -- mul-open src/check.rt:64:24
+    -- mul-open
     (λ c. search opens)
-    -- element-copy-out-open src/check.rt:64:24
+    -- element-copy-out-open
     (λ c. search opens)
-    -- opens-name-requires src/check.rt:65:16
+    -- opens-name-requires
     (λ c κs. search opens)
-    -- returns src/check.rt:67:21
+    -- returns
     (λ c. search opens)
-    -- add-i-2 src/check.rt:69:17
+    -- add-i-2
     (λ c. search opens)
-    -- locks-less-2 src/check.rt:54:5
+    -- locks-less-2
     (λ c. search opens)
-    -- locks-again-2 src/check.rt:54:5
+    -- locks-again-2
     (λ c. search opens)
-    -- add-o src/check.rt:72:13
+    -- add-o
     (λ c. search opens)
-    -- loop-less src/check.rt:63:9
+    -- loop-less
     (λ c. search opens)
-    -- loop-again src/check.rt:63:9
+    -- loop-again
     (λ c. (search opens, search opens, search opens, search opens, search opens, search opens, search opens, search opens))
-    -- returns-2 src/check.rt:74:9
+    -- returns-2
     (λ c. search opens)
-    -- returns-3 src/check.rt:50:1
+    -- returns-3
     (λ c. search opens))

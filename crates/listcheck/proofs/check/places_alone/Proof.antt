@@ -18,21 +18,21 @@ unfolding placeAloneAt
 places-alone-spec =
     tie.close
     (tie.spec Inv-loop μ-loop
-    -- loop-holds src/check.rt:40:5
+    -- loop-holds
     (λ c. search alls)
-    -- mul-it src/check.rt:41:18
+    -- mul-it
     (λ c. search alls)
-    -- element-copy-out-it src/check.rt:41:18
+    -- element-copy-out-it
     (λ c. search alls)
-    -- place-alone-requires src/check.rt:42:13
+    -- place-alone-requires
     (λ c κs. search alls)
-    -- returns src/check.rt:43:13
+    -- returns
     (λ c. search alls)
-    -- add-i src/check.rt:45:9
+    -- add-i
     (λ c. search alls)
-    -- loop-less src/check.rt:40:5
+    -- loop-less
     (λ c. search alls)
-    -- loop-again src/check.rt:40:5
+    -- loop-again
     (λ c. search alls)
-    -- returns-2 src/check.rt:33:1
+    -- returns-2
     (λ c. search alls))

@@ -8,27 +8,27 @@ pub sound-list-spec : {M : Type 1} → statement M
 sound-list-spec =
     tie.close
     (tie.spec
-    -- all-zero-requires src/check.rt:102:9
+    -- all-zero-requires
     (λ c κs. search needs)
-    -- returns src/check.rt:103:9
+    -- returns
     (λ c. search sounds depth 8 fits 20000)
-    -- good-head-requires src/check.rt:106:9
+    -- good-head-requires
     (λ c κs. search needs)
-    -- returns-2 src/check.rt:107:9
+    -- returns-2
     (λ c. search sounds depth 8 fits 20000)
-    -- places-alone-requires src/check.rt:109:9
+    -- places-alone-requires
     (λ c κs. search needs)
-    -- returns-3 src/check.rt:110:9
+    -- returns-3
     (λ c. search sounds depth 8 fits 20000)
-    -- locks-opened-requires src/check.rt:112:9
+    -- locks-opened-requires
     (λ c κs. search needs)
-    -- returns-4 src/check.rt:113:9
+    -- returns-4
     (λ c. search sounds depth 8 fits 20000)
-    -- all-apart-requires src/check.rt:115:9
+    -- all-apart-requires
     (λ c κs. search needs)
-    -- returns-5 src/check.rt:116:9
+    -- returns-5
     (λ c. search (sound-after, and-first, and-then, answers))
-    -- all-keep-requires src/check.rt:118:5
+    -- all-keep-requires
     (λ c κs. search needs)
-    -- returns-6 src/check.rt:97:1
+    -- returns-6
     (λ c. search (sound-after, and-first, and-then, answers)))

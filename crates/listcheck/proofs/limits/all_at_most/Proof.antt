@@ -18,17 +18,17 @@ pub all-at-most-spec : {M : Type 1} → statement M
 all-at-most-spec =
     tie.close
     (tie.spec Inv-loop μ-loop
-    -- loop-holds src/limits.rt:33:5
+    -- loop-holds
     (λ c. search mosts)
-    -- array-read-if1 src/limits.rt:34:19
+    -- array-read-if1
     (λ c. search mosts)
-    -- returns src/limits.rt:35:13
+    -- returns
     (λ c. search mosts)
-    -- add-p src/limits.rt:37:9
+    -- add-p
     (λ c. search mosts)
-    -- loop-less src/limits.rt:33:5
+    -- loop-less
     (λ c. search mosts)
-    -- loop-again src/limits.rt:33:5
+    -- loop-again
     (λ c. search mosts)
-    -- returns-2 src/limits.rt:29:1
+    -- returns-2
     (λ c. search mosts))

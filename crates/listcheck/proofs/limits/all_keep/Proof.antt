@@ -15,49 +15,49 @@ pub all-keep-spec : {M : Type 1} → statement M
 all-keep-spec =
     tie.close
     (tie.spec Inv-loop μ-loop
-    -- loop-holds src/limits.rt:28:5
+    -- loop-holds
     (λ c. search tallies)
-    -- mul-it src/limits.rt:29:18
+    -- mul-it
     (λ c. search tallies)
-    -- element-copy-out-it src/limits.rt:29:18
+    -- element-copy-out-it
     (λ c. search tallies)
-    -- cast-p src/limits.rt:30:17
+    -- cast-p
     (λ c. search tallies)
-    -- add-i src/limits.rt:31:9
+    -- add-i
     (λ c. search tallies)
-    -- loop-less src/limits.rt:28:5
+    -- loop-less
     (λ c. search tallies)
-    -- loop-again src/limits.rt:28:5
+    -- loop-again
     (λ c. search tallies)
-    -- array-read-opens src/limits.rt:36:13
+    -- array-read-opens
     (λ c. search tallies)
-    -- add-opens src/limits.rt:36:13
+    -- add-opens
     (λ c. record { fits = search (needs, tally-fits) })
-    -- array-write-opens src/limits.rt:36:13
+    -- array-write-opens
     (λ c. search tallies)
-    -- loop-less-2 src/limits.rt:28:5
+    -- loop-less-2
     (λ c. search tallies)
-    -- loop-again-2 src/limits.rt:28:5
+    -- loop-again-2
     (λ c. search tallies)
-    -- array-read-locks src/limits.rt:40:13
+    -- array-read-locks
     (λ c. search tallies)
-    -- add-locks src/limits.rt:40:13
+    -- add-locks
     (λ c. record { fits = search (needs, tally-fits) })
-    -- array-write-locks src/limits.rt:40:13
+    -- array-write-locks
     (λ c. search tallies)
-    -- loop-less-3 src/limits.rt:28:5
+    -- loop-less-3
     (λ c. search tallies)
-    -- loop-again-3 src/limits.rt:28:5
+    -- loop-again-3
     (λ c. search tallies)
-    -- loop-less-4 src/limits.rt:28:5
+    -- loop-less-4
     (λ c. search tallies)
-    -- loop-again-4 src/limits.rt:28:5
+    -- loop-again-4
     (λ c. search tallies)
-    -- all-at-most-requires src/limits.rt:43:9
+    -- all-at-most-requires
     (λ c κs. search needs)
-    -- returns src/limits.rt:44:9
+    -- returns
     (λ c. search limits)
-    -- all-at-most-requires-2 src/limits.rt:46:5
+    -- all-at-most-requires-2
     (λ c κs. search needs)
-    -- returns-2 src/limits.rt:22:1
+    -- returns-2
     (λ c. search limits))

@@ -6,7 +6,7 @@ pub file-by-spec : {M : Type 1} → statement M
 file-by-spec =
     tie.close
     (tie.spec
-    -- user-in-requires src/place.rt:65:9
+    -- user-in-requires
     (λ c κs. search needs)
-    -- returns src/place.rt:62:1
+    -- returns
     (λ c. cc))

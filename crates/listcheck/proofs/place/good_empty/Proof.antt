@@ -9,13 +9,13 @@ unfolding goodEmpty
 good-empty-spec =
     tie.close
     (tie.spec
-    -- returns src/place.rt:49:9
+    -- returns
     (λ c. search choices depth 8 fits 20000)
-    -- zero-name-requires src/place.rt:52:9
+    -- zero-name-requires
     (λ c κs. search needs)
-    -- returns-2 src/place.rt:53:9
+    -- returns-2
     (λ c. search choices depth 8 fits 20000)
-    -- returns-3 src/place.rt:56:9
+    -- returns-3
     (λ c. search choices depth 8 fits 20000)
-    -- returns-4 src/place.rt:45:1
+    -- returns-4
     (λ c. search choices depth 8 fits 20000))

@@ -10,21 +10,21 @@ unfolding itemAlone
 item-alone-spec =
     tie.close
     (tie.spec
-    -- returns src/place.rt:118:9
+    -- returns
     (λ c. search choices depth 8 fits 20000)
-    -- slice-aggregate-legal-name src/place.rt:121:20
+    -- slice-aggregate-legal-name
     (λ c. search needs)
-    -- legal-name-requires src/place.rt:121:9
+    -- legal-name-requires
     (λ c κs. search (needs, eleven))
-    -- returns-2 src/place.rt:122:9
+    -- returns-2
     (λ c. search choices depth 8 fits 20000)
-    -- low-name-requires src/place.rt:124:9
+    -- low-name-requires
     (λ c κs. search needs)
-    -- returns-3 src/place.rt:125:9
+    -- returns-3
     (λ c. search choices depth 8 fits 20000)
-    -- returns-4 src/place.rt:128:9
+    -- returns-4
     (λ c. search choices depth 8 fits 20000)
-    -- kind-alone-requires src/place.rt:130:5
+    -- kind-alone-requires
     (λ c κs. search needs)
-    -- returns-5 src/place.rt:113:1
+    -- returns-5
     (λ c. search choices depth 8 fits 20000))

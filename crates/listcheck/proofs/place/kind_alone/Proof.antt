@@ -7,11 +7,11 @@ pub kind-alone-spec : {M : Type 1} → statement M
 kind-alone-spec =
     tie.close
     (tie.spec
-    -- open-alone-requires src/place.rt:107:9
+    -- open-alone-requires
     (λ c κs. search needs)
-    -- returns src/place.rt:107:9
+    -- returns
     (λ c. search choices)
-    -- lock-alone-requires src/place.rt:109:5
+    -- lock-alone-requires
     (λ c κs. search needs)
-    -- returns-2 src/place.rt:102:1
+    -- returns-2
     (λ c. search choices))

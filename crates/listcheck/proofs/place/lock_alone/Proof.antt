@@ -9,13 +9,13 @@ unfolding lockAlone
 lock-alone-spec =
     tie.close
     (tie.spec
-    -- returns src/place.rt:95:9
+    -- returns
     (λ c. search found depth 8 fits 20000)
-    -- file-by-requires src/place.rt:97:9
+    -- file-by-requires
     (λ c κs. search needs)
-    -- cast-block-of src/place.rt:98:24
+    -- cast-block-of
     (λ c. search needs)
-    -- block-of-requires src/place.rt:98:5
+    -- block-of-requires
     (λ c κs. search needs)
-    -- returns-2 src/place.rt:90:1
+    -- returns-2
     (λ c. search found depth 8 fits 20000))

@@ -17,17 +17,17 @@ pub low-name-spec : {M : Type 1} → statement M
 low-name-spec =
     tie.close
     (tie.spec Inv-loop μ-loop
-    -- loop-holds src/place.rt:35:5
+    -- loop-holds
     (λ c. search lows)
-    -- array-read-if1 src/place.rt:36:19
+    -- array-read-if1
     (λ c. search lows)
-    -- returns src/place.rt:37:13
+    -- returns
     (λ c. search lows)
-    -- add-k src/place.rt:39:9
+    -- add-k
     (λ c. search lows)
-    -- loop-less src/place.rt:35:5
+    -- loop-less
     (λ c. search lows)
-    -- loop-again src/place.rt:35:5
+    -- loop-again
     (λ c. search lows)
-    -- returns-2 src/place.rt:31:1
+    -- returns-2
     (λ c. search lows))

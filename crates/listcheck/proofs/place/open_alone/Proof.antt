@@ -9,15 +9,15 @@ unfolding openAlone
 open-alone-spec =
     tie.close
     (tie.spec
-    -- returns src/place.rt:79:9
+    -- returns
     (λ c. search found depth 8 fits 20000)
-    -- returns-2 src/place.rt:82:9
+    -- returns-2
     (λ c. search found depth 8 fits 20000)
-    -- file-by-requires src/place.rt:84:9
+    -- file-by-requires
     (λ c κs. search needs)
-    -- look-up-requires src/place.rt:85:9
+    -- look-up-requires
     (λ c κs. search needs)
-    -- is-missing-requires src/place.rt:86:6
+    -- is-missing-requires
     (λ c κs. search needs)
-    -- returns-3 src/place.rt:74:1
+    -- returns-3
     (λ c. search found depth 8 fits 20000))

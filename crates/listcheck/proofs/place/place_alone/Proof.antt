@@ -9,15 +9,15 @@ unfolding placeAlone
 place-alone-spec =
     tie.close
     (tie.spec
-    -- good-empty-requires src/place.rt:139:9
+    -- good-empty-requires
     (λ c κs. search needs)
-    -- returns src/place.rt:139:9
+    -- returns
     (λ c. search choices depth 8 fits 20000)
-    -- returns-2 src/place.rt:142:9
+    -- returns-2
     (λ c. search choices depth 8 fits 20000)
-    -- returns-3 src/place.rt:145:9
+    -- returns-3
     (λ c. search choices depth 8 fits 20000)
-    -- item-alone-requires src/place.rt:147:5
+    -- item-alone-requires
     (λ c κs. search needs)
-    -- returns-4 src/place.rt:134:1
+    -- returns-4
     (λ c. search choices depth 8 fits 20000))

@@ -18,17 +18,17 @@ unfolding isZero
 zero-name-spec =
     tie.close
     (tie.spec Inv-loop μ-loop
-    -- loop-holds src/place.rt:21:5
+    -- loop-holds
     (λ c. search alls)
-    -- array-read-if1 src/place.rt:22:12
+    -- array-read-if1
     (λ c. search alls)
-    -- returns src/place.rt:23:13
+    -- returns
     (λ c. search alls)
-    -- add-k src/place.rt:25:9
+    -- add-k
     (λ c. search alls)
-    -- loop-less src/place.rt:21:5
+    -- loop-less
     (λ c. search alls)
-    -- loop-again src/place.rt:21:5
+    -- loop-again
     (λ c. search alls)
-    -- returns-2 src/place.rt:17:1
+    -- returns-2
     (λ c. search alls))

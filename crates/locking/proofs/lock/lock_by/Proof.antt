@@ -7,19 +7,19 @@ pub lock-by-spec : {M : Type 1} → statement M
 lock-by-spec =
     tie.close
     (tie.spec
-    -- lock-refusal-requires src/lock.rt:81:9
+    -- lock-refusal-requires
     (λ c κs. search needs)
-    -- returns src/lock.rt:83:9
+    -- returns
     (λ c. search lock-refused)
-    -- is-unlocked-requires src/lock.rt:85:9
+    -- is-unlocked-requires
     (λ c κs. search needs)
-    -- returns-2 src/lock.rt:86:9
+    -- returns-2
     (λ c. search lock-passed)
-    -- lock-run-requires src/lock.rt:88:10
+    -- lock-run-requires
     (λ c κs. search needs)
-    -- pack-requires src/lock.rt:88:5
+    -- pack-requires
     (λ c κs. search needs)
-    -- same-length src/lock.rt:66:1
+    -- same-length
     (λ c. search needs)
-    -- returns-3 src/lock.rt:66:1
+    -- returns-3
     (λ c. search lock-done))

@@ -7,15 +7,15 @@ pub lock-records-spec : {M : Type 1} → statement M
 lock-records-spec =
     tie.close
     (tie.spec
-    -- caller-file-requires src/lock.rt:98:9
+    -- caller-file-requires
     (λ c κs. search needs)
-    -- open-of-requires src/lock.rt:99:9
+    -- open-of-requires
     (λ c κs. search needs)
-    -- record-of-requires src/lock.rt:100:9
+    -- record-of-requires
     (λ c κs. search needs)
-    -- lock-by-requires src/lock.rt:101:5
+    -- lock-by-requires
     (λ c κs. search (needs, capacity-fits))
-    -- same-length src/lock.rt:93:1
+    -- same-length
     (λ c. search needs)
-    -- returns src/lock.rt:93:1
+    -- returns
     (λ c. search lock-called))

@@ -10,23 +10,23 @@ unfolding rows42 rowsRun isOpened
 lock-refusal-spec =
     tie.close
     (tie.spec
-    -- returns src/lock.rt:51:9
+    -- returns
     (λ c. search codes depth 8 fits 20000)
-    -- is-unlocked-requires src/lock.rt:53:9
+    -- is-unlocked-requires
     (λ c κs. search needs)
-    -- returns-2 src/lock.rt:54:9
+    -- returns-2
     (λ c. search codes depth 8 fits 20000)
-    -- is-file-id-requires src/lock.rt:56:9
+    -- is-file-id-requires
     (λ c κs. search needs)
-    -- returns-3 src/lock.rt:57:9
+    -- returns-3
     (λ c. search codes depth 8 fits 20000)
-    -- add-if4 src/lock.rt:59:17
+    -- add-if4
     (λ c. search needs)
-    -- sub-if4 src/lock.rt:59:17
+    -- sub-if4
     (λ c. search needs)
-    -- returns-4 src/lock.rt:60:9
+    -- returns-4
     (λ c. search codes depth 8 fits 20000)
-    -- run-refusal-requires src/lock.rt:62:5
+    -- run-refusal-requires
     (λ c κs. search needs)
-    -- returns-5 src/lock.rt:37:1
+    -- returns-5
     (λ c. search codes depth 8 fits 20000))

@@ -8,11 +8,11 @@ pub run-refusal-spec : {M : Type 1} → statement M
 run-refusal-spec =
     tie.close
     (tie.spec
-    -- lacking-requires src/lock.rt:29:9
+    -- lacking-requires
     (λ c κs. search needs)
-    -- returns src/lock.rt:31:9
+    -- returns
     (λ c. search part-first)
-    -- not-to-take-requires src/lock.rt:33:5
+    -- not-to-take-requires
     (λ c κs. search needs)
-    -- returns-2 src/lock.rt:25:1
+    -- returns-2
     (λ c. search (part-then, nonzero-lacking)))

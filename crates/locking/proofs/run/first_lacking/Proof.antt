@@ -18,17 +18,17 @@ unfolding firstLacking
 first-lacking-spec =
     tie.close
     (tie.spec Inv-loop μ-loop
-    -- loop-holds src/run.rt:62:5
+    -- loop-holds
     (λ c. search lowests)
-    -- lacks-block-requires src/run.rt:63:12
+    -- lacks-block-requires
     (λ c κs. search lowests)
-    -- returns src/run.rt:64:13
+    -- returns
     (λ c. search lowests)
-    -- add-k src/run.rt:66:9
+    -- add-k
     (λ c. search lowests)
-    -- loop-less src/run.rt:62:5
+    -- loop-less
     (λ c. search lowests)
-    -- loop-again src/run.rt:62:5
+    -- loop-again
     (λ c. search lowests)
-    -- returns-2 src/run.rt:57:1
+    -- returns-2
     (λ c. search lowests))

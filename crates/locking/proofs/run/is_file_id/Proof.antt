@@ -9,13 +9,13 @@ unfolding isFileId
 is-file-id-spec =
     tie.close
     (tie.spec
-    -- shared-slice-read-is-number src/run.rt:34:19
+    -- shared-slice-read-is-number
     (λ c. search needs)
-    -- is-number-requires src/run.rt:34:9
+    -- is-number-requires
     (λ c κs. search needs)
-    -- returns src/run.rt:35:9
+    -- returns
     (λ c. search choices depth 8 fits 20000)
-    -- shared-slice-read-result src/run.rt:37:5
+    -- shared-slice-read-result
     (λ c. search needs)
-    -- returns-2 src/run.rt:30:1
+    -- returns-2
     (λ c. search choices depth 8 fits 20000))

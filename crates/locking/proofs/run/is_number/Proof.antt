@@ -6,7 +6,7 @@ pub is-number-spec : {M : Type 1} → statement M
 is-number-spec =
     tie.close
     (tie.spec
-    -- wide-requires src/run.rt:26:5
+    -- wide-requires
     (λ c κs. search needs)
-    -- returns src/run.rt:23:1
+    -- returns
     (λ c. cc))

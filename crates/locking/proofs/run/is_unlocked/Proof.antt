@@ -6,7 +6,7 @@ pub is-unlocked-spec : {M : Type 1} → statement M
 is-unlocked-spec =
     tie.close
     (tie.spec
-    -- mode-at-requires src/run.rt:19:5
+    -- mode-at-requires
     (λ c κs. search needs)
-    -- returns src/run.rt:16:1
+    -- returns
     (λ c. cc))

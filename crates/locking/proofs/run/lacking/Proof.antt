@@ -6,9 +6,9 @@ pub lacking-spec : {M : Type 1} → statement M
 lacking-spec =
     tie.close
     (tie.spec
-    -- first-lacking-requires src/run.rt:90:9
+    -- first-lacking-requires
     (λ c κs. search needs)
-    -- lacking-code-requires src/run.rt:91:5
+    -- lacking-code-requires
     (λ c κs. search needs)
-    -- returns src/run.rt:86:1
+    -- returns
     (λ c. cc))

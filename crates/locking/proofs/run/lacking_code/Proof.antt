@@ -9,11 +9,11 @@ unfolding rowsLacking
 lacking-code-spec =
     tie.close
     (tie.spec
-    -- returns src/run.rt:77:9
+    -- returns
     (λ c. search (codes, and-left, and-right, and-both) depth 8 fits 20000)
-    -- no-extent-requires src/run.rt:79:8
+    -- no-extent-requires
     (λ c κs. search needs)
-    -- returns-2 src/run.rt:80:9
+    -- returns-2
     (λ c. search (codes, and-left, and-right, and-both) depth 8 fits 20000)
-    -- returns-3 src/run.rt:72:1
+    -- returns-3
     (λ c. search (codes, and-left, and-right, and-both) depth 8 fits 20000))

@@ -8,9 +8,9 @@ unfolding lacks
 lacks-block-spec =
     tie.close
     (tie.spec
-    -- add-block-of src/run.rt:53:24
+    -- add-block-of
     (λ c. search needs)
-    -- block-of-requires src/run.rt:53:5
+    -- block-of-requires
     (λ c κs. search needs)
-    -- returns src/run.rt:49:1
+    -- returns
     (λ c. cc))

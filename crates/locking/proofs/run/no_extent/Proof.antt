@@ -10,9 +10,9 @@ no-extent-spec =
     (tie.spec
     -- entries-requires
     (λ c κs. search needs)
-    -- add-entry-of src/run.rt:45:31
+    -- add-entry-of
     (λ c. search needs)
-    -- entry-of-requires src/run.rt:45:11
+    -- entry-of-requires
     (λ c κs. search needs)
-    -- returns src/run.rt:41:1
+    -- returns
     (λ c. cc))

@@ -11,15 +11,15 @@ not-to-take-spec =
     (tie.spec
     -- any-others-requires
     (λ c κs. search needs)
-    -- returns src/run.rt:116:9
+    -- returns
     (λ c. search codes depth 8 fits 20000)
-    -- over-limit-requires src/run.rt:118:8
+    -- over-limit-requires
     (λ c κs. search needs)
-    -- returns-2 src/run.rt:119:9
+    -- returns-2
     (λ c. search codes depth 8 fits 20000)
-    -- too-few-places-requires src/run.rt:121:8
+    -- too-few-places-requires
     (λ c κs. search needs)
-    -- returns-3 src/run.rt:122:9
+    -- returns-3
     (λ c. search codes depth 8 fits 20000)
-    -- returns-4 src/run.rt:111:1
+    -- returns-4
     (λ c. search codes depth 8 fits 20000))

@@ -6,11 +6,11 @@ pub over-limit-spec : {M : Type 1} → statement M
 over-limit-spec =
     tie.close
     (tie.spec
-    -- wide-requires src/run.rt:99:5
+    -- wide-requires
     (λ c κs. search needs)
-    -- locks-by-requires src/run.rt:99:25
+    -- locks-by-requires
     (λ c κs. search needs)
-    -- add-result src/run.rt:99:25
+    -- add-result
     (λ c. search needs)
-    -- returns src/run.rt:95:1
+    -- returns
     (λ c. cc))

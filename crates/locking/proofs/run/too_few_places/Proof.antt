@@ -6,9 +6,9 @@ pub too-few-places-spec : {M : Type 1} → statement M
 too-few-places-spec =
     tie.close
     (tie.spec
-    -- free-places-requires src/run.rt:107:5
+    -- free-places-requires
     (λ c κs. search needs)
-    -- count-new-requires src/run.rt:107:23
+    -- count-new-requires
     (λ c κs. search needs)
-    -- returns src/run.rt:103:1
+    -- returns
     (λ c. cc))

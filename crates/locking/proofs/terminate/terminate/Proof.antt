@@ -7,11 +7,11 @@ pub terminate-spec : {M : Type 1} → statement M
 terminate-spec =
     tie.close
     (tie.spec
-    -- terminate-requires src/terminate.rt:15:10
+    -- terminate-requires
     (λ c κs. search needs)
-    -- pack-requires src/terminate.rt:15:5
+    -- pack-requires
     (λ c κs. search needs)
-    -- same-length src/terminate.rt:10:1
+    -- same-length
     (λ c. search needs)
-    -- returns src/terminate.rt:10:1
+    -- returns
     (λ c. search terminate-done))

@@ -7,19 +7,19 @@ pub unlock-by-spec : {M : Type 1} → statement M
 unlock-by-spec =
     tie.close
     (tie.spec
-    -- unlock-refusal-requires src/unlock.rt:56:9
+    -- unlock-refusal-requires
     (λ c κs. search needs)
-    -- returns src/unlock.rt:58:9
+    -- returns
     (λ c. search unlock-refused)
-    -- is-unlocked-requires src/unlock.rt:60:9
+    -- is-unlocked-requires
     (λ c κs. search needs)
-    -- returns-2 src/unlock.rt:61:9
+    -- returns-2
     (λ c. search unlock-passed)
-    -- unlock-requires src/unlock.rt:63:10
+    -- unlock-requires
     (λ c κs. search needs)
-    -- pack-requires src/unlock.rt:63:5
+    -- pack-requires
     (λ c κs. search needs)
-    -- same-length src/unlock.rt:41:1
+    -- same-length
     (λ c. search needs)
-    -- returns-3 src/unlock.rt:41:1
+    -- returns-3
     (λ c. search unlock-done))

@@ -7,15 +7,15 @@ pub unlock-records-spec : {M : Type 1} → statement M
 unlock-records-spec =
     tie.close
     (tie.spec
-    -- caller-file-requires src/unlock.rt:80:9
+    -- caller-file-requires
     (λ c κs. search needs)
-    -- open-of-requires src/unlock.rt:81:9
+    -- open-of-requires
     (λ c κs. search needs)
-    -- record-of-requires src/unlock.rt:82:9
+    -- record-of-requires
     (λ c κs. search needs)
-    -- unlock-by-requires src/unlock.rt:83:5
+    -- unlock-by-requires
     (λ c κs. search needs)
-    -- same-length src/unlock.rt:68:1
+    -- same-length
     (λ c. search needs)
-    -- returns src/unlock.rt:68:1
+    -- returns
     (λ c. search unlock-called))

@@ -10,21 +10,21 @@ unfolding rows43 rowsRun isOpened
 unlock-refusal-spec =
     tie.close
     (tie.spec
-    -- returns src/unlock.rt:26:9
+    -- returns
     (λ c. search codes depth 8 fits 20000)
-    -- is-unlocked-requires src/unlock.rt:28:9
+    -- is-unlocked-requires
     (λ c κs. search needs)
-    -- returns-2 src/unlock.rt:29:9
+    -- returns-2
     (λ c. search codes depth 8 fits 20000)
-    -- is-file-id-requires src/unlock.rt:31:9
+    -- is-file-id-requires
     (λ c κs. search needs)
-    -- returns-3 src/unlock.rt:32:9
+    -- returns-3
     (λ c. search codes depth 8 fits 20000)
-    -- add-if4 src/unlock.rt:34:17
+    -- add-if4
     (λ c. search needs)
-    -- sub-if4 src/unlock.rt:34:17
+    -- sub-if4
     (λ c. search needs)
-    -- returns-4 src/unlock.rt:35:9
+    -- returns-4
     (λ c. search codes depth 8 fits 20000)
-    -- returns-5 src/unlock.rt:21:1
+    -- returns-5
     (λ c. search codes depth 8 fits 20000))

@@ -8,9 +8,9 @@ unfolding callerFile
 caller-file-spec =
     tie.close
     (tie.spec
-    -- user-of-requires src/ask.rt:14:15
+    -- user-of-requires
     (λ c κs. search needs)
-    -- file-from-requires src/ask.rt:14:5
+    -- file-from-requires
     (λ c κs. search needs)
-    -- returns src/ask.rt:10:1
+    -- returns
     (λ c. cc))

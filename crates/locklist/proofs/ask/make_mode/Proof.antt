@@ -10,9 +10,9 @@ unfolding makeMode
 make-mode-spec =
     tie.close
     (tie.spec
-    -- shared-slice-read-if1 src/ask.rt:59:15
+    -- shared-slice-read-if1
     (λ c. search needs)
-    -- returns src/ask.rt:60:9
+    -- returns
     (λ c. search (choices, refl) depth 8 fits 20000)
-    -- returns-2 src/ask.rt:55:1
+    -- returns-2
     (λ c. search (choices, refl) depth 8 fits 20000))

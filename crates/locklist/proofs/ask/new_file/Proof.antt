@@ -8,9 +8,9 @@ unfolding newFile
 new-file-spec =
     tie.close
     (tie.spec
-    -- user-of-requires src/ask.rt:22:15
+    -- user-of-requires
     (λ c κs. search needs)
-    -- file-from-requires src/ask.rt:22:5
+    -- file-from-requires
     (λ c κs. search needs)
-    -- returns src/ask.rt:18:1
+    -- returns
     (λ c. cc))

@@ -10,13 +10,13 @@ unfolding openMode
 open-mode-spec =
     tie.close
     (tie.spec
-    -- shared-slice-read-if1 src/ask.rt:45:15
+    -- shared-slice-read-if1
     (λ c. search needs)
-    -- returns src/ask.rt:46:9
+    -- returns
     (λ c. search (choices, refl) depth 8 fits 20000)
-    -- shared-slice-read-if2 src/ask.rt:48:15
+    -- shared-slice-read-if2
     (λ c. search needs)
-    -- returns-2 src/ask.rt:49:9
+    -- returns-2
     (λ c. search (choices, refl) depth 8 fits 20000)
-    -- returns-3 src/ask.rt:41:1
+    -- returns-3
     (λ c. search (choices, refl) depth 8 fits 20000))

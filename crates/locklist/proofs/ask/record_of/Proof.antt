@@ -8,13 +8,13 @@ unfolding recordOf
 record-of-spec =
     tie.close
     (tie.spec
-    -- shared-slice-read-three-of src/ask.rt:37:14
+    -- shared-slice-read-three-of
     (λ c. search needs)
-    -- shared-slice-read-three-of-2 src/ask.rt:37:23
+    -- shared-slice-read-three-of-2
     (λ c. search needs)
-    -- shared-slice-read-three-of-3 src/ask.rt:37:32
+    -- shared-slice-read-three-of-3
     (λ c. search needs)
-    -- three-of-requires src/ask.rt:37:5
+    -- three-of-requires
     (λ c κs. search needs)
-    -- returns src/ask.rt:33:1
+    -- returns
     (λ c. search needs))

@@ -9,9 +9,9 @@ unfolding firstMark
 first-mark-spec =
     tie.close
     (tie.spec
-    -- returns src/mark.rt:43:9
+    -- returns
     (λ c. search (choices, refl) depth 8 fits 20000)
-    -- returns-2 src/mark.rt:46:9
+    -- returns-2
     (λ c. search (choices, refl) depth 8 fits 20000)
-    -- returns-3 src/mark.rt:39:1
+    -- returns-3
     (λ c. search (choices, refl) depth 8 fits 20000))

@@ -6,7 +6,7 @@ pub is-mark-spec : {M : Type 1} → statement M
 is-mark-spec =
     tie.close
     (tie.spec
-    -- returns src/mark.rt:17:9
+    -- returns
     (λ c. search choices)
-    -- returns-2 src/mark.rt:13:1
+    -- returns-2
     (λ c. search choices))

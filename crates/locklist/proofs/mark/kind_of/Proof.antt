@@ -10,17 +10,17 @@ unfolding kindOf
 kind-of-spec =
     tie.close
     (tie.spec
-    -- is-mark-requires src/mark.rt:26:8
+    -- is-mark-requires
     (λ c κs. search needs)
-    -- returns src/mark.rt:27:9
+    -- returns
     (λ c. search (choices, refl) depth 8 fits 20000)
-    -- is-mark-requires-2 src/mark.rt:29:8
+    -- is-mark-requires-2
     (λ c κs. search needs)
-    -- returns-2 src/mark.rt:30:9
+    -- returns-2
     (λ c. search (choices, refl) depth 8 fits 20000)
-    -- is-mark-requires-3 src/mark.rt:32:8
+    -- is-mark-requires-3
     (λ c κs. search needs)
-    -- returns-3 src/mark.rt:33:9
+    -- returns-3
     (λ c. search (choices, refl) depth 8 fits 20000)
-    -- returns-4 src/mark.rt:23:1
+    -- returns-4
     (λ c. search (choices, refl) depth 8 fits 20000))

@@ -10,37 +10,37 @@ unfolding heads tab
 head-bytes-spec =
     tie.close
     (tie.spec
-    -- array-read-t5 src/pack.rt:52:9
+    -- array-read-t5
     (λ c. search needs)
-    -- array-read-t8 src/pack.rt:53:9
+    -- array-read-t8
     (λ c. search needs)
-    -- array-read-t11 src/pack.rt:54:9
+    -- array-read-t11
     (λ c. search needs)
-    -- array-read-t14 src/pack.rt:55:9
+    -- array-read-t14
     (λ c. search needs)
-    -- array-read-t17 src/pack.rt:56:9
+    -- array-read-t17
     (λ c. search needs)
-    -- array-read-t20 src/pack.rt:57:9
+    -- array-read-t20
     (λ c. search needs)
-    -- array-read-t23 src/pack.rt:58:9
+    -- array-read-t23
     (λ c. search needs)
-    -- array-read-t26 src/pack.rt:59:9
+    -- array-read-t26
     (λ c. search needs)
-    -- array-read-t29 src/pack.rt:60:9
+    -- array-read-t29
     (λ c. search needs)
-    -- array-read-t32 src/pack.rt:61:9
+    -- array-read-t32
     (λ c. search needs)
-    -- array-read-t35 src/pack.rt:62:9
+    -- array-read-t35
     (λ c. search needs)
-    -- array-read-t38 src/pack.rt:63:9
+    -- array-read-t38
     (λ c. search needs)
-    -- array-read-t41 src/pack.rt:64:9
+    -- array-read-t41
     (λ c. search needs)
-    -- array-read-t44 src/pack.rt:65:9
+    -- array-read-t44
     (λ c. search needs)
-    -- array-read-t47 src/pack.rt:66:9
+    -- array-read-t47
     (λ c. search needs)
-    -- array-read-t50 src/pack.rt:67:9
+    -- array-read-t50
     (λ c. search needs)
-    -- returns src/pack.rt:44:1
+    -- returns
     (λ c. refl))

@@ -13,35 +13,35 @@ pub pack-spec : {M : Type 1} → statement M
 pack-spec =
     tie.close
     (tie.spec Inv-loop μ-loop
-    -- head-bytes-requires src/pack.rt:76:16
+    -- head-bytes-requires
     (λ c κs. search packs)
-    -- slice-aggregate-put-bytes src/pack.rt:77:30
+    -- slice-aggregate-put-bytes
     (λ c. search packs)
-    -- put-bytes-requires src/pack.rt:77:5
+    -- put-bytes-requires
     (λ c κs. search packs)
-    -- loop-holds src/pack.rt:79:5
+    -- loop-holds
     (λ c. search packs)
-    -- mul-it src/pack.rt:80:18
+    -- mul-it
     (λ c. search packs)
-    -- element-copy-out-it src/pack.rt:80:18
+    -- element-copy-out-it
     (λ c. search packs)
-    -- item-bytes-requires src/pack.rt:81:17
+    -- item-bytes-requires
     (λ c κs. search packs)
-    -- mul-put-bytes src/pack.rt:82:36
+    -- mul-put-bytes
     (λ c. search packs)
-    -- add-put-bytes src/pack.rt:82:31
+    -- add-put-bytes
     (λ c. search packs)
-    -- slice-aggregate-put-bytes-2 src/pack.rt:82:44
+    -- slice-aggregate-put-bytes-2
     (λ c. search packs)
-    -- put-bytes-requires-2 src/pack.rt:82:9
+    -- put-bytes-requires-2
     (λ c κs. search packs)
-    -- add-i src/pack.rt:83:9
+    -- add-i
     (λ c. search packs)
-    -- loop-less src/pack.rt:79:5
+    -- loop-less
     (λ c. search packs)
-    -- loop-again src/pack.rt:79:5
+    -- loop-again
     (λ c. search packs)
-    -- same-length src/pack.rt:72:1
+    -- same-length
     (λ c. search packs)
-    -- returns src/pack.rt:72:1
+    -- returns
     (λ c. search packs))

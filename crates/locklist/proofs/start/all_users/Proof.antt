@@ -19,17 +19,17 @@ unfolding isUser
 all-users-spec =
     tie.close
     (tie.spec Inv-loop μ-loop
-    -- loop-holds src/start.rt:28:5
+    -- loop-holds
     (λ c. search (alls, lt-leb, le-leb))
-    -- shared-slice-read-if1 src/start.rt:29:17
+    -- shared-slice-read-if1
     (λ c. search (alls, lt-leb, le-leb))
-    -- returns src/start.rt:30:13
+    -- returns
     (λ c. search (alls, lt-leb, le-leb))
-    -- add-p src/start.rt:32:9
+    -- add-p
     (λ c. search (alls, lt-leb, le-leb))
-    -- loop-less src/start.rt:28:5
+    -- loop-less
     (λ c. search (alls, lt-leb, le-leb))
-    -- loop-again src/start.rt:28:5
+    -- loop-again
     (λ c. search (alls, lt-leb, le-leb))
-    -- returns-2 src/start.rt:23:1
+    -- returns-2
     (λ c. search (alls, lt-leb, le-leb)))

@@ -7,11 +7,11 @@ pub bad-buffers-spec : {M : Type 1} → statement M
 bad-buffers-spec =
     tie.close
     (tie.spec
-    -- returns src/start.rt:44:9
+    -- returns
     (λ c. search bads depth 10 fits 20000)
-    -- all-users-requires src/start.rt:46:9
+    -- all-users-requires
     (λ c κs. search needs)
-    -- returns-2 src/start.rt:47:9
+    -- returns-2
     (λ c. search bads depth 10 fits 20000)
-    -- returns-3 src/start.rt:40:1
+    -- returns-3
     (λ c. search bads depth 10 fits 20000))

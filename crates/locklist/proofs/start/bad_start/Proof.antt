@@ -9,19 +9,19 @@ unfolding badStart
 bad-start-spec =
     tie.close
     (tie.spec
-    -- is-limit-requires src/start.rt:56:9
+    -- is-limit-requires
     (λ c κs. search needs)
-    -- returns src/start.rt:57:9
+    -- returns
     (λ c. search bads depth 10 fits 20000)
-    -- is-limit-requires-2 src/start.rt:59:9
+    -- is-limit-requires-2
     (λ c κs. search needs)
-    -- returns-2 src/start.rt:60:9
+    -- returns-2
     (λ c. search bads depth 10 fits 20000)
-    -- is-limit-requires-3 src/start.rt:62:9
+    -- is-limit-requires-3
     (λ c κs. search needs)
-    -- returns-3 src/start.rt:63:9
+    -- returns-3
     (λ c. search bads depth 10 fits 20000)
-    -- bad-buffers-requires src/start.rt:65:5
+    -- bad-buffers-requires
     (λ c κs. search needs)
-    -- returns-4 src/start.rt:53:1
+    -- returns-4
     (λ c. search bads depth 10 fits 20000))

@@ -7,17 +7,17 @@ pub begin-spec : {M : Type 1} → statement M
 begin-spec =
     tie.close
     (tie.spec
-    -- users-from-requires src/start.rt:64:9
+    -- users-from-requires
     (λ c κs. search needs)
-    -- cast-t8 src/start.rt:66:19
+    -- cast-t8
     (λ c. search needs)
-    -- cast-t9 src/start.rt:67:20
+    -- cast-t9
     (λ c. search needs)
-    -- cast-t10 src/start.rt:68:20
+    -- cast-t10
     (λ c. search needs)
-    -- pack-requires src/start.rt:72:5
+    -- pack-requires
     (λ c κs. search needs)
-    -- same-length src/start.rt:60:1
+    -- same-length
     (λ c. search needs)
-    -- returns src/start.rt:60:1
+    -- returns
     (λ c. search (needs, fresh-packed)))

@@ -8,7 +8,7 @@ unfolding isLimit
 is-limit-spec =
     tie.close
     (tie.spec
-    -- returns src/start.rt:17:9
+    -- returns
     (λ c. search choices)
-    -- returns-2 src/start.rt:13:1
+    -- returns-2
     (λ c. search choices))

@@ -7,19 +7,19 @@ pub start-spec : {M : Type 1} → statement M
 start-spec =
     tie.close
     (tie.spec
-    -- bad-start-requires src/start.rt:79:8
+    -- bad-start-requires
     (λ c κs. search needs)
-    -- mul-result src/start.rt:80:22
+    -- mul-result
     (λ c. search needs)
-    -- add-result src/start.rt:80:16
+    -- add-result
     (λ c. search needs)
-    -- same-length src/start.rt:80:9
+    -- same-length
     (λ c. search needs)
-    -- returns src/start.rt:80:9
+    -- returns
     (λ c. search starts)
-    -- begin-requires src/start.rt:82:5
+    -- begin-requires
     (λ c κs. search starts)
-    -- same-length-2 src/start.rt:76:1
+    -- same-length-2
     (λ c. search needs)
-    -- returns-2 src/start.rt:76:1
+    -- returns-2
     (λ c. search starts))

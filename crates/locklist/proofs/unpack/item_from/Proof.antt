@@ -8,27 +8,27 @@ unfolding itemFrom
 item-from-spec =
     tie.close
     (tie.spec
-    -- shared-slice-read-kind-of src/unpack.rt:51:24
+    -- shared-slice-read-kind-of
     (λ c. search needs)
-    -- shared-slice-read-kind-of-2 src/unpack.rt:51:30
+    -- shared-slice-read-kind-of-2
     (λ c. search needs)
-    -- kind-of-requires src/unpack.rt:51:9
+    -- kind-of-requires
     (λ c κs. search needs)
-    -- name-from-requires src/unpack.rt:52:9
+    -- name-from-requires
     (λ c κs. search needs)
-    -- shared-slice-read-word-of src/unpack.rt:53:26
+    -- shared-slice-read-word-of
     (λ c. search needs)
-    -- shared-slice-read-word-of-2 src/unpack.rt:53:33
+    -- shared-slice-read-word-of-2
     (λ c. search needs)
-    -- shared-slice-read-word-of-3 src/unpack.rt:53:40
+    -- shared-slice-read-word-of-3
     (λ c. search needs)
-    -- shared-slice-read-word-of-4 src/unpack.rt:53:47
+    -- shared-slice-read-word-of-4
     (λ c. search needs)
-    -- word-of-requires src/unpack.rt:53:9
+    -- word-of-requires
     (λ c κs. search needs)
-    -- shared-slice-read-t6 src/unpack.rt:56:18
+    -- shared-slice-read-t6
     (λ c. search needs)
-    -- shared-slice-read-t14 src/unpack.rt:58:15
+    -- shared-slice-read-t14
     (λ c. search needs)
-    -- returns src/unpack.rt:47:1
+    -- returns
     (λ c. cc))

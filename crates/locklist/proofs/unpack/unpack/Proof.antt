@@ -13,39 +13,39 @@ pub unpack-spec : {M : Type 1} → statement M
 unpack-spec =
     tie.close
     (tie.spec Inv-loop μ-loop
-    -- users-from-requires src/unpack.rt:55:9
+    -- users-from-requires
     (λ c κs. search placing)
-    -- shared-slice-read-t8 src/unpack.rt:57:19
+    -- shared-slice-read-t8
     (λ c. search placing)
-    -- shared-slice-read-t10 src/unpack.rt:58:20
+    -- shared-slice-read-t10
     (λ c. search placing)
-    -- shared-slice-read-t12 src/unpack.rt:59:20
+    -- shared-slice-read-t12
     (λ c. search placing)
-    -- loop-holds src/unpack.rt:64:5
+    -- loop-holds
     (λ c. search placing)
-    -- mul-at src/unpack.rt:65:23
+    -- mul-at
     (λ c. search placing)
-    -- add-at src/unpack.rt:65:18
+    -- add-at
     (λ c. search placing)
-    -- add-end src/unpack.rt:66:19
+    -- add-end
     (λ c. search placing)
-    -- sub-item-from src/unpack.rt:67:32
+    -- sub-item-from
     (λ c. search placing)
-    -- part-item-from-start src/unpack.rt:67:32
+    -- part-item-from-start
     (λ c. search placing)
-    -- part-item-from-end src/unpack.rt:67:32
+    -- part-item-from-end
     (λ c. search placing)
-    -- item-from-requires src/unpack.rt:67:22
+    -- item-from-requires
     (λ c κs. search placing)
-    -- mul-t22 src/unpack.rt:67:9
+    -- mul-t22
     (λ c. search placing)
-    -- element-set-from-l src/unpack.rt:67:9
+    -- element-set-from-l
     (λ c. search placing)
-    -- add-i src/unpack.rt:68:9
+    -- add-i
     (λ c. search placing)
-    -- loop-less src/unpack.rt:64:5
+    -- loop-less
     (λ c. search placing)
-    -- loop-again src/unpack.rt:64:5
+    -- loop-again
     (λ c. search placing)
-    -- returns src/unpack.rt:51:1
+    -- returns
     (λ c. search placing))

@@ -17,19 +17,19 @@ pub users-from-spec : {M : Type 1} → statement M
 users-from-spec =
     tie.close
     (tie.spec Inv-loop μ-loop
-    -- loop-holds src/unpack.rt:39:5
+    -- loop-holds
     (λ c. search fills)
-    -- add-users src/unpack.rt:40:22
+    -- add-users
     (λ c. search fills)
-    -- shared-slice-read-users src/unpack.rt:40:20
+    -- shared-slice-read-users
     (λ c. search fills)
-    -- array-write-users src/unpack.rt:40:9
+    -- array-write-users
     (λ c. search fills)
-    -- add-i src/unpack.rt:41:9
+    -- add-i
     (λ c. search fills)
-    -- loop-less src/unpack.rt:39:5
+    -- loop-less
     (λ c. search fills)
-    -- loop-again src/unpack.rt:39:5
+    -- loop-again
     (λ c. search fills)
-    -- returns src/unpack.rt:33:1
+    -- returns
     (λ c. search fills))

@@ -7,17 +7,17 @@ pub read-random-spec : {M : Type 1} → statement M
 read-random-spec =
     tie.close
     (tie.spec
-    -- caller-file-requires src/read.rt:64:9
+    -- caller-file-requires
     (λ c κs. search needs)
-    -- open-of-requires src/read.rt:65:9
+    -- open-of-requires
     (λ c κs. search needs)
-    -- record-of-requires src/read.rt:66:13
+    -- record-of-requires
     (λ c κs. search needs)
-    -- cast-r src/read.rt:66:13
+    -- cast-r
     (λ c. search needs)
-    -- read-by-requires src/read.rt:67:5
+    -- read-by-requires
     (λ c κs. search needs)
-    -- same-length src/read.rt:59:1
+    -- same-length
     (λ c. search needs)
-    -- returns src/read.rt:59:1
+    -- returns
     (λ c. search read-called))

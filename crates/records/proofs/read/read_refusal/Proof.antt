@@ -10,11 +10,11 @@ unfolding rows33 isOpened
 read-refusal-spec =
     tie.close
     (tie.spec
-    -- returns src/read.rt:26:9
+    -- returns
     (λ c. search codes depth 8 fits 20000)
-    -- returns-2 src/read.rt:29:9
+    -- returns-2
     (λ c. search codes depth 8 fits 20000)
-    -- not-there-requires src/read.rt:31:5
+    -- not-there-requires
     (λ c κs. search needs)
-    -- returns-3 src/read.rt:21:1
+    -- returns-3
     (λ c. search codes depth 8 fits 20000))

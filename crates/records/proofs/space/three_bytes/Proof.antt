@@ -9,11 +9,11 @@ unfolding le
 three-bytes-spec =
     tie.close
     (tie.spec
-    -- cast-t3 src/space.rt:16:9
+    -- cast-t3
     (λ c. search needs)
-    -- cast-t6 src/space.rt:17:9
+    -- cast-t6
     (λ c. search needs)
-    -- cast-t10 src/space.rt:18:9
+    -- cast-t10
     (λ c. search needs)
-    -- returns src/space.rt:12:1
+    -- returns
     (λ c. search refl))

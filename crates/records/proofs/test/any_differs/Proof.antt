@@ -18,21 +18,21 @@ pub any-differs-spec : {M : Type 1} → statement M
 any-differs-spec =
     tie.close
     (tie.spec Inv-loop μ-loop
-    -- loop-holds src/test.rt:30:5
+    -- loop-holds
     (λ c. search (anys, same-byte, other-byte))
-    -- shared-slice-read-if1 src/test.rt:31:12
+    -- shared-slice-read-if1
     (λ c. search (anys, same-byte, other-byte))
-    -- add-if1 src/test.rt:31:28
+    -- add-if1
     (λ c. search (anys, same-byte, other-byte))
-    -- shared-slice-read-if1-2 src/test.rt:31:22
+    -- shared-slice-read-if1-2
     (λ c. search (anys, same-byte, other-byte))
-    -- returns src/test.rt:32:13
+    -- returns
     (λ c. search (anys, same-byte, other-byte))
-    -- add-k src/test.rt:34:9
+    -- add-k
     (λ c. search (anys, same-byte, other-byte))
-    -- loop-less src/test.rt:30:5
+    -- loop-less
     (λ c. search (anys, same-byte, other-byte))
-    -- loop-again src/test.rt:30:5
+    -- loop-again
     (λ c. search (anys, same-byte, other-byte))
-    -- returns-2 src/test.rt:25:1
+    -- returns-2
     (λ c. search (anys, same-byte, other-byte)))

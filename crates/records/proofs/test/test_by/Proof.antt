@@ -12,37 +12,37 @@ pub test-by-spec : {M : Type 1} → statement M
 test-by-spec =
     tie.close
     (tie.spec
-    -- entry-of-requires src/test.rt:54:9
+    -- entry-of-requires
     (λ c κs. search needs)
-    -- may-write-requires src/test.rt:55:9
+    -- may-write-requires
     (λ c κs. search needs)
-    -- same-length src/test.rt:57:9
+    -- same-length
     (λ c. search needs)
-    -- returns src/test.rt:57:9
+    -- returns
     (λ c. search test-refused)
     -- entry-of-requires-2
     (λ c κs. search needs)
-    -- not-there-requires src/test.rt:61:9
+    -- not-there-requires
     (λ c κs. search needs)
-    -- same-length-2 src/test.rt:63:9
+    -- same-length-2
     (λ c. search needs)
-    -- returns-2 src/test.rt:63:9
+    -- returns-2
     (λ c. search test-lacking)
-    -- spot-at-requires src/test.rt:65:9
+    -- spot-at-requires
     (λ c κs. search needs)
     -- record-at-requires
     (λ c κs. let h = there-within _ highest _ (c .before .before .before .before .before .before .before .before .before .before .before .before .before .before .before .before .before .pre .image-sound) _ _ _ _ _ (c .before .before .before .before .before .before .entry-of2 .ensures .0) (c .before .spot-at .ensures) (c .before .before .before .before .not-there .ensures) (c .before .before .before .if2 .left) in search needs)
     -- any-differs-requires
     (λ c κs. let h = there-within _ highest _ (c .before .before .before .before .before .before .before .before .before .before .before .before .before .before .before .before .before .before .pre .image-sound) _ _ _ _ _ (c .before .before .before .before .before .before .before .entry-of2 .ensures .0) (c .before .before .spot-at .ensures) (c .before .before .before .before .before .not-there .ensures) (c .before .before .before .before .if2 .left) in search (needs, record-lies))
-    -- same-length-3 src/test.rt:68:9
+    -- same-length-3
     (λ c. search needs)
-    -- returns-3 src/test.rt:68:9
+    -- returns-3
     (λ c. search test-differs)
-    -- sub-write-record src/test.rt:70:55
+    -- sub-write-record
     (λ c. search needs)
-    -- part-write-record-start src/test.rt:70:55
+    -- part-write-record-start
     (λ c. search needs)
-    -- part-write-record-end src/test.rt:70:55
+    -- part-write-record-end
     (λ c. let d = c .before .before .before .before .before .before .before .before .before .before .before .before .before .before .before .before .before .before .before .before .before .pre .dma-long in search needs)
     -- write-record-requires
     (λ c κs.
@@ -53,7 +53,7 @@ test-by-spec =
     let a = c .before .before .before .before .before .before .before .before .before .before .before .before .before .before .before .before .entry-of .ensures .1 in
     let k = record-at-room _ _ _ _ n (h .block-inside) in
     omega arith)
-    -- same-length-4 src/test.rt:40:1
+    -- same-length-4
     (λ c. search needs)
-    -- returns-4 src/test.rt:40:1
+    -- returns-4
     (λ c. search test-done))

@@ -7,15 +7,15 @@ pub test-write-spec : {M : Type 1} → statement M
 test-write-spec =
     tie.close
     (tie.spec
-    -- caller-file-requires src/test.rt:80:9
+    -- caller-file-requires
     (λ c κs. search needs)
-    -- open-of-requires src/test.rt:81:9
+    -- open-of-requires
     (λ c κs. search needs)
-    -- record-of-requires src/test.rt:82:9
+    -- record-of-requires
     (λ c κs. search needs)
-    -- test-by-requires src/test.rt:83:5
+    -- test-by-requires
     (λ c κs. search needs)
-    -- same-length src/test.rt:75:1
+    -- same-length
     (λ c. search needs)
-    -- returns src/test.rt:75:1
+    -- returns
     (λ c. search test-called))

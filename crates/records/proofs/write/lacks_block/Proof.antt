@@ -6,7 +6,7 @@ pub lacks-block-spec : {M : Type 1} → statement M
 lacks-block-spec =
     tie.close
     (tie.spec
-    -- returns src/write.rt:43:9
+    -- returns
     (λ c. search choices depth 8 fits 20000)
-    -- returns-2 src/write.rt:39:1
+    -- returns-2
     (λ c. search choices depth 8 fits 20000))

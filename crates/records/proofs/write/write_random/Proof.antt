@@ -7,15 +7,15 @@ pub write-random-spec : {M : Type 1} → statement M
 write-random-spec =
     tie.close
     (tie.spec
-    -- caller-file-requires src/write.rt:100:9
+    -- caller-file-requires
     (λ c κs. search needs)
-    -- open-of-requires src/write.rt:101:9
+    -- open-of-requires
     (λ c κs. search needs)
-    -- record-of-requires src/write.rt:102:9
+    -- record-of-requires
     (λ c κs. search needs)
-    -- write-by-requires src/write.rt:103:5
+    -- write-by-requires
     (λ c κs. search needs)
-    -- same-length src/write.rt:95:1
+    -- same-length
     (λ c. search needs)
-    -- returns src/write.rt:95:1
+    -- returns
     (λ c. search write-called))

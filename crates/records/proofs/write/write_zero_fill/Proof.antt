@@ -7,15 +7,15 @@ pub write-zero-fill-spec : {M : Type 1} → statement M
 write-zero-fill-spec =
     tie.close
     (tie.spec
-    -- caller-file-requires src/write.rt:112:9
+    -- caller-file-requires
     (λ c κs. search needs)
-    -- open-of-requires src/write.rt:113:9
+    -- open-of-requires
     (λ c κs. search needs)
-    -- record-of-requires src/write.rt:114:9
+    -- record-of-requires
     (λ c κs. search needs)
-    -- write-by-requires src/write.rt:115:5
+    -- write-by-requires
     (λ c κs. search needs)
-    -- same-length src/write.rt:107:1
+    -- same-length
     (λ c. search needs)
-    -- returns src/write.rt:107:1
+    -- returns
     (λ c. search zeros-called))

@@ -9,15 +9,15 @@ unfolding imageNumber
 image-number-spec =
     tie.close
     (tie.spec
-    -- enum-told src/answer.rt:16:31
+    -- enum-told
     (λ c. search needs)
-    -- enum-told-2 src/answer.rt:17:37
+    -- enum-told-2
     (λ c. search needs)
-    -- enum-told-3 src/answer.rt:18:42
+    -- enum-told-3
     (λ c. search needs)
-    -- returns src/answer.rt:12:1
+    -- returns
     (λ c. search refl)
-    -- returns-2 src/answer.rt:12:1
+    -- returns-2
     (λ c. search refl)
-    -- returns-3 src/answer.rt:12:1
+    -- returns-3
     (λ c. search refl))

@@ -14,21 +14,21 @@ pub put-bytes-spec : {M : Type 1} → statement M
 put-bytes-spec =
     tie.close
     (tie.spec Inv-loop μ-loop
-    -- loop-holds src/bytes.rt:12:5
+    -- loop-holds
     (λ c. search pastes)
-    -- shared-slice-read-s src/bytes.rt:13:21
+    -- shared-slice-read-s
     (λ c. search pastes)
-    -- add-s src/bytes.rt:13:11
+    -- add-s
     (λ c. search pastes)
-    -- slice-write-s src/bytes.rt:13:9
+    -- slice-write-s
     (λ c. search pastes)
-    -- add-i src/bytes.rt:14:9
+    -- add-i
     (λ c. search pastes)
-    -- loop-less src/bytes.rt:12:5
+    -- loop-less
     (λ c. search pastes)
-    -- loop-again src/bytes.rt:12:5
+    -- loop-again
     (λ c. search pastes)
-    -- same-length src/bytes.rt:7:1
+    -- same-length
     (λ c. search pastes)
-    -- returns src/bytes.rt:7:1
+    -- returns
     (λ c. search pastes))

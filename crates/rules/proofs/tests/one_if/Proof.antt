@@ -8,7 +8,7 @@ pub one-if-spec : {M : Type 1} → statement M
 one-if-spec =
     tie.close
     (tie.spec
-    -- returns src/tests.rt:25:9
+    -- returns
     (λ c. search (needs, choices, refl))
-    -- returns-2 src/tests.rt:21:1
+    -- returns-2
     (λ c. search (needs, choices, refl)))

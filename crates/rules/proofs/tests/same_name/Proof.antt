@@ -18,19 +18,19 @@ unfolding sameName sameByte
 same-name-spec =
     tie.close
     (tie.spec Inv-loop μ-loop
-    -- loop-holds src/tests.rt:11:5
+    -- loop-holds
     (λ c. search alls)
-    -- array-read-if1 src/tests.rt:12:12
+    -- array-read-if1
     (λ c. search alls)
-    -- array-read-if1-2 src/tests.rt:12:20
+    -- array-read-if1-2
     (λ c. search alls)
-    -- returns src/tests.rt:13:13
+    -- returns
     (λ c. search alls)
-    -- add-k src/tests.rt:15:9
+    -- add-k
     (λ c. search alls)
-    -- loop-less src/tests.rt:11:5
+    -- loop-less
     (λ c. search alls)
-    -- loop-again src/tests.rt:11:5
+    -- loop-again
     (λ c. search alls)
-    -- returns-2 src/tests.rt:7:1
+    -- returns-2
     (λ c. search alls))

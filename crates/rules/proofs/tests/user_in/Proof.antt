@@ -7,9 +7,9 @@ pub user-in-spec : {M : Type 1} → statement M
 user-in-spec =
     tie.close
     (tie.spec
-    -- array-read-result src/tests.rt:36:16
+    -- array-read-result
     (λ c. search needs)
-    -- returns src/tests.rt:36:9
+    -- returns
     (λ c. search needs)
-    -- returns-2 src/tests.rt:31:1
+    -- returns-2
     (λ c. search (needs, past-end)))

@@ -20,17 +20,17 @@ erase-spec =
     (tie.spec Inv-loop μ-loop
     -- entries-requires
     (λ c κs. search turning-as)
-    -- loop-holds src/directory.rt:80:5
+    -- loop-holds
     (λ c. search turning-as)
-    -- erase-at-requires src/directory.rt:81:9
+    -- erase-at-requires
     (λ c κs. search turning-as)
-    -- add-e src/directory.rt:82:9
+    -- add-e
     (λ c. search turning-as)
-    -- loop-less src/directory.rt:80:5
+    -- loop-less
     (λ c. search turning-as)
-    -- loop-again src/directory.rt:80:5
+    -- loop-again
     (λ c. search turning-as)
-    -- same-length src/directory.rt:75:1
+    -- same-length
     (λ c. search turning-as)
-    -- returns src/directory.rt:75:1
+    -- returns
     (λ c. search turning-as))

@@ -10,17 +10,17 @@ unfolding erasedAt
 erase-at-spec =
     tie.close
     (tie.spec
-    -- is-of-requires src/directory.rt:69:8
+    -- is-of-requires
     (λ c κs. search needs)
-    -- mul-image src/directory.rt:70:15
+    -- mul-image
     (λ c. search needs)
-    -- slice-write-image src/directory.rt:70:9
+    -- slice-write-image
     (λ c. search needs)
-    -- same-length src/directory.rt:65:1
+    -- same-length
     (λ c. search needs)
-    -- returns src/directory.rt:65:1
+    -- returns
     (λ c. search (choices, refl) depth 8 fits 20000)
-    -- same-length-2 src/directory.rt:65:1
+    -- same-length-2
     (λ c. search needs)
-    -- returns-2 src/directory.rt:65:1
+    -- returns-2
     (λ c. search (choices, refl) depth 8 fits 20000))

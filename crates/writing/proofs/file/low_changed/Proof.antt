@@ -16,23 +16,23 @@ pub low-changed-spec : {M : Type 1} → statement M
 low-changed-spec =
     tie.close
     (tie.spec Inv-loop μ-loop
-    -- loop-holds src/directory.rt:101:5
+    -- loop-holds
     (λ c. search lowering)
-    -- add-with-low src/directory.rt:102:35
+    -- add-with-low
     (λ c. search lowering)
-    -- shared-slice-read-with-low src/directory.rt:102:29
+    -- shared-slice-read-with-low
     (λ c. search lowering)
-    -- array-read-with-low src/directory.rt:102:44
+    -- array-read-with-low
     (λ c. search lowering)
-    -- with-low-requires src/directory.rt:102:20
+    -- with-low-requires
     (λ c κs. search lowering)
-    -- array-write-bytes src/directory.rt:102:9
+    -- array-write-bytes
     (λ c. search lowering)
-    -- add-k src/directory.rt:103:9
+    -- add-k
     (λ c. search lowering)
-    -- loop-less src/directory.rt:101:5
+    -- loop-less
     (λ c. search lowering)
-    -- loop-again src/directory.rt:101:5
+    -- loop-again
     (λ c. search lowering)
-    -- returns src/directory.rt:95:1
+    -- returns
     (λ c. search lowering))

@@ -9,15 +9,15 @@ unfolding made
 make-entry-spec =
     tie.close
     (tie.spec
-    -- made-entry-requires src/directory.rt:60:13
+    -- made-entry-requires
     (λ c κs. search needs)
-    -- mul-put-bytes src/directory.rt:61:22
+    -- mul-put-bytes
     (λ c. search needs)
-    -- slice-aggregate-put-bytes src/directory.rt:61:30
+    -- slice-aggregate-put-bytes
     (λ c. search needs)
-    -- put-bytes-requires src/directory.rt:61:5
+    -- put-bytes-requires
     (λ c κs. search needs)
-    -- same-length src/directory.rt:56:1
+    -- same-length
     (λ c. search needs)
-    -- returns src/directory.rt:56:1
+    -- returns
     (λ c. search put-as))

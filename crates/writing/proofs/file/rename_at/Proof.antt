@@ -11,23 +11,23 @@ unfolding renamedAt
 rename-at-spec =
     tie.close
     (tie.spec
-    -- is-of-requires src/directory.rt:113:8
+    -- is-of-requires
     (λ c κs. search needs)
-    -- mul-at src/directory.rt:114:18
+    -- mul-at
     (λ c. search needs)
-    -- add-at src/directory.rt:114:18
+    -- add-at
     (λ c. search needs)
-    -- low-changed-requires src/directory.rt:115:17
+    -- low-changed-requires
     (λ c κs. search needs)
-    -- slice-aggregate-put-bytes src/directory.rt:116:30
+    -- slice-aggregate-put-bytes
     (λ c. search needs)
-    -- put-bytes-requires src/directory.rt:116:9
+    -- put-bytes-requires
     (λ c κs. search needs)
-    -- same-length src/directory.rt:109:1
+    -- same-length
     (λ c. search needs)
-    -- returns src/directory.rt:109:1
+    -- returns
     (λ c. search (choices, refl, put-as) depth 8 fits 20000)
-    -- same-length-2 src/directory.rt:109:1
+    -- same-length-2
     (λ c. search needs)
-    -- returns-2 src/directory.rt:109:1
+    -- returns-2
     (λ c. search (choices, refl, put-as) depth 8 fits 20000))

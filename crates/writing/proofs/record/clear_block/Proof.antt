@@ -7,25 +7,25 @@ pub clear-block-spec : {M : Type 1} → statement M
 clear-block-spec =
     tie.close
     (tie.spec
-    -- block-at-requires src/record.rt:135:17
+    -- block-at-requires
     (λ c κs. search needs)
-    -- block-size-requires src/record.rt:136:25
+    -- block-size-requires
     (λ c κs. search needs)
-    -- add-e src/record.rt:136:21
+    -- add-e
     (λ c. search needs)
-    -- sub-fill-zeros src/record.rt:137:24
+    -- sub-fill-zeros
     (λ c. search needs)
-    -- part-fill-zeros-start src/record.rt:137:24
+    -- part-fill-zeros-start
     (λ c. search needs)
-    -- part-fill-zeros-end src/record.rt:137:24
+    -- part-fill-zeros-end
     (λ c. search needs)
-    -- fill-zeros-requires src/record.rt:137:13
+    -- fill-zeros-requires
     (λ c κs. search needs)
-    -- same-length src/record.rt:129:1
+    -- same-length
     (λ c. search needs)
-    -- returns src/record.rt:129:1
+    -- returns
     (λ c. search (cleared-on, cleared-no, cleared-off))
-    -- returns-2 src/record.rt:129:1
+    -- returns-2
     (λ c. search (cleared-on, cleared-no, cleared-off))
-    -- returns-3 src/record.rt:129:1
+    -- returns-3
     (λ c. search (cleared-on, cleared-no, cleared-off)))

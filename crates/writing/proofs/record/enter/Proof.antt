@@ -11,17 +11,17 @@ unfolding entered
 enter-spec =
     tie.close
     (tie.spec
-    -- mul-at src/record.rt:62:18
+    -- mul-at
     (λ c. search needs)
-    -- new-entry-requires src/record.rt:63:17
+    -- new-entry-requires
     (λ c κs. search needs)
-    -- slice-aggregate-put-bytes src/record.rt:64:30
+    -- slice-aggregate-put-bytes
     (λ c. search needs)
-    -- put-bytes-requires src/record.rt:64:9
+    -- put-bytes-requires
     (λ c κs. search needs)
-    -- same-length src/record.rt:57:1
+    -- same-length
     (λ c. search needs)
-    -- returns src/record.rt:57:1
+    -- returns
     (λ c. search (choices, refl, put-as) depth 8 fits 20000)
-    -- returns-2 src/record.rt:57:1
+    -- returns-2
     (λ c. search (choices, refl, put-as) depth 8 fits 20000))

@@ -7,13 +7,13 @@ pub map-block-spec : {M : Type 1} → statement M
 map-block-spec =
     tie.close
     (tie.spec
-    -- map-place-requires src/record.rt:112:42
+    -- map-place-requires
     (λ c κs. search needs)
-    -- put-number-requires src/record.rt:112:9
+    -- put-number-requires
     (λ c κs. search needs)
-    -- same-length src/record.rt:107:1
+    -- same-length
     (λ c. search needs)
-    -- returns src/record.rt:107:1
+    -- returns
     (λ c. search (mapped-on, mapped-off))
-    -- returns-2 src/record.rt:107:1
+    -- returns-2
     (λ c. search (mapped-on, mapped-off)))

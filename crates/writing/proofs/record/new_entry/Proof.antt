@@ -9,37 +9,37 @@ unfolding newEntry tab
 new-entry-spec =
     tie.close
     (tie.spec
-    -- mul-eleven-from src/record.rt:16:32
+    -- mul-eleven-from
     (λ c. search needs)
-    -- add-eleven-from src/record.rt:16:32
+    -- add-eleven-from
     (λ c. search needs)
-    -- eleven-from-requires src/record.rt:16:13
+    -- eleven-from-requires
     (λ c κs. search needs)
-    -- cast-ex src/record.rt:18:14
+    -- cast-ex
     (λ c. search needs)
-    -- cast-high src/record.rt:19:16
+    -- cast-high
     (λ c. search needs)
-    -- array-read-t14 src/record.rt:22:9
+    -- array-read-t14
     (λ c. search needs)
-    -- array-read-t17 src/record.rt:23:9
+    -- array-read-t17
     (λ c. search needs)
-    -- array-read-t20 src/record.rt:24:9
+    -- array-read-t20
     (λ c. search needs)
-    -- array-read-t23 src/record.rt:25:9
+    -- array-read-t23
     (λ c. search needs)
-    -- array-read-t26 src/record.rt:26:9
+    -- array-read-t26
     (λ c. search needs)
-    -- array-read-t29 src/record.rt:27:9
+    -- array-read-t29
     (λ c. search needs)
-    -- array-read-t32 src/record.rt:28:9
+    -- array-read-t32
     (λ c. search needs)
-    -- array-read-t35 src/record.rt:29:9
+    -- array-read-t35
     (λ c. search needs)
-    -- array-read-t38 src/record.rt:30:9
+    -- array-read-t38
     (λ c. search needs)
-    -- array-read-t41 src/record.rt:31:9
+    -- array-read-t41
     (λ c. search needs)
-    -- array-read-t44 src/record.rt:32:9
+    -- array-read-t44
     (λ c. search needs)
-    -- returns src/record.rt:12:1
+    -- returns
     (λ c. rw (c .eleven-from .ensures)))

@@ -7,23 +7,23 @@ pub put-large-spec : {M : Type 1} → statement M
 put-large-spec =
     tie.close
     (tie.spec
-    -- cast-t7 src/record.rt:91:14
+    -- cast-t7
     (λ c. search needs)
-    -- cast-t10 src/record.rt:91:35
+    -- cast-t10
     (λ c. search needs)
-    -- mul-put-bytes src/record.rt:92:22
+    -- mul-put-bytes
     (λ c. search needs)
-    -- mul-put-bytes-2 src/record.rt:92:37
+    -- mul-put-bytes-2
     (λ c. search needs)
-    -- add-put-bytes src/record.rt:92:32
+    -- add-put-bytes
     (λ c. search needs)
-    -- add-put-bytes-2 src/record.rt:92:22
+    -- add-put-bytes-2
     (λ c. search needs)
-    -- slice-aggregate-put-bytes src/record.rt:92:45
+    -- slice-aggregate-put-bytes
     (λ c. search needs)
-    -- put-bytes-requires src/record.rt:92:5
+    -- put-bytes-requires
     (λ c κs. search needs)
-    -- same-length src/record.rt:87:1
+    -- same-length
     (λ c. search needs)
-    -- returns src/record.rt:87:1
+    -- returns
     (λ c. search large-put))

@@ -8,19 +8,19 @@ pub put-number-spec : {M : Type 1} → statement M
 put-number-spec =
     tie.close
     (tie.spec
-    -- enum-told src/record.rt:101:34
+    -- enum-told
     (λ c. search needs)
-    -- put-small-requires src/record.rt:101:24
+    -- put-small-requires
     (λ c κs. search (needs, small-places, large-places, number-put) depth 6)
-    -- enum-told-2 src/record.rt:102:34
+    -- enum-told-2
     (λ c. search needs)
-    -- put-large-requires src/record.rt:102:24
+    -- put-large-requires
     (λ c κs. search (needs, small-places, large-places, number-put) depth 6)
-    -- same-length src/record.rt:96:1
+    -- same-length
     (λ c. search needs)
-    -- returns src/record.rt:96:1
+    -- returns
     (λ c. search (needs, small-places, large-places, number-put) depth 6)
-    -- same-length-2 src/record.rt:96:1
+    -- same-length-2
     (λ c. search needs)
-    -- returns-2 src/record.rt:96:1
+    -- returns-2
     (λ c. search (needs, small-places, large-places, number-put) depth 6))

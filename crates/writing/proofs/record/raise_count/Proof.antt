@@ -10,21 +10,21 @@ unfolding counted
 raise-count-spec =
     tie.close
     (tie.spec
-    -- mul-at src/record.rt:84:14
+    -- mul-at
     (λ c. search needs)
-    -- add-at src/record.rt:84:14
+    -- add-at
     (λ c. search needs)
-    -- add-n src/record.rt:85:14
+    -- add-n
     (λ c. search needs)
-    -- cast-n src/record.rt:85:13
+    -- cast-n
     (λ c. search needs)
-    -- slice-read-if1 src/record.rt:86:8
+    -- slice-read-if1
     (λ c. search needs)
-    -- slice-write-image src/record.rt:87:9
+    -- slice-write-image
     (λ c. search needs)
-    -- same-length src/record.rt:80:1
+    -- same-length
     (λ c. search needs)
-    -- returns src/record.rt:80:1
+    -- returns
     (λ c. search (choices, refl) depth 8 fits 20000)
-    -- returns-2 src/record.rt:80:1
+    -- returns-2
     (λ c. search (choices, refl) depth 8 fits 20000))

@@ -11,13 +11,13 @@ pub store-record-spec : {M : Type 1} → statement M
 store-record-spec =
     tie.close
     (tie.spec
-    -- record-at-requires src/record.rt:147:9
+    -- record-at-requires
     (λ c κs. search needs)
-    -- slice-aggregate-put-bytes src/record.rt:148:26
+    -- slice-aggregate-put-bytes
     (λ c. search (needs, length-take-le))
-    -- put-bytes-requires src/record.rt:148:5
+    -- put-bytes-requires
     (λ c κs. simp length-take (omega arith))
-    -- same-length src/record.rt:143:1
+    -- same-length
     (λ c. search needs)
-    -- returns src/record.rt:143:1
+    -- returns
     (λ c. search (needs, stored-as, refl)))

@@ -9,17 +9,17 @@ unfolding written
 write-record-spec =
     tie.close
     (tie.spec
-    -- enter-requires src/record.rt:127:5
+    -- enter-requires
     (λ c κs. search needs)
-    -- map-block-requires src/record.rt:128:5
+    -- map-block-requires
     (λ c κs. search needs)
-    -- raise-count-requires src/record.rt:129:5
+    -- raise-count-requires
     (λ c κs. search needs)
-    -- clear-block-requires src/record.rt:130:5
+    -- clear-block-requires
     (λ c κs. search needs)
-    -- store-record-requires src/record.rt:131:5
+    -- store-record-requires
     (λ c κs. search needs)
-    -- same-length src/record.rt:115:1
+    -- same-length
     (λ c. search needs)
-    -- returns src/record.rt:115:1
+    -- returns
     (λ c. search written-as depth 8 fits 20000))

@@ -11,19 +11,19 @@ unfolding spotAt
 spot-at-spec =
     tie.close
     (tie.spec
-    -- entries-requires src/spot.rt:19:8
+    -- entries-requires
     (λ c κs. search needs)
-    -- free-entry-requires src/spot.rt:20:13
+    -- free-entry-requires
     (λ c κs. search needs)
-    -- free-block-requires src/spot.rt:21:13
+    -- free-block-requires
     (λ c κs. search needs)
-    -- returns src/spot.rt:22:9
+    -- returns
     (λ c. search (choices, spot-is, leb-yes-as, leb-no-as, refl) depth 8 fits 20000)
-    -- block-in-requires src/spot.rt:29:9
+    -- block-in-requires
     (λ c κs. search needs)
-    -- free-block-requires-2 src/spot.rt:31:13
+    -- free-block-requires-2
     (λ c κs. search needs)
-    -- returns-2 src/spot.rt:32:9
+    -- returns-2
     (λ c. search (choices, spot-is, leb-yes-as, leb-no-as, refl) depth 8 fits 20000)
-    -- returns-3 src/spot.rt:15:1
+    -- returns-3
     (λ c. search (choices, spot-is, leb-yes-as, leb-no-as, refl) depth 8 fits 20000))

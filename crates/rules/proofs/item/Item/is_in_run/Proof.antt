@@ -9,13 +9,13 @@ unfolding isInRun
 is-in-run-spec =
     tie.close
     (tie.spec
-    -- returns src/item.rt:182:13
+    -- returns
     (λ c. search runs depth 8 fits 20000)
-    -- returns-2 src/item.rt:185:13
+    -- returns-2
     (λ c. search runs depth 8 fits 20000)
-    -- returns-3 src/item.rt:188:13
+    -- returns-3
     (λ c. search runs depth 8 fits 20000)
-    -- is-of-file-requires src/item.rt:190:9
+    -- is-of-file-requires
     (λ c κs. search needs)
-    -- returns-4 src/item.rt:178:5
+    -- returns-4
     (λ c. search runs depth 8 fits 20000))

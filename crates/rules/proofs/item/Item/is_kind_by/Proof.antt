@@ -8,7 +8,7 @@ unfolding isKindBy
 is-kind-by-spec =
     tie.close
     (tie.spec
-    -- returns src/item.rt:134:13
+    -- returns
     (λ c. search choices depth 8 fits 20000)
-    -- returns-2 src/item.rt:130:5
+    -- returns-2
     (λ c. search choices depth 8 fits 20000))

@@ -9,11 +9,11 @@ unfolding isOfFile
 is-of-file-spec =
     tie.close
     (tie.spec
-    -- returns src/item.rt:167:13
+    -- returns
     (λ c. search choices depth 8 fits 20000)
-    -- returns-2 src/item.rt:170:13
+    -- returns-2
     (λ c. search choices depth 8 fits 20000)
-    -- same-name-requires src/item.rt:174:9
+    -- same-name-requires
     (λ c κs. search needs)
-    -- returns-3 src/item.rt:163:5
+    -- returns-3
     (λ c. search choices depth 8 fits 20000))

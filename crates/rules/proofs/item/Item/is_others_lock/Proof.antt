@@ -7,9 +7,9 @@ pub is-others-lock-spec : {M : Type 1} → statement M
 is-others-lock-spec =
     tie.close
     (tie.spec
-    -- returns src/item.rt:116:13
+    -- returns
     (λ c. search choices depth 8 fits 20000)
-    -- locks-record-requires src/item.rt:118:9
+    -- locks-record-requires
     (λ c κs. search needs)
-    -- returns-2 src/item.rt:112:5
+    -- returns-2
     (λ c. search choices depth 8 fits 20000))

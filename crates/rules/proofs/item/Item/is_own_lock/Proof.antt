@@ -7,9 +7,9 @@ pub is-own-lock-spec : {M : Type 1} → statement M
 is-own-lock-spec =
     tie.close
     (tie.spec
-    -- returns src/item.rt:126:13
+    -- returns
     (λ c. search choices depth 8 fits 20000)
-    -- locks-record-requires src/item.rt:128:9
+    -- locks-record-requires
     (λ c κs. search needs)
-    -- returns-2 src/item.rt:122:5
+    -- returns-2
     (λ c. search choices depth 8 fits 20000))

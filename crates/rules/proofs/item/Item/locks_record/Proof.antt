@@ -9,15 +9,15 @@ unfolding locksRecord
 locks-record-spec =
     tie.close
     (tie.spec
-    -- returns src/item.rt:98:13
+    -- returns
     (λ c. search choices depth 8 fits 20000)
-    -- returns-2 src/item.rt:101:13
+    -- returns-2
     (λ c. search choices depth 8 fits 20000)
-    -- user-in-requires src/item.rt:103:12
+    -- user-in-requires
     (λ c κs. search needs)
-    -- returns-3 src/item.rt:104:13
+    -- returns-3
     (λ c. search choices depth 8 fits 20000)
-    -- same-name-requires src/item.rt:108:9
+    -- same-name-requires
     (λ c κs. search needs)
-    -- returns-4 src/item.rt:94:5
+    -- returns-4
     (λ c. search choices depth 8 fits 20000))

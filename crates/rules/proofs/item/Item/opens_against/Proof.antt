@@ -7,11 +7,11 @@ pub opens-against-spec : {M : Type 1} → statement M
 opens-against-spec =
     tie.close
     (tie.spec
-    -- opens-file-requires src/item.rt:158:13
+    -- opens-file-requires
     (λ c κs. search needs)
-    -- returns src/item.rt:159:13
+    -- returns
     (λ c. search choices depth 8 fits 20000)
-    -- stands-against-requires src/item.rt:161:9
+    -- stands-against-requires
     (λ c κs. search needs)
-    -- returns-2 src/item.rt:155:5
+    -- returns-2
     (λ c. search choices depth 8 fits 20000))

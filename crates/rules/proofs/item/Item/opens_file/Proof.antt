@@ -9,13 +9,13 @@ unfolding opensFile
 opens-file-spec =
     tie.close
     (tie.spec
-    -- returns src/item.rt:83:13
+    -- returns
     (λ c. search choices depth 8 fits 20000)
-    -- user-in-requires src/item.rt:85:12
+    -- user-in-requires
     (λ c κs. search needs)
-    -- returns-2 src/item.rt:86:13
+    -- returns-2
     (λ c. search choices depth 8 fits 20000)
-    -- same-name-requires src/item.rt:90:9
+    -- same-name-requires
     (λ c κs. search needs)
-    -- returns-3 src/item.rt:79:5
+    -- returns-3
     (λ c. search choices depth 8 fits 20000))

@@ -9,11 +9,11 @@ unfolding opensName
 opens-name-spec =
     tie.close
     (tie.spec
-    -- returns src/item.rt:67:13
+    -- returns
     (λ c. search choices depth 8 fits 20000)
-    -- returns-2 src/item.rt:70:13
+    -- returns-2
     (λ c. search choices depth 8 fits 20000)
-    -- same-name-requires src/item.rt:73:9
+    -- same-name-requires
     (λ c κs. search needs)
-    -- returns-3 src/item.rt:63:5
+    -- returns-3
     (λ c. search choices depth 8 fits 20000))

@@ -8,9 +8,9 @@ unfolding standsAgainst
 stands-against-spec =
     tie.close
     (tie.spec
-    -- returns src/item.rt:144:13
+    -- returns
     (λ c. search choices depth 8 fits 20000)
-    -- returns-2 src/item.rt:147:13
+    -- returns-2
     (λ c. search choices depth 8 fits 20000)
-    -- returns-3 src/item.rt:140:5
+    -- returns-3
     (λ c. search choices depth 8 fits 20000))

@@ -10,9 +10,9 @@ unfolding unlessBy
 unless-by-spec =
     tie.close
     (tie.spec
-    -- is-by-requires src/item.rt:226:12
+    -- is-by-requires
     (λ c κs. search needs)
-    -- returns src/item.rt:227:13
+    -- returns
     (λ c. search (choices, refl) depth 8 fits 20000)
-    -- returns-2 src/item.rt:223:5
+    -- returns-2
     (λ c. search (choices, refl) depth 8 fits 20000))

@@ -10,9 +10,9 @@ unfolding unlessInRun
 unless-in-run-spec =
     tie.close
     (tie.spec
-    -- is-in-run-requires src/item.rt:207:12
+    -- is-in-run-requires
     (λ c κs. search needs)
-    -- returns src/item.rt:208:13
+    -- returns
     (λ c. search (choices, refl) depth 8 fits 20000)
-    -- returns-2 src/item.rt:204:5
+    -- returns-2
     (λ c. search (choices, refl) depth 8 fits 20000))

@@ -10,9 +10,9 @@ unfolding unlessOfFile
 unless-of-file-spec =
     tie.close
     (tie.spec
-    -- is-of-file-requires src/item.rt:197:12
+    -- is-of-file-requires
     (λ c κs. search needs)
-    -- returns src/item.rt:198:13
+    -- returns
     (λ c. search (choices, refl) depth 8 fits 20000)
-    -- returns-2 src/item.rt:194:5
+    -- returns-2
     (λ c. search (choices, refl) depth 8 fits 20000))

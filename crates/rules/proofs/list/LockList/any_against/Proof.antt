@@ -19,21 +19,21 @@ unfolding standsAgainstAt opensFileAt
 any-against-spec =
     tie.close
     (tie.spec Inv-loop μ-loop
-    -- loop-holds src/list.rt:155:9
+    -- loop-holds
     (λ c. search anys)
-    -- mul-it src/list.rt:156:22
+    -- mul-it
     (λ c. search anys)
-    -- element-copy-out-it src/list.rt:156:22
+    -- element-copy-out-it
     (λ c. search anys)
-    -- opens-against-requires src/list.rt:157:16
+    -- opens-against-requires
     (λ c κs. search anys)
-    -- returns src/list.rt:158:17
+    -- returns
     (λ c. search anys)
-    -- add-i src/list.rt:160:13
+    -- add-i
     (λ c. search anys)
-    -- loop-less src/list.rt:155:9
+    -- loop-less
     (λ c. search anys)
-    -- loop-again src/list.rt:155:9
+    -- loop-again
     (λ c. search anys)
-    -- returns-2 src/list.rt:150:5
+    -- returns-2
     (λ c. search anys))

@@ -18,21 +18,21 @@ unfolding anyOpen opensFileAt
 any-open-spec =
     tie.close
     (tie.spec Inv-loop μ-loop
-    -- loop-holds src/list.rt:139:9
+    -- loop-holds
     (λ c. search anys)
-    -- mul-it src/list.rt:140:22
+    -- mul-it
     (λ c. search anys)
-    -- element-copy-out-it src/list.rt:140:22
+    -- element-copy-out-it
     (λ c. search anys)
-    -- opens-file-requires src/list.rt:141:16
+    -- opens-file-requires
     (λ c κs. search anys)
-    -- returns src/list.rt:142:17
+    -- returns
     (λ c. search anys)
-    -- add-i src/list.rt:144:13
+    -- add-i
     (λ c. search anys)
-    -- loop-less src/list.rt:139:9
+    -- loop-less
     (λ c. search anys)
-    -- loop-again src/list.rt:139:9
+    -- loop-again
     (λ c. search anys)
-    -- returns-2 src/list.rt:134:5
+    -- returns-2
     (λ c. search anys))

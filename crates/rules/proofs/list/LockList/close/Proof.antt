@@ -15,23 +15,23 @@ unfolding closed
 close-spec =
     tie.close
     (tie.spec Inv-loop μ-loop
-    -- loop-holds src/list.rt:27:9
+    -- loop-holds
     (λ c. search gones)
-    -- mul-it src/list.rt:28:22
+    -- mul-it
     (λ c. search gones)
-    -- element-copy-out-it src/list.rt:28:22
+    -- element-copy-out-it
     (λ c. search gones)
-    -- unless-of-file-requires src/list.rt:29:29
+    -- unless-of-file-requires
     (λ c κs. search gones)
-    -- mul-t8 src/list.rt:29:13
+    -- mul-t8
     (λ c. search gones)
-    -- element-set-from-self src/list.rt:29:13
+    -- element-set-from-self
     (λ c. search gones)
-    -- add-i src/list.rt:30:13
+    -- add-i
     (λ c. search gones)
-    -- loop-less src/list.rt:27:9
+    -- loop-less
     (λ c. search gones)
-    -- loop-again src/list.rt:27:9
+    -- loop-again
     (λ c. search gones)
-    -- returns src/list.rt:23:5
+    -- returns
     (λ c. search gones))

@@ -26,51 +26,51 @@ unfolding isOwnLock locksRecordAt
 count-new-spec =
     tie.close
     (tie.spec Inv-loop μ-loop Inv-loop2 μ-loop2
-    -- loop-holds src/list.rt:255:9
+    -- loop-holds
     (λ c. search marks)
-    -- mul-it src/list.rt:256:22
+    -- mul-it
     (λ c. search marks)
-    -- element-copy-out-it src/list.rt:256:22
+    -- element-copy-out-it
     (λ c. search marks)
-    -- add-i src/list.rt:258:13
+    -- add-i
     (λ c. search marks)
-    -- loop-less src/list.rt:255:9
+    -- loop-less
     (λ c. search marks)
-    -- loop-again src/list.rt:255:9
+    -- loop-again
     (λ c. search marks)
-    -- loop-less-2 src/list.rt:255:9
+    -- loop-less-2
     (λ c. search marks)
-    -- loop-again-2 src/list.rt:255:9
+    -- loop-again-2
     (λ c. search marks)
-    -- is-own-lock-requires src/list.rt:265:16
+    -- is-own-lock-requires
     (λ c κs. search marks)
-    -- cast-mine src/list.rt:266:22
+    -- cast-mine
     (λ c. search marks)
-    -- array-write-mine src/list.rt:266:17
+    -- array-write-mine
     (λ c. search marks)
-    -- loop-less-3 src/list.rt:255:9
+    -- loop-less-3
     (λ c. search marks)
-    -- loop-again-3 src/list.rt:255:9
+    -- loop-again-3
     (λ c. search marks)
-    -- loop-less-4 src/list.rt:255:9
+    -- loop-less-4
     (λ c. search marks)
-    -- loop-again-4 src/list.rt:255:9
+    -- loop-again-4
     (λ c. search marks)
-    -- loop2-holds src/list.rt:271:9
+    -- loop2-holds
     (λ c. search adds)
-    -- cast-one-if src/list.rt:272:35
+    -- cast-one-if
     (λ c. search adds)
-    -- array-read-one-if src/list.rt:272:30
+    -- array-read-one-if
     (λ c. search adds)
-    -- one-if-requires src/list.rt:272:22
+    -- one-if-requires
     (λ c κs. search adds)
-    -- add-found src/list.rt:272:13
+    -- add-found
     (λ c. search adds)
-    -- add-k src/list.rt:273:13
+    -- add-k
     (λ c. search adds)
-    -- loop2-less src/list.rt:271:9
+    -- loop2-less
     (λ c. search adds)
-    -- loop2-again src/list.rt:271:9
+    -- loop2-again
     (λ c. search adds)
-    -- returns src/list.rt:248:5
+    -- returns
     (λ c. (search (needs, new-count, count-ends), search needs)))

@@ -18,23 +18,23 @@ unfolding freePlace isEmptyAt
 free-place-spec =
     tie.close
     (tie.spec Inv-loop μ-loop
-    -- cast-end src/list.rt:65:19
+    -- cast-end
     (λ c. search frees)
-    -- loop-holds src/list.rt:67:9
+    -- loop-holds
     (λ c. search frees)
-    -- returns src/list.rt:69:17
+    -- returns
     (λ c. search frees)
-    -- mul-if2 src/list.rt:71:16
+    -- mul-if2
     (λ c. search frees)
-    -- element-copy-out-if2 src/list.rt:71:16
+    -- element-copy-out-if2
     (λ c. search frees)
-    -- returns-2 src/list.rt:72:17
+    -- returns-2
     (λ c. search frees)
-    -- add-i src/list.rt:74:13
+    -- add-i
     (λ c. search frees)
-    -- loop-less src/list.rt:67:9
+    -- loop-less
     (λ c. search frees)
-    -- loop-again src/list.rt:67:9
+    -- loop-again
     (λ c. search frees)
-    -- returns-3 src/list.rt:62:5
+    -- returns-3
     (λ c. search frees))

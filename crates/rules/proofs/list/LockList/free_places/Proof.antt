@@ -17,23 +17,23 @@ unfolding freePlaces isEmptyAt
 free-places-spec =
     tie.close
     (tie.spec Inv-loop μ-loop
-    -- cast-end src/list.rt:234:19
+    -- cast-end
     (λ c. search counts)
-    -- loop-holds src/list.rt:237:9
+    -- loop-holds
     (λ c. search counts)
-    -- mul-one-if src/list.rt:238:25
+    -- mul-one-if
     (λ c. search counts)
-    -- element-copy-out-one-if src/list.rt:238:25
+    -- element-copy-out-one-if
     (λ c. search counts)
-    -- one-if-requires src/list.rt:238:18
+    -- one-if-requires
     (λ c κs. search counts)
-    -- add-n src/list.rt:238:13
+    -- add-n
     (λ c. search counts)
-    -- add-i src/list.rt:239:13
+    -- add-i
     (λ c. search counts)
-    -- loop-less src/list.rt:237:9
+    -- loop-less
     (λ c. search counts)
-    -- loop-again src/list.rt:237:9
+    -- loop-again
     (λ c. search counts)
-    -- returns src/list.rt:230:5
+    -- returns
     (λ c. search counts))

@@ -17,23 +17,23 @@ unfolding isKindByAt
 kinds-by-spec =
     tie.close
     (tie.spec Inv-loop μ-loop
-    -- loop-holds src/list.rt:207:9
+    -- loop-holds
     (λ c. search adds)
-    -- mul-it src/list.rt:208:22
+    -- mul-it
     (λ c. search adds)
-    -- element-copy-out-it src/list.rt:208:22
+    -- element-copy-out-it
     (λ c. search adds)
-    -- is-kind-by-requires src/list.rt:209:25
+    -- is-kind-by-requires
     (λ c κs. search adds)
-    -- one-if-requires src/list.rt:209:18
+    -- one-if-requires
     (λ c κs. search adds)
-    -- add-n src/list.rt:209:13
+    -- add-n
     (λ c. search adds)
-    -- add-i src/list.rt:210:13
+    -- add-i
     (λ c. search adds)
-    -- loop-less src/list.rt:207:9
+    -- loop-less
     (λ c. search adds)
-    -- loop-again src/list.rt:207:9
+    -- loop-again
     (λ c. search adds)
-    -- returns src/list.rt:202:5
+    -- returns
     (λ c. search adds))

@@ -28,47 +28,47 @@ unfolding lockedRun isOwnLock locksRecordAt
 lock-run-spec =
     tie.close
     (tie.spec Inv-loop μ-loop Inv-records μ-records
-    -- records-holds src/list.rt:286:9
+    -- records-holds
     (λ c. search taking)
-    -- add-number src/list.rt:288:26
+    -- add-number
     (λ c. search taking)
-    -- loop-holds src/list.rt:290:13
+    -- loop-holds
     (λ c. search taking)
-    -- mul-it src/list.rt:291:26
+    -- mul-it
     (λ c. search taking)
-    -- element-copy-out-it src/list.rt:291:26
+    -- element-copy-out-it
     (λ c. search taking)
-    -- is-own-lock-requires src/list.rt:292:20
+    -- is-own-lock-requires
     (λ c κs. search taking)
-    -- add-k src/list.rt:293:21
+    -- add-k
     (λ c. search taking)
-    -- records-less src/list.rt:286:9
+    -- records-less
     (λ c. search taking)
-    -- records-again src/list.rt:286:9
+    -- records-again
     (λ c. search taking)
-    -- add-i src/list.rt:296:17
+    -- add-i
     (λ c. search taking)
-    -- loop-less src/list.rt:290:13
+    -- loop-less
     (λ c. search taking)
-    -- loop-again src/list.rt:290:13
+    -- loop-again
     (λ c. search taking)
-    -- free-place-requires src/list.rt:298:17
+    -- free-place-requires
     (λ c κs. search taking)
-    -- add-k-2 src/list.rt:299:13
+    -- add-k-2
     (λ c. search taking)
-    -- records-less-2 src/list.rt:286:9
+    -- records-less-2
     (λ c. search taking)
-    -- records-again-2 src/list.rt:286:9
+    -- records-again-2
     (λ c. search taking)
-    -- lock-requires src/list.rt:303:27
+    -- lock-requires
     (λ c κs. search taking)
-    -- mul-t23 src/list.rt:303:13
+    -- mul-t23
     (λ c. search taking)
-    -- element-set-from-l src/list.rt:303:13
+    -- element-set-from-l
     (λ c. search taking)
-    -- records-less-3 src/list.rt:286:9
+    -- records-less-3
     (λ c. search taking)
-    -- records-again-3 src/list.rt:286:9
+    -- records-again-3
     (λ c. (search taking, search taking, search taking))
-    -- returns src/list.rt:279:5
+    -- returns
     (λ c. search taking))

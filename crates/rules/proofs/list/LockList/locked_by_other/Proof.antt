@@ -18,21 +18,21 @@ unfolding lockedByOther isOthersLock locksRecordAt
 locked-by-other-spec =
     tie.close
     (tie.spec Inv-loop μ-loop
-    -- loop-holds src/list.rt:171:9
+    -- loop-holds
     (λ c. search anys)
-    -- mul-it src/list.rt:172:22
+    -- mul-it
     (λ c. search anys)
-    -- element-copy-out-it src/list.rt:172:22
+    -- element-copy-out-it
     (λ c. search anys)
-    -- is-others-lock-requires src/list.rt:173:16
+    -- is-others-lock-requires
     (λ c κs. search anys)
-    -- returns src/list.rt:174:17
+    -- returns
     (λ c. search anys)
-    -- add-i src/list.rt:176:13
+    -- add-i
     (λ c. search anys)
-    -- loop-less src/list.rt:171:9
+    -- loop-less
     (λ c. search anys)
-    -- loop-again src/list.rt:171:9
+    -- loop-again
     (λ c. search anys)
-    -- returns-2 src/list.rt:166:5
+    -- returns-2
     (λ c. search anys))

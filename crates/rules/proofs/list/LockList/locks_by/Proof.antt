@@ -8,7 +8,7 @@ unfolding locksBy
 locks-by-spec =
     tie.close
     (tie.spec
-    -- kinds-by-requires src/list.rt:222:9
+    -- kinds-by-requires
     (λ c κs. search needs)
-    -- returns src/list.rt:219:5
+    -- returns
     (λ c. search needs))

@@ -8,11 +8,11 @@ pub mode-at-spec : {M : Type 1} → statement M
 mode-at-spec =
     tie.close
     (tie.spec
-    -- mul-result src/list.rt:112:20
+    -- mul-result
     (λ c. search needs)
-    -- element-copy-out-result src/list.rt:112:13
+    -- element-copy-out-result
     (λ c. search needs)
-    -- returns src/list.rt:112:13
+    -- returns
     (λ c. search needs)
-    -- returns-2 src/list.rt:108:5
+    -- returns-2
     (λ c. search (needs, length-mapped, past-mode)))

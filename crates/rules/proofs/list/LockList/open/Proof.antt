@@ -8,9 +8,9 @@ unfolding opened
 open-spec =
     tie.close
     (tie.spec
-    -- open-requires src/list.rt:96:20
+    -- open-requires
     (λ c κs. search needs)
-    -- place-requires src/list.rt:96:9
+    -- place-requires
     (λ c κs. search needs)
-    -- returns src/list.rt:92:5
+    -- returns
     (λ c. cc))

@@ -18,21 +18,21 @@ unfolding openOf opensNameAt
 open-of-spec =
     tie.close
     (tie.spec Inv-loop μ-loop
-    -- loop-holds src/list.rt:123:9
+    -- loop-holds
     (λ c. search lowests)
-    -- mul-it src/list.rt:124:22
+    -- mul-it
     (λ c. search lowests)
-    -- element-copy-out-it src/list.rt:124:22
+    -- element-copy-out-it
     (λ c. search lowests)
-    -- opens-name-requires src/list.rt:125:16
+    -- opens-name-requires
     (λ c κs. search lowests)
-    -- returns src/list.rt:126:17
+    -- returns
     (λ c. search lowests)
-    -- add-i src/list.rt:128:13
+    -- add-i
     (λ c. search lowests)
-    -- loop-less src/list.rt:123:9
+    -- loop-less
     (λ c. search lowests)
-    -- loop-again src/list.rt:123:9
+    -- loop-again
     (λ c. search lowests)
-    -- returns-2 src/list.rt:118:5
+    -- returns-2
     (λ c. search lowests))

@@ -8,7 +8,7 @@ unfolding opensBy
 opens-by-spec =
     tie.close
     (tie.spec
-    -- kinds-by-requires src/list.rt:215:9
+    -- kinds-by-requires
     (λ c κs. search needs)
-    -- returns src/list.rt:212:5
+    -- returns
     (λ c. search needs))

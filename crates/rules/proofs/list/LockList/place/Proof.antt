@@ -7,13 +7,13 @@ pub place-spec : {M : Type 1} → statement M
 place-spec =
     tie.close
     (tie.spec
-    -- free-place-requires src/list.rt:83:13
+    -- free-place-requires
     (λ c κs. search needs)
-    -- mul-it src/list.rt:85:13
+    -- mul-it
     (λ c. search needs)
-    -- element-set-from-it src/list.rt:85:13
+    -- element-set-from-it
     (λ c. search needs)
-    -- returns src/list.rt:86:13
+    -- returns
     (λ c. search placings)
-    -- returns-2 src/list.rt:80:5
+    -- returns-2
     (λ c. search placings))

@@ -15,23 +15,23 @@ unfolding terminated
 terminate-spec =
     tie.close
     (tie.spec Inv-loop μ-loop
-    -- loop-holds src/list.rt:53:9
+    -- loop-holds
     (λ c. search gones)
-    -- mul-it src/list.rt:54:22
+    -- mul-it
     (λ c. search gones)
-    -- element-copy-out-it src/list.rt:54:22
+    -- element-copy-out-it
     (λ c. search gones)
-    -- unless-by-requires src/list.rt:55:29
+    -- unless-by-requires
     (λ c κs. search gones)
-    -- mul-t7 src/list.rt:55:13
+    -- mul-t7
     (λ c. search gones)
-    -- element-set-from-self src/list.rt:55:13
+    -- element-set-from-self
     (λ c. search gones)
-    -- add-i src/list.rt:56:13
+    -- add-i
     (λ c. search gones)
-    -- loop-less src/list.rt:53:9
+    -- loop-less
     (λ c. search gones)
-    -- loop-again src/list.rt:53:9
+    -- loop-again
     (λ c. search gones)
-    -- returns src/list.rt:49:5
+    -- returns
     (λ c. search gones))

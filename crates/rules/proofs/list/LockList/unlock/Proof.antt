@@ -15,23 +15,23 @@ unfolding unlockedRun
 unlock-spec =
     tie.close
     (tie.spec Inv-loop μ-loop
-    -- loop-holds src/list.rt:40:9
+    -- loop-holds
     (λ c. search gones)
-    -- mul-it src/list.rt:41:22
+    -- mul-it
     (λ c. search gones)
-    -- element-copy-out-it src/list.rt:41:22
+    -- element-copy-out-it
     (λ c. search gones)
-    -- unless-in-run-requires src/list.rt:42:29
+    -- unless-in-run-requires
     (λ c κs. search gones)
-    -- mul-t10 src/list.rt:42:13
+    -- mul-t10
     (λ c. search gones)
-    -- element-set-from-self src/list.rt:42:13
+    -- element-set-from-self
     (λ c. search gones)
-    -- add-i src/list.rt:43:13
+    -- add-i
     (λ c. search gones)
-    -- loop-less src/list.rt:40:9
+    -- loop-less
     (λ c. search gones)
-    -- loop-again src/list.rt:40:9
+    -- loop-again
     (λ c. search gones)
-    -- returns src/list.rt:36:5
+    -- returns
     (λ c. search gones))
