@@ -1,5 +1,7 @@
 /* The thirteen calls in plain C: the checks and the work of the engine, step by step the same, as one would write them
-   by hand. Structs are passed by address. A run of records has its checks made once and each extent found once. */
+   by hand. Structs are passed by address. A run of records has its checks made once and each extent found once.
+   It is compiled once for each kind of drive, KIND being SMALL or LARGE, so that the sizes are constants.
+   plain_call.c has the choice. */
 #include "plain.h"
 
 #include <stdbool.h>
@@ -7,8 +9,14 @@
 
 #include "mpm.h"
 
-enum { ENTRIES = 64, ENTRY = 32, MAP = 16, PLACES = 64, PLACE = 20, HEAD = 19, NAME = 11, LAST_RECORD = 262143 };
-enum { EMPTY, OPEN, LOCK, NO_MARK }; /* the kinds of a place */
+#define JOINED(kind, what) MPM_##kind##_##what
+#define OF(kind, what) JOINED(kind, what)
+
+enum { ENTRIES = OF(KIND, ENTRIES), MAP = OF(KIND, NUMBERS), WIDTH = OF(KIND, NUMBER_LEN) };
+enum { BLOCK = OF(KIND, BLOCK_LEN), BLOCK_RECORDS = OF(KIND, BLOCK_RECORDS) };
+enum { MIN_BLOCKS = OF(KIND, MIN_BLOCKS), MAX_BLOCKS = OF(KIND, MAX_BLOCKS) };
+enum { ENTRY = 32, MAP_AT = 16, PLACES = 64, PLACE = 20, HEAD = 19, NAME = 11, LAST_RECORD = 262143 };
+enum { EMPTY, OPEN, LOCK, NO_MARK }; /* what a place holds */
 enum { LOCKED, UNLOCKED, READ_ONLY };
 
 struct file {
@@ -88,6 +96,19 @@ static uint8_t *entry_at(const struct drive *d, size_t e) { return d->bytes + EN
 
 static unsigned extent_at(const uint8_t *entry) { return entry[12] + 32u * entry[14]; }
 
+/* The block number k of an entry: one byte, or two with the low one first. */
+static size_t number_at(const uint8_t *entry, size_t k) {
+    const uint8_t *at = entry + MAP_AT + WIDTH * k;
+    return WIDTH == 1 ? at[0] : at[0] + 256u * at[1];
+}
+
+static void set_number(uint8_t *entry, size_t k, size_t block) {
+    for (size_t i = 0; i < WIDTH; i++) entry[MAP_AT + WIDTH * k + i] = (uint8_t)(block >> (8 * i));
+}
+
+/* Which number of its extent's entry names a record's block. */
+static size_t number_of(uint32_t record) { return record % 128 / BLOCK_RECORDS; }
+
 static bool is_of(const uint8_t *entry, const struct file *f) {
     return entry[0] != MPM_EMPTY && entry[0] == f->user && is_named(entry + 1, f->name);
 }
@@ -115,24 +136,24 @@ static size_t free_entry(const struct drive *d) {
 }
 
 static size_t block_in(const struct drive *d, size_t e, uint32_t record) {
-    return e < ENTRIES ? entry_at(d, e)[16 + record % 128 / 8] : 0;
+    return e < ENTRIES ? number_at(entry_at(d, e), number_of(record)) : 0;
 }
 
 static size_t block_of(const struct drive *d, const struct file *f, uint32_t record) {
     return block_in(d, entry_of(d, f, record / 128), record);
 }
 
-static void mark_used(const struct drive *d, bool used[256]) {
-    memset(used, 0, 256);
+static void mark_used(const struct drive *d, bool used[MAX_BLOCKS]) {
+    memset(used, 0, MAX_BLOCKS);
     for (size_t e = 0; e < ENTRIES; e++) {
         const uint8_t *entry = entry_at(d, e);
         if (entry[0] == MPM_EMPTY) continue;
-        for (size_t k = 0; k < MAP; k++) used[entry[16 + k]] = true;
+        for (size_t k = 0; k < MAP; k++) used[number_at(entry, k)] = true;
     }
 }
 
 static size_t free_block(const struct drive *d) {
-    bool used[256];
+    bool used[MAX_BLOCKS];
     mark_used(d, used);
     size_t b = 2;
     while (b < d->blocks && used[b]) b++;
@@ -140,7 +161,7 @@ static size_t free_block(const struct drive *d) {
 }
 
 static size_t free_blocks(const struct drive *d) {
-    bool used[256];
+    bool used[MAX_BLOCKS];
     mark_used(d, used);
     size_t free = 0;
     for (size_t b = 2; b < d->blocks; b++) free += !used[b];
@@ -155,15 +176,15 @@ static bool good_fields(const uint8_t *entry) {
 
 static bool all_in_range(const uint8_t *entry, size_t blocks) {
     for (size_t k = 0; k < MAP; k++) {
-        uint8_t b = entry[16 + k];
+        size_t b = number_at(entry, k);
         if (b != 0 && (b < 2 || b >= blocks)) return false;
     }
     return true;
 }
 
-static bool mark_entry(const uint8_t *entry, bool seen[256]) {
+static bool mark_entry(const uint8_t *entry, bool seen[MAX_BLOCKS]) {
     for (size_t k = 0; k < MAP; k++) {
-        uint8_t b = entry[16 + k];
+        size_t b = number_at(entry, k);
         if (b == 0) continue;
         if (seen[b]) return false;
         seen[b] = true;
@@ -171,7 +192,7 @@ static bool mark_entry(const uint8_t *entry, bool seen[256]) {
     return true;
 }
 
-static bool good_entry(const struct drive *d, size_t e, bool seen[256]) {
+static bool good_entry(const struct drive *d, size_t e, bool seen[MAX_BLOCKS]) {
     const uint8_t *entry = entry_at(d, e);
     if (entry[0] == MPM_EMPTY) return true;
     if (!good_fields(entry) || !all_in_range(entry, d->blocks) || !mark_entry(entry, seen)) return false;
@@ -186,10 +207,12 @@ static bool is_begun(const struct drive *d, size_t e) {
     return any_entry(d, &f, 0, ENTRIES);
 }
 
-static bool good_length(size_t len) { return len % 1024 == 0 && len / 1024 >= 3 && len / 1024 <= 256; }
+static bool good_length(size_t len) {
+    return len % BLOCK == 0 && len / BLOCK >= MIN_BLOCKS && len / BLOCK <= MAX_BLOCKS;
+}
 
 static bool sound_directory(const struct drive *d) {
-    bool seen[256] = {false};
+    bool seen[MAX_BLOCKS] = {false};
     for (size_t e = 0; e < ENTRIES; e++)
         if (!good_entry(d, e, seen)) return false;
     for (size_t e = 0; e < ENTRIES; e++)
@@ -516,7 +539,7 @@ static uint32_t rename_file(struct job *j) {
 static uint32_t record_of(const struct job *j) { return j->fcb[33] + 256u * j->fcb[34] + 65536u * j->fcb[35]; }
 
 static uint8_t *record_at(const struct job *j, size_t block, uint32_t record) {
-    return j->drive.bytes + 1024 * block + 128 * (record % 8);
+    return j->drive.bytes + BLOCK * block + MPM_RECORD_LEN * (record % BLOCK_RECORDS);
 }
 
 /* The answer where a record was refused after so many. */
@@ -578,9 +601,9 @@ static void fill_spot(const struct job *j, const struct spot *w, size_t first, u
         entry[12] = (uint8_t)(record / 128 % 32);
         entry[14] = (uint8_t)(record / 128 / 32);
     }
-    if (w->taken) entry[16 + record % 128 / 8] = (uint8_t)w->block;
+    if (w->taken) set_number(entry, number_of(record), w->block);
     raise_count(entry, record);
-    if (zeros && w->taken) memset(j->drive.bytes + 1024 * w->block, 0, 1024);
+    if (zeros && w->taken) memset(j->drive.bytes + BLOCK * w->block, 0, BLOCK);
 }
 
 /* Writes a record that nobody else has locked. *e is its extent's entry, afterwards also where it took a new one. */
@@ -629,7 +652,7 @@ static uint32_t test_write(struct job *j) {
 }
 
 static uint32_t free_space(struct job *j) {
-    size_t records = 8 * free_blocks(&j->drive);
+    size_t records = BLOCK_RECORDS * free_blocks(&j->drive);
     j->dma[0] = (uint8_t)records;
     j->dma[1] = (uint8_t)(records >> 8);
     j->dma[2] = (uint8_t)(records >> 16);
@@ -758,13 +781,15 @@ static uint32_t serve(uint32_t function, struct job *j) {
     }
 }
 
-uint32_t plain_call(uint32_t function, uint32_t process, uint32_t count,
-                    uint8_t *fcb, size_t fcb_len, uint8_t *dma, size_t dma_len,
-                    uint8_t *list, size_t list_len, uint8_t *image, size_t image_len) {
+#define CALL_OF(kind) plain_call_##kind
+#define CALL(kind) CALL_OF(kind)
+
+uint32_t CALL(KIND)(uint32_t function, uint32_t process, uint32_t count, uint8_t *fcb, size_t fcb_len, uint8_t *dma,
+                    size_t dma_len, uint8_t *list, size_t list_len, uint8_t *image, size_t image_len) {
     if (!is_known(function) || process > 15 || count < 1 || count > 16) return MPM_BAD_CALL;
     if (fcb_len != MPM_FCB_LEN || dma_len != MPM_DMA_LEN || list_len != MPM_LIST_LEN) return MPM_BAD_CALL;
     struct job j;
-    j.drive = (struct drive){image, image_len / 1024};
+    j.drive = (struct drive){image, image_len / BLOCK};
     if (!good_length(image_len) || !sound_directory(&j.drive)) return MPM_BAD_IMAGE;
     if (!all_zero(list)) return MPM_BAD_LIST;
     unpack(&j.locks, list);

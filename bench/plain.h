@@ -6,8 +6,16 @@
 #include <stdint.h>
 
 /* As mpm_call. */
-uint32_t plain_call(uint32_t function, uint32_t process, uint32_t count,
+uint32_t plain_call(uint32_t kind, uint32_t function, uint32_t process, uint32_t count,
                     uint8_t *fcb, size_t fcb_len, uint8_t *dma, size_t dma_len,
                     uint8_t *list, size_t list_len, uint8_t *image, size_t image_len);
+
+/* The same on a drive of the one kind. */
+uint32_t plain_call_SMALL(uint32_t function, uint32_t process, uint32_t count,
+                          uint8_t *fcb, size_t fcb_len, uint8_t *dma, size_t dma_len,
+                          uint8_t *list, size_t list_len, uint8_t *image, size_t image_len);
+uint32_t plain_call_LARGE(uint32_t function, uint32_t process, uint32_t count,
+                          uint8_t *fcb, size_t fcb_len, uint8_t *dma, size_t dma_len,
+                          uint8_t *list, size_t list_len, uint8_t *image, size_t image_len);
 
 #endif

@@ -1,41 +1,63 @@
 #!/usr/bin/env bash
 # run.sh [--docs] [ROUNDS]: times the engine, its plain C version and the reference, all built for this machine's own
-# processor, on the same books in one run; then calls for several records, beside the engine's single calls. Writes
+# processor, on the same books in one run, on both kinds of drive; and calls for several records, beside the engine's
+# single calls. Writes
 # figures.md, rows.csv, plot.svg, several.csv and several.svg to target/bench and prints the summary.
 # --docs: puts the figures into docs/PERFORMANCE.md, the plots and all rows beside it.
 # run.sh --agree: times nothing, only compares what the three and the engine's single calls answer and leave.
 # run.sh --before ARCHIVE [ROUNDS]: times the engine of the archive, which native.sh has made at an earlier commit, and
 # this tree's, taking turns in one run: the image check alone and the calls, with their stack. First the two have to
 # answer and leave the same. Writes before.md and, with every call, before.csv to target/bench and prints the former.
+# What parameters the archive's functions have is told by the mpm.h that native.sh has left beside it; where there is
+# none, they are those of version 2, with one kind of drive. Then the small kind alone is timed.
 set -euo pipefail
 here=$(cd "$(dirname "${BASH_SOURCE[0]}")" && pwd -P)
 # shellcheck source=../host/kit.sh
 . "$here/../host/kit.sh"
 work=$root/target/bench
 docs=$root/docs/PERFORMANCE.md
-objects=$native:$work/plain.o:$work/stack.o
+objects=$native:$work/plain-small.o:$work/plain-large.o:$work/plain.o:$work/stack.o
+
+plain_clang() { # WORDS..
+    "$own/toolchain/bin/clang" --target="$(uname -m)-unknown-linux-gnu" --no-default-config -nostdinc \
+        -isystem "$root/host/libc" -I "$root/include" -std=c99 -O3 -fPIC "${warnings[@]}" "$@"
+}
 
 build() { # CARGO'S WORDS..
     make_native
     mkdir -p "$work"
-    "$own/toolchain/bin/clang" --target="$(uname -m)-unknown-linux-gnu" --no-default-config -nostdinc \
-        -isystem "$root/host/libc" -I "$root/include" -std=c99 -O3 -fPIC "${warnings[@]}" \
-        -c "$here/plain.c" -o "$work/plain.o"
+    plain_clang -DKIND=SMALL -c "$here/plain.c" -o "$work/plain-small.o"
+    plain_clang -DKIND=LARGE -c "$here/plain.c" -o "$work/plain-large.o"
+    plain_clang -c "$here/plain_call.c" -o "$work/plain.o"
     "${CC:-cc}" -std=c99 -O2 -fPIC "${warnings[@]}" -c "$here/stack.c" -o "$work/stack.o"
     MPM_ARCHIVE=$native MPM_OBJECTS=$objects \
         cargo build --quiet --release --offline -j2 --manifest-path "$here/Cargo.toml" --target-dir "$work/cargo" "$@"
 }
 
+# The version in the header that lies beside an archive. Those from before it was left there are of version 2.
+version_of() { # ARCHIVE
+    local header=${1%.a}.h
+    if [ ! -f "$header" ]; then
+        echo 2
+        return
+    fi
+    sed -n 's/^#define MPM_VERSION \([0-9]*\)u$/\1/p' "$header"
+}
+
 # make_object ARCHIVE NAME: an archive's engine as the object NAME.o, whose functions begin with NAME_ instead of mpm_ and
-# which shows nothing else. Each function is put at a multiple of 64: the same code lying otherwise to the processor's
-# lines can take a tenth more.
+# have today's parameters (before.c). Each function is put at a multiple of 64: the same code lying otherwise to the
+# processor's lines can take a tenth more.
 make_object() {
-    local name words=()
-    for name in call check look singly start; do words+=(--redefine-sym "mpm_$name=$2_$name"); done
+    local name version words=()
+    for name in call check look singly start; do words+=(--redefine-sym "mpm_$name=$2_own_$name"); done
+    version=$(version_of "$1")
     mkdir -p "$work"
     ld -r --whole-archive "$1" -o "$work/whole.o"
     objcopy --wildcard --keep-global-symbol 'mpm_*' --set-section-alignment '.text*=64' "$work/whole.o"
-    objcopy "${words[@]}" "$work/whole.o" "$work/$2.o"
+    objcopy "${words[@]}" "$work/whole.o" "$work/own.o"
+    "${CC:-cc}" -std=c99 -O2 -fPIC -falign-functions=64 "${warnings[@]}" -DNAME="$2" -DVERSION="$version" \
+        -c "$here/before.c" -o "$work/outer.o"
+    ld -r "$work/own.o" "$work/outer.o" -o "$work/$2.o"
 }
 
 # The archive is read before this tree's own is made: it may be that one, as an earlier commit has left it.
@@ -53,7 +75,12 @@ compare() { # ARCHIVE [ROUNDS]
     exec "$work/cargo/release/bench" --before "$work" "$@"
 }
 
-processor() { sed -n 's/^model name[^:]*: //p' /proc/cpuinfo | head -n 1; }
+# The processor's name. Not every kind of machine has it in /proc/cpuinfo.
+processor() {
+    local name
+    name=$(lscpu | sed -n 's/^Model name: *//p' | head -n 1)
+    echo "${name:-a processor without a name}"
+}
 
 code_size() { size "$1" | awk 'NR > 1 { sum += $1 } END { print sum }'; }
 

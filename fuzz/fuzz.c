@@ -1,7 +1,8 @@
 /* The fuzz test of the engine, for libFuzzer: plays the steps of an input (steps.h) and holds every call against the
    rules, against the plain C version and against single calls. The first thing that is wrong ends it with a line that
    says what.
-   At the end it prints which pairs of function and answer were met. With FUZZ_TELL set it prints every call. */
+   At the end it prints which pairs of function and answer were met with each kind of drive. With FUZZ_TELL set it
+   prints every call. */
 #include <stdbool.h>
 #include <stdio.h>
 #include <stdlib.h>
@@ -11,8 +12,9 @@
 #include "plain.h"
 #include "steps.h"
 
-typedef uint32_t engine(uint32_t function, uint32_t process, uint32_t count, uint8_t *fcb, size_t fcb_len, uint8_t *dma,
-                        size_t dma_len, uint8_t *list, size_t list_len, uint8_t *image, size_t image_len);
+typedef uint32_t engine(uint32_t kind, uint32_t function, uint32_t process, uint32_t count, uint8_t *fcb,
+                        size_t fcb_len, uint8_t *dma, size_t dma_len, uint8_t *list, size_t list_len, uint8_t *image,
+                        size_t image_len);
 
 struct buffer {
     uint8_t *memory; /* where the length is 0, one byte, and `bytes` is its end: AddressSanitizer sees every access */
@@ -25,12 +27,13 @@ struct state {
 };
 
 struct call {
-    uint32_t function, process, count, answer;
+    uint32_t kind, function, process, count, answer;
 };
 
 /* ---- What the rules allow ---- */
 
 enum { ANSWERS = 16, CHANGES = 4, AFTER_SOME = 1 << 16 };
+enum { DIRECTORY_END = 1 << 30 }; /* stands for the end of the directory, which depends on the kind */
 
 struct rule {
     uint32_t function;
@@ -52,8 +55,8 @@ struct rule {
         AFTER(MPM_DISK_FULL)
 #define PLACES {LIST, MPM_LIST_PLACES, MPM_LIST_LEN}
 #define OPENED {FCB, 12, 32}, {FCB, MPM_FCB_RECORD, MPM_FCB_LEN}, PLACES
-#define DIRECTORY {IMAGE, 0, MPM_DIRECTORY_BLOCKS * MPM_BLOCK_LEN}
-#define DRIVE {IMAGE, 0, MPM_MAX_BLOCKS * MPM_BLOCK_LEN}
+#define DIRECTORY {IMAGE, 0, DIRECTORY_END}
+#define DRIVE {IMAGE, 0, MPM_LARGE_MAX_BLOCKS * MPM_LARGE_BLOCK_LEN}
 
 static const struct rule rules[] = {
     {MPM_OPEN, {ALL, MPM_BAD_NAME, MPM_NOT_FOUND, MPM_IN_USE, MPM_OPEN_LIMIT, MPM_OPEN_LIST_FULL}, {OPENED}},
@@ -96,41 +99,73 @@ static uint32_t ruled(const struct call *c) {
     return AFTER(mpm_code(c->answer));
 }
 
+static size_t end_of(size_t to, uint32_t kind) {
+    return to == DIRECTORY_END ? MPM_DIRECTORY_BLOCKS * mpm_block_len(kind) : to;
+}
+
 static bool may_change(const struct call *c, int buffer, size_t i) {
     const struct rule *rule = rule_of(c->function);
     if (c->function == MPM_READ && i >= MPM_DMA_AT(done_by(c))) return false;
     for (size_t k = 0; k < CHANGES; k++)
-        if (rule->changes[k].buffer == buffer && i >= rule->changes[k].from && i < rule->changes[k].to) return true;
+        if (rule->changes[k].buffer == buffer && i >= rule->changes[k].from &&
+            i < end_of(rule->changes[k].to, c->kind))
+            return true;
     return false;
 }
 
 /* ---- What was met ---- */
 
-static unsigned long calls, accepted, in_part, met[RULES][ANSWERS];
+/* Calls of each kind of drive, and those of unknown kinds behind them. */
+static unsigned long calls[MPM_KINDS + 1], accepted[MPM_KINDS + 1], in_part[MPM_KINDS + 1];
+static unsigned long met[MPM_KINDS][RULES][ANSWERS];
 static bool telling;
 
 /* The pairs that this input met: libFuzzer keeps an input that meets a new one. */
-static uint8_t pairs_met[RULES][ANSWERS] __attribute__((section("__libfuzzer_extra_counters")));
+static uint8_t pairs_met[MPM_KINDS][RULES][ANSWERS] __attribute__((section("__libfuzzer_extra_counters")));
 
-static void print_met(void) {
+static const char *kind_name(size_t kind) {
+    static const char *const names[] = {"small drive", "large drive"};
+    return kind < MPM_KINDS ? names[kind] : "unknown kind";
+}
+
+static void print_met_by(size_t kind) {
     unsigned pairs = 0, seen = 0;
     for (size_t i = 0; i < RULES; i++)
         for (size_t k = 0; k < ANSWERS && (k == 0 || rules[i].answers[k] != 0); k++) {
             uint32_t answer = rules[i].answers[k];
             pairs++;
-            seen += met[i][k] != 0;
-            if (met[i][k] == 0)
-                printf("not met: %u with %u/%u%s\n", rules[i].function, mpm_a(answer % AFTER_SOME),
-                       mpm_h(answer % AFTER_SOME), answer < AFTER_SOME ? "" : " after some records");
+            seen += met[kind][i][k] != 0;
+            if (met[kind][i][k] == 0)
+                printf("not met: %s, %u with %u/%u%s\n", kind_name(kind), rules[i].function,
+                       mpm_a(answer % AFTER_SOME), mpm_h(answer % AFTER_SOME),
+                       answer < AFTER_SOME ? "" : " after some records");
         }
-    printf("met: %lu calls, %lu accepted, %lu done in part, %u of %u pairs of function and answer\n", calls, accepted,
-           in_part, seen, pairs);
+    printf("met: %s: %lu calls, %lu accepted, %lu done in part, %u of %u pairs of function and answer\n",
+           kind_name(kind), calls[kind], accepted[kind], in_part[kind], seen, pairs);
+}
+
+static void print_met(void) {
+    for (size_t kind = 0; kind < MPM_KINDS; kind++) print_met_by(kind);
+    printf("met: %s: %lu calls\n", kind_name(MPM_KINDS), calls[MPM_KINDS]);
+}
+
+static void count_call(const struct call *c, uint32_t done) {
+    size_t kind = c->kind < MPM_KINDS ? c->kind : MPM_KINDS;
+    calls[kind]++;
+    accepted[kind] += c->answer == MPM_OK;
+    in_part[kind] += c->answer != MPM_OK && done > 0;
+}
+
+static void count_pair(const struct call *c, size_t rule, size_t answer) {
+    if (c->kind >= MPM_KINDS) return;
+    met[c->kind][rule][answer]++;
+    pairs_met[c->kind][rule][answer] = 1;
 }
 
 static void want(bool good, const struct call *call, const char *what) {
     if (good) return;
-    fprintf(stderr, "WRONG: function %u, process %u, count %u, answer %u/%u: %s\n", call->function, call->process,
-            call->count, mpm_a(call->answer), mpm_h(call->answer), what);
+    fprintf(stderr, "WRONG: kind %u, function %u, process %u, count %u, answer %u/%u: %s\n", call->kind,
+            call->function, call->process, call->count, mpm_a(call->answer), mpm_h(call->answer), what);
     abort();
 }
 
@@ -159,13 +194,15 @@ static struct buffer part(const struct buffer *b, size_t from, size_t most) {
     return p;
 }
 
-static struct state copy_of(const struct state *s) {
-    struct state copy;
+/* The copies keep their memory from call to call while the lengths stay: a large drive has up to 8 MB. */
+static void copy_into(struct state *copy, const struct state *s) {
     for (int k = 0; k < BUFFERS; k++) {
-        copy.of[k] = new_buffer(s->of[k].length);
-        memcpy(copy.of[k].bytes, s->of[k].bytes, s->of[k].length);
+        if (copy->of[k].memory == NULL || copy->of[k].length != s->of[k].length) {
+            free(copy->of[k].memory);
+            copy->of[k] = new_buffer(s->of[k].length);
+        }
+        memcpy(copy->of[k].bytes, s->of[k].bytes, s->of[k].length);
     }
-    return copy;
 }
 
 static void release(struct state *s) {
@@ -184,15 +221,16 @@ static bool same_state(const struct state *a, const struct state *b) {
 
 static uint32_t run(engine *e, const struct call *c, struct state *s) {
     struct buffer *b = s->of;
-    return e(c->function, c->process, c->count, b[FCB].bytes, b[FCB].length, b[DMA].bytes, b[DMA].length,
+    return e(c->kind, c->function, c->process, c->count, b[FCB].bytes, b[FCB].length, b[DMA].bytes, b[DMA].length,
              b[LIST].bytes, b[LIST].length, b[IMAGE].bytes, b[IMAGE].length);
 }
 
 /* ---- The checks of a call ---- */
 
 static bool bad_call(const struct call *c, const struct state *s) {
-    return rule_of(c->function) == NULL || c->process >= MPM_PROCESSES || c->count < 1 || c->count > MPM_MAX_COUNT ||
-           s->of[FCB].length != MPM_FCB_LEN || s->of[DMA].length != MPM_DMA_LEN || s->of[LIST].length != MPM_LIST_LEN;
+    return c->kind >= MPM_KINDS || rule_of(c->function) == NULL || c->process >= MPM_PROCESSES || c->count < 1 ||
+           c->count > MPM_MAX_COUNT || s->of[FCB].length != MPM_FCB_LEN || s->of[DMA].length != MPM_DMA_LEN ||
+           s->of[LIST].length != MPM_LIST_LEN;
 }
 
 static void check_answer(const struct call *c, const struct state *before) {
@@ -204,18 +242,35 @@ static void check_answer(const struct call *c, const struct state *before) {
     while (k < ANSWERS && rule->answers[k] != ruled(c)) k++;
     want(k < ANSWERS, c, "the function does not have this answer");
     want(c->answer == MPM_OK || done_by(c) < c->count || bad, c, "more records done than can be");
-    met[rule - rules][k]++;
-    pairs_met[rule - rules][k] = 1;
+    count_pair(c, (size_t)(rule - rules), k);
+}
+
+static uint32_t other_kind(uint32_t kind) { return kind == MPM_KIND_SMALL ? MPM_KIND_LARGE : MPM_KIND_SMALL; }
+
+/* The image check of the told kind and of another: wrong length exactly where the kind has no such drive. */
+static uint32_t check_kind(const struct call *c, uint32_t kind, const struct buffer *image) {
+    bool whole = mpm_blocks(kind, image->length) != 0;
+    uint32_t check = mpm_check(kind, image->bytes, image->length);
+    want(whole ? check == MPM_SOUND || check == MPM_UNSOUND : check == MPM_WRONG_LENGTH, c, "the image check is wrong");
+    return check;
 }
 
 static void check_image(const struct call *c, const struct state *before) {
     const struct buffer *image = &before->of[IMAGE];
-    size_t blocks = image->length / MPM_BLOCK_LEN;
-    bool whole = image->length % MPM_BLOCK_LEN == 0 && blocks >= MPM_MIN_BLOCKS && blocks <= MPM_MAX_BLOCKS;
-    uint32_t check = mpm_check(image->bytes, image->length);
-    want(whole ? check == MPM_SOUND || check == MPM_UNSOUND : check == MPM_WRONG_LENGTH, c, "the image check is wrong");
+    uint32_t check = check_kind(c, c->kind, image), other = check_kind(c, other_kind(c->kind), image);
+    want(check == MPM_WRONG_LENGTH || other == MPM_WRONG_LENGTH, c, "an image is one of both kinds");
     if (c->answer == MPM_BAD_CALL) return;
     want((c->answer == MPM_BAD_IMAGE) == (check != MPM_SOUND), c, "the image check says otherwise");
+}
+
+/* At most so many bytes as a record has: most of a long image is the same. */
+static void check_part(const struct call *c, int buffer, const struct buffer *old, const struct buffer *new,
+                       size_t from) {
+    struct buffer was = part(old, from, MPM_RECORD_LEN), is = part(new, from, MPM_RECORD_LEN);
+    if (same_bytes(&was, &is)) return;
+    for (size_t i = 0; i < was.length; i++)
+        want(was.bytes[i] == is.bytes[i] || may_change(c, buffer, from + i), c,
+             "a byte changed that is not the call's");
 }
 
 static void check_changes(const struct call *c, const struct state *before, const struct state *after) {
@@ -223,18 +278,16 @@ static void check_changes(const struct call *c, const struct state *before, cons
         const struct buffer *old = &before->of[k], *new = &after->of[k];
         if (same_bytes(old, new)) continue;
         want(done_by(c) > 0, c, "a refusal changed a buffer");
-        for (size_t i = 0; i < old->length; i++)
-            want(old->bytes[i] == new->bytes[i] || may_change(c, k, i), c, "a byte changed that is not the call's");
+        for (size_t from = 0; from < old->length; from += MPM_RECORD_LEN) check_part(c, k, old, new, from);
     }
 }
 
-static void check_sound(const struct call *c, const struct state *after) {
-    const struct call free_space = {MPM_FREE_SPACE, 0, 1, 0};
+static void check_sound(const struct call *c, struct state *copy, const struct state *after) {
+    const struct call free_space = {c->kind, MPM_FREE_SPACE, 0, 1, 0};
     const struct buffer *image = &after->of[IMAGE];
-    struct state copy = copy_of(after);
-    want(mpm_check(image->bytes, image->length) == MPM_SOUND, c, "the image is not sound afterwards");
-    want(run(mpm_call, &free_space, &copy) == MPM_OK, c, "the list is not sound afterwards");
-    release(&copy);
+    copy_into(copy, after);
+    want(mpm_check(c->kind, image->bytes, image->length) == MPM_SOUND, c, "the image is not sound afterwards");
+    want(run(mpm_call, &free_space, copy) == MPM_OK, c, "the list is not sound afterwards");
 }
 
 /* Where Look shows the record at distance i from the FCB's: nowhere, or as a record inside the image. */
@@ -245,10 +298,11 @@ static uint32_t look(const struct call *c, const struct state *s, uint32_t i) {
     struct buffer user = part(&s->of[LIST], MPM_LIST_USERS + c->process, 1);
     uint32_t record = c->count;
     if (number.length == 3) record = number.bytes[0] + 256u * number.bytes[1] + 65536u * number.bytes[2];
-    uint32_t at = mpm_look(user.length == 1 ? user.bytes[0] : c->process, name.bytes, name.length, record + i,
+    uint32_t at = mpm_look(c->kind, user.length == 1 ? user.bytes[0] : c->process, name.bytes, name.length, record + i,
                            image->bytes, image->length);
-    bool inside = at >= MPM_DIRECTORY_BLOCKS * MPM_BLOCK_LEN && (size_t)at + MPM_RECORD_LEN <= image->length;
-    want(at == 0 || (inside && at % MPM_RECORD_LEN == 0), c, "Look shows something that is no record");
+    bool whole = mpm_blocks(c->kind, image->length) != 0;
+    bool inside = at >= MPM_DIRECTORY_BLOCKS * mpm_block_len(c->kind) && (size_t)at + MPM_RECORD_LEN <= image->length;
+    want(at == 0 || (whole && inside && at % MPM_RECORD_LEN == 0), c, "Look shows something that is no record");
     return at;
 }
 
@@ -269,7 +323,7 @@ static void check_start(const struct call *c, const struct state *s) {
     const uint32_t numbers[] = {c->function, c->process, c->count};
     struct buffer users = part(&s->of[LIST], MPM_LIST_USERS, MPM_USERS_LEN);
     struct buffer list = new_buffer(s->of[LIST].length), due = new_buffer(list.length);
-    bool good = list.length == MPM_LIST_LEN;
+    bool good = c->kind < MPM_KINDS && list.length == MPM_LIST_LEN;
     for (size_t i = 0; i < 3; i++) good = good && numbers[i] >= 1 && numbers[i] <= MPM_PLACES;
     for (size_t i = 0; i < users.length; i++) good = good && users.bytes[i] < MPM_USERS;
     memset(list.bytes, 0xA5, list.length);
@@ -277,18 +331,18 @@ static void check_start(const struct call *c, const struct state *s) {
     for (size_t i = 0; good && i < 3; i++) due.bytes[i] = (uint8_t)numbers[i];
     if (good) memcpy(due.bytes + MPM_LIST_USERS, users.bytes, users.length);
     uint32_t answer =
-        mpm_start(numbers[0], numbers[1], numbers[2], users.bytes, users.length, list.bytes, list.length);
+        mpm_start(c->kind, numbers[0], numbers[1], numbers[2], users.bytes, users.length, list.bytes, list.length);
     want(answer == (good ? MPM_OK : MPM_BAD_CALL) && same_bytes(&list, &due), c, "Start does otherwise");
     free(list.memory);
     free(due.memory);
 }
 
-static void check_singly(const struct call *c, const struct state *before, const struct state *after) {
-    struct state copy = copy_of(before);
+static void check_singly(const struct call *c, struct state *copy, const struct state *before,
+                         const struct state *after) {
     uint32_t due = goes_by_records(c->function) ? mpm_code(c->answer) : c->answer;
-    want(run(mpm_singly, c, &copy) == due, c, "single calls answer otherwise");
-    want(same_state(&copy, after), c, "single calls leave other bytes");
-    release(&copy);
+    copy_into(copy, before);
+    want(run(mpm_singly, c, copy) == due, c, "single calls answer otherwise");
+    want(same_state(copy, after), c, "single calls leave other bytes");
 }
 
 static void check_plain(const struct call *c, struct state *before, const struct state *after) {
@@ -298,22 +352,22 @@ static void check_plain(const struct call *c, struct state *before, const struct
 }
 
 static void check_call(struct call *c, struct state *s) {
-    struct state before = copy_of(s);
-    if (telling) fprintf(stderr, "%u %u %u %lu", c->process, c->function, c->count, (unsigned long)s->of[IMAGE].length);
+    static struct state before, copy;
+    copy_into(&before, s);
+    if (telling)
+        fprintf(stderr, "%u %u %u %u %lu", c->kind, c->process, c->function, c->count,
+                (unsigned long)s->of[IMAGE].length);
     c->answer = run(mpm_call, c, s);
     if (telling) fprintf(stderr, " %u %u\n", mpm_a(c->answer), mpm_h(c->answer));
-    calls++;
-    accepted += c->answer == MPM_OK;
-    in_part += c->answer != MPM_OK && done_by(c) > 0;
+    count_call(c, done_by(c));
     check_answer(c, &before);
     check_image(c, &before);
     check_changes(c, &before, s);
-    if (done_by(c) > 0) check_sound(c, s);
+    if (done_by(c) > 0) check_sound(c, &copy, s);
     check_look(c, s);
     check_start(c, s);
-    check_singly(c, &before, s);
+    check_singly(c, &copy, &before, s);
     check_plain(c, &before, s);
-    release(&before);
 }
 
 /* ---- The steps ---- */
@@ -326,9 +380,15 @@ static void put(struct buffer *b, const uint8_t *bytes, size_t length) {
     memcpy(b->bytes, bytes, b->length < length ? b->length : length);
 }
 
-static void play_call(struct state *s, const uint8_t *step) {
+/* The kind that a call tells: the drive's unless its flags say otherwise. */
+static uint32_t told_kind(uint32_t drive, const uint8_t *step) {
+    if (step[1] & WILD_KIND) return step[2] + 256u * step[3];
+    return step[1] & OTHER_KIND ? other_kind(drive) : drive;
+}
+
+static void play_call(struct state *s, uint32_t drive, const uint8_t *step) {
     unsigned flags = step[1];
-    struct call c = {number_at(step + 4), number_at(step + 8), number_at(step + 12), 0};
+    struct call c = {told_kind(drive, step), number_at(step + 4), number_at(step + 8), number_at(step + 12), 0};
     if (!(flags & WILD_FUNCTION) && rule_of(c.function) == NULL) c.function = rules[c.function % RULES].function;
     if (!(flags & WILD_PROCESS)) c.process %= MPM_PROCESSES;
     if (!(flags & WILD_COUNT)) c.count = (c.count - 1) % MPM_MAX_COUNT + 1;
@@ -352,34 +412,46 @@ static void play_patch(struct state *s, const uint8_t *step) {
     } while (times-- > 1);
 }
 
-static void play_length(struct state *s, const uint8_t *step) {
+static size_t raw_length(uint32_t number, bool many, uint32_t kind) {
+    if (!many) return number % FEW_LENGTHS;
+    return number % mpm_of_kind(kind, MANY_SMALL_LENGTHS, MANY_LARGE_LENGTHS);
+}
+
+static size_t some_blocks(uint32_t number, bool many, uint32_t kind) {
+    if (many) return number % mpm_of_kind(kind, MANY_SMALL_BLOCKS, MANY_LARGE_BLOCKS);
+    return number % FEW_BLOCKS + mpm_of_kind(kind, 0, MPM_LARGE_MIN_BLOCKS);
+}
+
+static void play_length(struct state *s, uint32_t *drive, const uint8_t *step) {
     static const size_t exact[BUFFERS] = {MPM_FCB_LEN, MPM_DMA_LEN, MPM_LIST_LEN};
     int k = step[1] % BUFFERS;
-    size_t number = number_at(step + 4);
-    bool large = step[2] & LARGE;
+    uint32_t number = number_at(step + 4);
+    bool many = step[2] & MANY;
     size_t length = exact[k];
+    if (k == IMAGE) *drive = step[3] % MPM_KINDS;
     if (step[2] & RAW) {
-        length = number % (large ? LARGE_LENGTHS : SMALL_LENGTHS);
+        length = raw_length(number, many, *drive);
     } else if (k == IMAGE) {
-        length = number % (large ? LARGE_BLOCKS : SMALL_BLOCKS) * MPM_BLOCK_LEN;
+        length = some_blocks(number, many, *drive) * mpm_block_len(*drive);
     }
     set_length(&s->of[k], length, k == IMAGE ? (int)MPM_EMPTY : 0);
 }
 
-static void play(struct state *s, const uint8_t *step) {
-    unsigned kind = step[0] % 8;
-    if (kind == LENGTH) {
-        play_length(s, step);
-    } else if (kind < CALL) {
+/* `drive` is the kind that the image is meant as. */
+static void play(struct state *s, uint32_t *drive, const uint8_t *step) {
+    unsigned what = step[0] % 8;
+    if (what == LENGTH) {
+        play_length(s, drive, step);
+    } else if (what < CALL) {
         play_patch(s, step);
     } else {
-        play_call(s, step);
+        play_call(s, *drive, step);
     }
 }
 
 static struct state begin(void) {
     static const uint8_t head[] = {8, 4, 4};
-    static const size_t lengths[] = {MPM_FCB_LEN, MPM_DMA_LEN, MPM_LIST_LEN, 4 * MPM_BLOCK_LEN};
+    static const size_t lengths[] = {MPM_FCB_LEN, MPM_DMA_LEN, MPM_LIST_LEN, 4 * MPM_SMALL_BLOCK_LEN};
     struct state s;
     for (int k = 0; k < BUFFERS; k++) {
         s.of[k] = new_buffer(0);
@@ -400,11 +472,12 @@ int LLVMFuzzerInitialize(int *argc, char ***argv) {
 
 int LLVMFuzzerTestOneInput(const uint8_t *data, size_t size) {
     struct state s = begin();
+    uint32_t drive = MPM_KIND_SMALL;
     while (size > 0) {
         uint8_t step[STEP_LEN] = {0};
         size_t length = size < STEP_LEN ? size : STEP_LEN;
         memcpy(step, data, length);
-        play(&s, step);
+        play(&s, &drive, step);
         data += length;
         size -= length;
     }

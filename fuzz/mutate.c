@@ -41,10 +41,10 @@ static void alter_some_bytes(uint8_t *step, uint32_t *chance) {
     LLVMFuzzerMutate(step + at, length, length);
 }
 
-/* Every other time one of a call's function, process, count, record and File ID. */
+/* Every other time one of a call's function, process, count, record and File ID, or of the kind of drive. */
 static void set_a_small_byte(uint8_t *step, uint32_t *chance) {
-    static const size_t places[] = {4, 8, 12, CONTENT + 33, CONTENT + 34, CONTENT + 35, CONTENT + FCB_GIVEN};
-    size_t at = pick(chance, 2) == 0 ? places[pick(chance, 7)] : pick(chance, STEP_LEN);
+    static const size_t places[] = {4, 8, 12, CONTENT + 33, CONTENT + 34, CONTENT + 35, CONTENT + FCB_GIVEN, 3};
+    size_t at = pick(chance, 2) == 0 ? places[pick(chance, 8)] : pick(chance, STEP_LEN);
     step[at] = (uint8_t)pick(chance, 20);
 }
 

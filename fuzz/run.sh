@@ -1,7 +1,8 @@
 #!/usr/bin/env bash
 # Fuzzes the engine with libFuzzer, guided by the engine's own branches, under the sanitizers. See README.md.
 #   run.sh [--seconds N] [--seed S]   for N seconds (60) with seed S (1); the last line has the figures
-#   run.sh --replay FILE              plays a kept input and prints its calls: process, function, count, image, A, H
+#   run.sh --replay FILE              plays a kept input and prints its calls: kind, process, function, count, image
+#                                     length, A, H
 #   run.sh --coverage                 how much of the engine's code the corpus reaches
 #   run.sh --selftest                 bad engines in place of the good one: each has to be found
 # Exit status: 0 if all is well, 1 if the engine does wrong or a bad one was not found, 2 for wrong use.
@@ -17,7 +18,7 @@ export ASAN_OPTIONS=quarantine_size_mb=8:detect_leaks=0
 options=(-max_len=6144 -timeout=20 -detect_leaks=0 -print_final_stats=1)
 
 usage() {
-    sed -n '3,6s/^# *//p' "${BASH_SOURCE[0]}" >&2
+    sed -n '3,7s/^# *//p' "${BASH_SOURCE[0]}" >&2
     exit 2
 }
 
@@ -52,7 +53,8 @@ compile() { # OBJECT WORDS..
 link() { # PROGRAM OBJECTS..
     local program=$1
     shift
-    (cd "$work" && "$clang" -fsanitize=fuzzer "${sanitizers[@]}" "$@" mutate.o plain.o -o "$program")
+    (cd "$work" && "$clang" -fsanitize=fuzzer "${sanitizers[@]}" "$@" mutate.o plain.o plain-small.o plain-large.o \
+        -o "$program")
 }
 
 # The engine for this processor, with libFuzzer's counters and AddressSanitizer in its own code.
@@ -79,7 +81,9 @@ build() {
     command -v "$clang" >/dev/null || no_libfuzzer
     compile fuzz.o "$here/fuzz.c"
     compile mutate.o "$here/mutate.c"
-    compile plain.o "$root/bench/plain.c"
+    compile plain-small.o -DKIND=SMALL "$root/bench/plain.c"
+    compile plain-large.o -DKIND=LARGE "$root/bench/plain.c"
+    compile plain.o "$root/bench/plain_call.c"
     compile stub.o "$root/tests/pipe/stub.c"
     link stub fuzz.o stub.o 2>"$work/log" || no_libfuzzer
     system_clang "$here/seeds.c" -o "$work/make-seeds"
@@ -116,7 +120,7 @@ replay() {
     local status=0
     link fuzz fuzz.o engine1.o
     FUZZ_TELL=1 "$work/fuzz" -detect_leaks=0 "$replayed" >"$work/log" 2>&1 || status=1
-    grep -E '^[0-9]+( [0-9]+){3}|WRONG|ERROR' "$work/log" || true
+    grep -E '^[0-9]+( [0-9]+){4}|WRONG|ERROR' "$work/log" || true
     return "$status"
 }
 
@@ -133,14 +137,16 @@ coverage() {
 }
 
 finds() { # WHAT OBJECTS..
-    local what=$1 began=$SECONDS seen
+    local what=$1 began=$SECONDS status=0 seen
     shift
     rm -rf "$work/bad"
     mkdir "$work/bad"
     link bad/fuzz "$@"
     "$work/bad/fuzz" "${options[@]}" -artifact_prefix="$work/bad/" -seed="$seed" -max_total_time=120 \
-        "$work/bad" "$work/seeds" >"$work/log" 2>&1 || true
-    seen=$(grep -E -o -m 1 'WRONG: .*|ERROR: (AddressSanitizer|libFuzzer): [a-z -]*' "$work/log") || {
+        "$work/bad" "$work/seeds" >"$work/log" 2>&1 || status=$?
+    # A trap is a signal on Arm that libFuzzer does not report.
+    if [ "$status" -gt 128 ]; then echo "ERROR: libFuzzer: killed by SIG$(kill -l "$status")" >>"$work/log"; fi
+    seen=$(grep -E -o -m 1 'WRONG: .*|ERROR: (AddressSanitizer|libFuzzer): [A-Za-z -]*' "$work/log") || {
         echo "an engine that $what: NOT FOUND"
         return 1
     }
@@ -151,6 +157,9 @@ selftest() {
     local stubs=("refuses all" "accepts all" "writes before the FCB" "writes after the image" crashes "spoils images")
     local faults=("WRITES_AT_REFUSAL writes at a refusal" "LEAVES_LOCKS leaves locks" "NO_ZERO_FILL fills no zeros"
         "SHORT_LOCK locks 15 of 16" "WRONG_CODE has 4/0 for 6/0" "SHORT_FCB overreads" "OTHER_SINGLY differs singly"
+        "HIGH_BYTE_DROPPED stores a number without its high byte" "BLOCK_4097 takes 4,097 blocks"
+        "SIXTEEN_NUMBERS reads eight numbers as sixteen" "FREE_BY_EIGHT counts eight records to a large block"
+        "CLEARS_SEVEN clears seven of fifteen records" "UNKNOWN_AS_LARGE takes an unknown kind as large"
         "FIRST_ALONE does one record of a run" "NO_NUMBER does not tell how many it did"
         "GOES_ON goes on behind a refused record" "ALL_OR_NONE takes a run back"
         "ONE_DMA_RECORD has one place in the DMA" "CLEARS_AGAIN clears what it wrote" "MOVES_FCB moves the FCB on")

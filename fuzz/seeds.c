@@ -50,6 +50,18 @@ static void set_length(int buffer, int flags, uint32_t length) {
     step(LENGTH, (unsigned)buffer, length, 0, 0)[2] = (uint8_t)flags;
 }
 
+/* An empty drive: where the image is longer than it was, the new bytes are E5h. */
+static void set_drive(uint32_t kind, uint32_t blocks) {
+    uint8_t *length = step(LENGTH, IMAGE, blocks, 0, 0);
+    length[2] = MANY;
+    length[3] = (uint8_t)kind;
+}
+
+/* The fewest blocks of the kind, but for a small drive, which has so many. */
+static uint32_t fewest(uint32_t kind, uint32_t small_blocks) {
+    return mpm_of_kind(kind, small_blocks, MPM_LARGE_MIN_BLOCKS);
+}
+
 #define PUT(buffer, at, times, length, rising, bytes) patch(buffer, at, times, length, rising, bytes, sizeof bytes - 1)
 
 static void patch(int buffer, uint32_t at, uint32_t times, int length, int rising, const char *bytes, size_t given) {
@@ -73,7 +85,28 @@ static uint8_t *call(uint32_t process, uint32_t function, const char *name, uint
     return bytes;
 }
 
-static void two_clerks(void) {
+/* An entry of file A with rising block numbers, as many as are below the end. */
+static void put_full_entry(uint32_t kind, uint32_t e, uint32_t extent, uint32_t first, uint32_t end) {
+    char bytes[MPM_ENTRY_LEN] = "\000" A;
+    size_t number_len = MPM_MAP_LEN / mpm_numbers(kind);
+    bytes[12] = (char)(extent % 32);
+    bytes[14] = (char)(extent / 32);
+    bytes[15] = (char)MPM_EXTENT_RECORDS;
+    for (uint32_t k = 0; k < mpm_numbers(kind) && first + k < end; k++)
+        put_number((uint8_t *)bytes + MPM_ENTRY_LEN - MPM_MAP_LEN + k * number_len, number_len, first + k);
+    patch(IMAGE, MPM_ENTRY_LEN * e, 1, MPM_ENTRY_LEN, NOTHING_RISES, bytes, sizeof bytes);
+}
+
+/* Entries of file A that name all blocks from 2 on below the end. Gives how many they are. */
+static uint32_t put_full_entries(uint32_t kind, uint32_t end) {
+    uint32_t e = 0;
+    for (uint32_t first = MPM_DIRECTORY_BLOCKS; first < end; first += mpm_numbers(kind), e++)
+        put_full_entry(kind, e, e, first, end);
+    return e;
+}
+
+static void two_clerks(uint32_t kind) {
+    set_drive(kind, fewest(kind, 4));
     LIMITS("\003\002\002");
     call(1, MPM_MAKE, A_UNLOCKED, 0, 1, 0);
     call(2, MPM_OPEN, A_UNLOCKED, 0, 1, 0);
@@ -92,7 +125,8 @@ static void two_clerks(void) {
     save();
 }
 
-static void all_functions(void) {
+static void all_functions(uint32_t kind) {
+    set_drive(kind, fewest(kind, 4));
     call(0, MPM_MAKE, A, 0, 1, 0);
     call(0, MPM_WRITE_ZEROS, A, 262143, 1, 0);
     call(0, MPM_READ, A, 262143, 1, 0);
@@ -111,8 +145,8 @@ static void all_functions(void) {
 }
 
 /* A directory and a list as they may stand after a while, each process from 4 on with a user of its own. */
-static void put_files_in_use(void) {
-    set_length(IMAGE, 0, 16);
+static void put_files_in_use(uint32_t kind) {
+    set_drive(kind, fewest(kind, 16));
     PUT(LIST, MPM_LIST_USERS + 4, 12, 1, 0, "\004");
     ENTRY(0, 1, "\000" A "\000\000\000\010\002");
     ENTRY(5, 3, "\000" A "\001");
@@ -126,8 +160,8 @@ static void put_files_in_use(void) {
     ITEM(7, 1, "OF\003" C);
 }
 
-static void files_in_use(void) {
-    put_files_in_use();
+static void files_in_use(uint32_t kind) {
+    put_files_in_use(kind);
     call(1, MPM_LOCK, A, 0, 4, 5);
     call(3, MPM_LOCK, A, 7, 1, 1);
     call(3, MPM_UNLOCK, A, 3, 16, 1);
@@ -138,17 +172,18 @@ static void files_in_use(void) {
     call(3, MPM_OPEN, B, 0, 1, 0);
     call(3, MPM_WRITE, B, 0, 1, 0);
     call(3, MPM_WRITE_ZEROS, B, 0, 2, 0);
+    call(3, MPM_TEST_WRITE, B, 0, 1, 0);
     call(3, MPM_CLOSE, A, 0, 1, 0);
     call(4, MPM_TEST_WRITE, A, 0, 1, 6);
     save();
 }
 
 /* The same with one byte altered, in turn each of the first entry, the list's head and its first three places. */
-static void broken_bytes(void) {
+static void broken_bytes(uint32_t kind) {
     static const char values[] = {0, 1, 'z'};
     for (uint32_t at = 0; at < MPM_ENTRY_LEN + MPM_LIST_PLACES + 3 * MPM_PLACE_LEN; at++)
         for (size_t i = 0; i < sizeof values; i++) {
-            put_files_in_use();
+            put_files_in_use(kind);
             if (at < MPM_ENTRY_LEN) {
                 patch(IMAGE, at, 1, 1, NOTHING_RISES, values + i, 1);
             } else {
@@ -167,8 +202,8 @@ static void run(uint32_t process, uint32_t function, uint32_t record, uint32_t c
 }
 
 /* Into new blocks and a new extent, to another's lock, to a missing block and extent, and over the last record. */
-static void runs(void) {
-    set_length(IMAGE, 0, 16);
+static void runs(uint32_t kind) {
+    set_drive(kind, fewest(kind, 16));
     call(1, MPM_MAKE, A_UNLOCKED, 0, 1, 0);
     call(2, MPM_OPEN, A_UNLOCKED, 0, 1, 0);
     fill_dma();
@@ -193,51 +228,141 @@ static void runs(void) {
     save();
 }
 
-/* To the last free block and to the last empty entry. */
-static void full_runs(void) {
-    fill_dma();
-    call(0, MPM_MAKE, A, 0, 1, 0);
-    run(0, MPM_WRITE, 4, 16);
-    run(0, MPM_WRITE_ZEROS, 12, 16);
-    save();
-    set_length(IMAGE, 0, 16);
-    fill_dma();
-    ENTRY(0, 1, "\000" A "\000\000\000\200\000\000\000\000\000\000\000\000\000\000\000\000\000\000\000\002");
+/* All entries but none for A's extent 1; its extent 0 has the last block of its map. */
+static void fill_directory(uint32_t kind) {
+    if (kind == MPM_KIND_LARGE) {
+        ENTRY(0, 1, "\000" A "\000\000\000\200\000\000\000\000\000\000\000\000\000\000\000\000\000\000\002\000");
+    } else {
+        ENTRY(0, 1, "\000" A "\000\000\000\200\000\000\000\000\000\000\000\000\000\000\000\000\000\000\000\002");
+    }
     ENTRY(1, 30, "\000" A "\002");
     ENTRY(31, 32, "\000" A "\000\000\001");
-    ENTRY(63, 1, "\000" B);
+    if (kind == MPM_KIND_LARGE) {
+        ENTRY(63, 32, "\000" A "\000\000\002");
+        ENTRY(95, 32, "\000" A "\000\000\003");
+    }
+    ENTRY(mpm_entries(kind) - 1, 1, "\000" B);
+}
+
+/* To the last free block. */
+static void run_to_last_block(uint32_t kind, uint32_t function) {
+    uint32_t blocks = fewest(kind, 16);
+    set_drive(kind, blocks);
+    fill_dma();
+    uint32_t extent = put_full_entries(kind, blocks - 1);
+    call(0, MPM_OPEN, A, 0, 1, 0);
+    run(0, function, MPM_EXTENT_RECORDS * extent + 4, 16);
+    run(0, function, MPM_EXTENT_RECORDS * extent + 60, 16);
+    call(0, MPM_FREE_SPACE, A, 0, 1, 0);
+    save();
+}
+
+/* To the last free block and to the last empty entry. */
+static void full_runs(uint32_t kind) {
+    run_to_last_block(kind, MPM_WRITE);
+    run_to_last_block(kind, MPM_WRITE_ZEROS);
+    set_drive(kind, fewest(kind, 16));
+    fill_dma();
+    fill_directory(kind);
     call(0, MPM_OPEN, A, 0, 1, 0);
     run(0, MPM_WRITE, 124, 16);
     run(0, MPM_WRITE_ZEROS, 125, 16);
     save();
 }
 
-static void all_full(void) {
-    set_length(IMAGE, 0, 16);
+static void all_full(uint32_t kind) {
+    set_drive(kind, fewest(kind, 16));
     LIMITS("\100\001\100");
-    ENTRY(0, 1, "\000" A "\000\000\000\100\002\003\004\005\006\007\010\011");
+    put_full_entry(kind, 0, 0, MPM_DIRECTORY_BLOCKS, MPM_DIRECTORY_BLOCKS + 8);
     ENTRY(1, 31, "\000" A "\001");
     ENTRY(32, 31, "\000" A "\000\000\001");
-    ENTRY(63, 1, "\000" B);
+    if (kind == MPM_KIND_LARGE) {
+        ENTRY(63, 32, "\000" A "\000\000\002");
+        ENTRY(95, 32, "\000" A "\000\000\003");
+    }
+    ENTRY(mpm_entries(kind) - 1, 1, "\000" B);
     ITEM(0, 1, "OF\000" A "\001");
     ITEM(1, 63, "LR\000" A "\001");
     call(0, MPM_LOCK, A, 63, 1, 0);
     call(0, MPM_OPEN, B, 0, 1, 0);
     call(1, MPM_OPEN, B, 0, 1, 0);
     call(0, MPM_UNLOCK, A, 15, 16, 0);
-    call(0, MPM_WRITE, A, 128 * 70, 1, 0);
-    call(0, MPM_WRITE_ZEROS, A, 128 * 70, 1, 0);
+    call(0, MPM_WRITE, A, 128 * 200, 1, 0);
+    call(0, MPM_WRITE_ZEROS, A, 128 * 200, 1, 0);
     call(1, MPM_MAKE, C, 0, 1, 0);
     call(0, MPM_LOCK, A, 15, 16, 0);
     save();
 }
 
-static void wrong_numbers(void) {
-    for (uint32_t blocks = 2; blocks <= 257; blocks += blocks == 3 ? 253 : 1) {
-        set_length(IMAGE, LARGE, blocks);
+/* The number of blocks of each kind at its edges and between, told as what it is and as the other kind. */
+static void sizes(void) {
+    static const uint32_t small[] = {2, 3, 256, 257}, large[] = {256, 257, 258, 1027, 4096, 4097};
+    for (size_t i = 0; i < sizeof small / sizeof small[0]; i++) {
+        set_drive(MPM_KIND_SMALL, small[i]);
         call(0, MPM_FREE_SPACE, A, 0, 1, 0);
+        call(0, MPM_FREE_SPACE, A, 0, 1, 0)[1] = OTHER_KIND;
     }
-    set_length(IMAGE, 0, 4);
+    save();
+    for (size_t i = 0; i < sizeof large / sizeof large[0]; i++) {
+        set_drive(MPM_KIND_LARGE, large[i]);
+        call(0, MPM_FREE_SPACE, A, 0, 1, 0);
+        call(0, MPM_FREE_SPACE, A, 0, 1, 0)[1] = OTHER_KIND;
+        save();
+    }
+    set_drive(MPM_KIND_LARGE, MPM_LARGE_MIN_BLOCKS / 2);
+    call(0, MPM_FREE_SPACE, A, 0, 1, 0)[1] = OTHER_KIND;
+    save();
+}
+
+/* Numbers that are no kind, among them such as are one when cut to a byte. */
+static void unknown_kinds(void) {
+    static const uint32_t unknown[] = {2, 255, 256, 257, 65535};
+    for (uint32_t kind = 0; kind < MPM_KINDS; kind++) {
+        put_files_in_use(kind);
+        for (size_t i = 0; i < sizeof unknown / sizeof unknown[0]; i++) {
+            uint8_t *told = call(3, MPM_OPEN, B, 0, 1, 0);
+            told[1] = WILD_KIND;
+            put_number(told + 2, 2, unknown[i]);
+        }
+        call(3, MPM_OPEN, B, 0, 1, 0)[1] = OTHER_KIND;
+        call(3, MPM_OPEN, B, 0, 1, 0);
+        save();
+    }
+}
+
+/* The lowest free block has a number of two bytes: all below 257 are used. */
+static void high_free_block(uint32_t blocks) {
+    set_drive(MPM_KIND_LARGE, blocks);
+    fill_dma();
+    uint32_t extent = put_full_entries(MPM_KIND_LARGE, 257);
+    call(0, MPM_OPEN, A_UNLOCKED, 0, 1, 0);
+    run(0, MPM_WRITE_ZEROS, MPM_EXTENT_RECORDS * extent + 5, 1);
+    run(0, MPM_READ, MPM_EXTENT_RECORDS * extent + 14, 2);
+    run(0, MPM_WRITE, MPM_EXTENT_RECORDS * extent + 16, 16);
+    run(0, MPM_READ, MPM_EXTENT_RECORDS * extent, 16);
+    call(0, MPM_LOCK, A, MPM_EXTENT_RECORDS * extent + 8, 2, 0);
+    call(0, MPM_FREE_SPACE, A, 0, 1, 0);
+    save();
+}
+
+/* Block numbers at the ends of one byte, of what the directory can name, and of the drive; one past it; block 1. */
+static void high_numbers(uint32_t blocks) {
+    const uint32_t numbers[] = {255, 256, 1023, 1025, 1026, 4095, blocks - 1, blocks, 1};
+    for (size_t i = 0; i < sizeof numbers / sizeof numbers[0]; i++) {
+        set_drive(MPM_KIND_LARGE, blocks);
+        fill_dma();
+        put_full_entry(MPM_KIND_LARGE, 127, 0, numbers[i], numbers[i] + 1);
+        call(0, MPM_OPEN, A, 0, 1, 0);
+        run(0, MPM_WRITE, 0, 16);
+        run(0, MPM_READ, 8, 8);
+        run(0, MPM_WRITE_ZEROS, 16, 1);
+        call(0, MPM_FREE_SPACE, A, 0, 1, 0);
+        save();
+    }
+}
+
+static void wrong_numbers(void) {
+    set_drive(MPM_KIND_SMALL, 4);
     call(0, 271, A, 0, 1, 0)[1] = WILD_FUNCTION;
     call(16, MPM_MAKE, A, 0, 1, 0)[1] = WILD_PROCESS;
     call(0, MPM_MAKE, A, 0, 17, 0)[1] = WILD_COUNT;
@@ -252,16 +377,28 @@ static void wrong_numbers(void) {
     save();
 }
 
+static void seeds_of(uint32_t kind) {
+    two_clerks(kind);
+    all_functions(kind);
+    files_in_use(kind);
+    broken_bytes(kind);
+    runs(kind);
+    full_runs(kind);
+    all_full(kind);
+}
+
 int main(int argc, char **argv) {
     if (argc != 2) return 2;
     folder = argv[1];
-    two_clerks();
-    all_functions();
-    files_in_use();
-    broken_bytes();
-    runs();
-    full_runs();
-    all_full();
+    for (uint32_t kind = 0; kind < MPM_KINDS; kind++) seeds_of(kind);
+    sizes();
+    unknown_kinds();
+    high_free_block(257);
+    high_free_block(258);
+    high_free_block(1027);
+    high_free_block(4096);
+    high_numbers(1027);
+    high_numbers(4096);
     wrong_numbers();
     return 0;
 }

@@ -6,7 +6,8 @@
 #include "mpm.h"
 
 /* SHORT_FCB lends the engine an FCB without its last byte: AddressSanitizer in the engine's own code has to see it.
-   Those from FIRST_ALONE on are faults of runs: 33, 34 and 40 of more than one record. */
+   Those from HIGH_BYTE_DROPPED on are faults of the kinds of drive, those from FIRST_ALONE on of runs: 33, 34 and 40 of
+   more than one record. */
 enum {
     WRITES_AT_REFUSAL,
     LEAVES_LOCKS,
@@ -15,6 +16,12 @@ enum {
     WRONG_CODE,
     SHORT_FCB,
     OTHER_SINGLY,
+    HIGH_BYTE_DROPPED, /* stores a block number of two bytes without the second */
+    BLOCK_4097,        /* takes a large drive of 4,097 blocks */
+    SIXTEEN_NUMBERS,   /* 33 reads a large drive's eight block numbers as sixteen of one byte */
+    FREE_BY_EIGHT,     /* 46 tells eight times the free blocks of a large drive too */
+    CLEARS_SEVEN,      /* 40 clears the other seven of the record's half of a large block */
+    UNKNOWN_AS_LARGE,  /* takes an unknown kind as the large one */
     FIRST_ALONE,    /* does the first record and answers for it alone */
     NO_NUMBER,      /* does not tell how many were done */
     GOES_ON,        /* leaves out a refused record and does those after it */
@@ -26,7 +33,7 @@ enum {
 
 /* The words of a call. */
 struct lent {
-    uint32_t function, process, count;
+    uint32_t kind, function, process, count;
     uint8_t *fcb;
     size_t fcb_len;
     uint8_t *dma;
@@ -37,13 +44,14 @@ struct lent {
     size_t image_len;
 };
 
-typedef uint32_t engine(uint32_t function, uint32_t process, uint32_t count, uint8_t *fcb, size_t fcb_len, uint8_t *dma,
-                        size_t dma_len, uint8_t *list, size_t list_len, uint8_t *image, size_t image_len);
+typedef uint32_t engine(uint32_t kind, uint32_t function, uint32_t process, uint32_t count, uint8_t *fcb,
+                        size_t fcb_len, uint8_t *dma, size_t dma_len, uint8_t *list, size_t list_len, uint8_t *image,
+                        size_t image_len);
 engine spoiled_call, spoiled_singly;
 
 static uint32_t call(const struct lent *c) {
-    return mpm_call(c->function, c->process, c->count, c->fcb, c->fcb_len, c->dma, c->dma_len, c->list, c->list_len,
-                    c->image, c->image_len);
+    return mpm_call(c->kind, c->function, c->process, c->count, c->fcb, c->fcb_len, c->dma, c->dma_len, c->list,
+                    c->list_len, c->image, c->image_len);
 }
 
 static bool goes_by_records(uint32_t function) {
@@ -52,7 +60,7 @@ static bool goes_by_records(uint32_t function) {
 
 static bool is_run(const struct lent *c) {
     return goes_by_records(c->function) && c->count > 1 && c->count <= MPM_MAX_COUNT && c->fcb_len == MPM_FCB_LEN &&
-           c->dma_len == MPM_DMA_LEN && c->image_len <= MPM_MAX_BLOCKS * MPM_BLOCK_LEN;
+           c->dma_len == MPM_DMA_LEN && c->image_len <= MPM_LARGE_MAX_BLOCKS * MPM_LARGE_BLOCK_LEN;
 }
 
 static uint32_t record_of(const uint8_t *fcb) {
@@ -62,6 +70,12 @@ static uint32_t record_of(const uint8_t *fcb) {
 
 static void set_record(uint8_t *fcb, uint32_t record) {
     for (size_t i = 0; i < 3; i++) fcb[MPM_FCB_RECORD + i] = (uint8_t)(record >> (8 * i));
+}
+
+/* Where a record of the call's file is in the image, or 0. */
+static uint32_t look(const struct lent *c, uint32_t record) {
+    return mpm_look(c->kind, c->list[MPM_LIST_USERS + c->process], c->fcb + MPM_FCB_NAME, MPM_NAME_LEN, record,
+                    c->image, c->image_len);
 }
 
 /* ---- Faults of calls ---- */
@@ -87,6 +101,85 @@ static uint32_t bad_call(struct lent c) {
     if (SPOILED == LEAVES_LOCKS && c.function == MPM_CLOSE && answer == MPM_OK) put_locks_back(c.list, old);
     if (SPOILED == WRONG_CODE && c.function == MPM_READ && answer == MPM_PAST_END) answer = MPM_NO_EXTENT;
     return answer;
+}
+
+/* ---- Faults of the kinds, each in place of a call ---- */
+
+/* What is good in a call but for the image and the list: then the record and the user can be read. */
+static bool is_readable(const struct lent *c) {
+    return c->fcb_len == MPM_FCB_LEN && c->dma_len == MPM_DMA_LEN && c->list_len == MPM_LIST_LEN &&
+           c->process < MPM_PROCESSES && c->count >= 1 && c->count <= MPM_MAX_COUNT;
+}
+
+static bool is_sound_large(const struct lent *c) {
+    return c->kind == MPM_KIND_LARGE && mpm_check(c->kind, c->image, c->image_len) == MPM_SOUND;
+}
+
+/* Of the numbers that the call has given. */
+static uint32_t high_byte_dropped(struct lent c) {
+    static uint8_t old[MPM_DIRECTORY_BLOCKS * MPM_LARGE_BLOCK_LEN];
+    if (!is_sound_large(&c)) return call(&c);
+    memcpy(old, c.image, sizeof old);
+    uint32_t answer = call(&c);
+    if (c.function != MPM_WRITE && c.function != MPM_WRITE_ZEROS) return answer;
+    for (size_t at = 0; at < sizeof old; at += MPM_LARGE_NUMBER_LEN)
+        if (at % MPM_ENTRY_LEN >= MPM_ENTRY_LEN - MPM_MAP_LEN && c.image[at + 1] != old[at + 1]) c.image[at + 1] = 0;
+    return answer;
+}
+
+static uint32_t block_4097(struct lent c) {
+    if (c.kind == MPM_KIND_LARGE && c.image_len == (MPM_LARGE_MAX_BLOCKS + 1) * MPM_LARGE_BLOCK_LEN)
+        c.image_len -= MPM_LARGE_BLOCK_LEN;
+    return call(&c);
+}
+
+/* A record in the second half of a block has the number's high byte for its own: 0, no block, below 256. */
+static bool has_no_byte(const struct lent *c, uint32_t record) {
+    uint32_t at = look(c, record);
+    return at != 0 && record % MPM_LARGE_BLOCK_RECORDS >= MPM_SMALL_BLOCK_RECORDS && at / MPM_LARGE_BLOCK_LEN < 256;
+}
+
+static uint32_t sixteen_numbers(struct lent c) {
+    uint8_t old[MPM_RECORD_LEN];
+    uint32_t i = 0;
+    if (!is_readable(&c) || !is_sound_large(&c) || c.function != MPM_READ) return call(&c);
+    while (i < c.count && !has_no_byte(&c, record_of(c.fcb) + i)) i++;
+    if (i == c.count) return call(&c);
+    memcpy(old, c.dma + MPM_DMA_AT(i), sizeof old);
+    c.count = i + 1;
+    uint32_t answer = call(&c);
+    if (answer != MPM_OK) return answer;
+    memcpy(c.dma + MPM_DMA_AT(i), old, sizeof old);
+    return MPM_NO_BLOCK + MPM_ANSWER(0u, 16u * i);
+}
+
+static uint32_t free_by_eight(struct lent c) {
+    uint32_t answer = call(&c);
+    if (answer != MPM_OK || c.kind != MPM_KIND_LARGE || c.function != MPM_FREE_SPACE) return answer;
+    uint32_t records =
+        (c.dma[0] + 256u * c.dma[1] + 65536u * c.dma[2]) / MPM_LARGE_BLOCK_RECORDS * MPM_SMALL_BLOCK_RECORDS;
+    for (size_t i = 0; i < 3; i++) c.dma[MPM_DMA_FREE + i] = (uint8_t)(records >> (8 * i));
+    return answer;
+}
+
+/* Of one record: 34 in place of 40, and then the half of a block that it took. */
+static uint32_t clears_seven(struct lent c) {
+    enum { HALF = MPM_LARGE_BLOCK_LEN / 2 };
+    if (c.function != MPM_WRITE_ZEROS || c.count != 1 || !is_readable(&c) || !is_sound_large(&c)) return call(&c);
+    bool was_there = look(&c, record_of(c.fcb)) != 0;
+    c.function = MPM_WRITE;
+    uint32_t answer = call(&c);
+    if (was_there || answer != MPM_OK) return answer;
+    uint32_t at = look(&c, record_of(c.fcb));
+    uint8_t *half = c.image + at - at % HALF;
+    for (uint32_t i = 0; i < HALF; i++)
+        if (i / MPM_RECORD_LEN != at % HALF / MPM_RECORD_LEN) half[i] = 0;
+    return answer;
+}
+
+static uint32_t unknown_as_large(struct lent c) {
+    if (c.kind >= MPM_KINDS) c.kind = MPM_KIND_LARGE;
+    return call(&c);
 }
 
 /* ---- Faults of runs, each in place of a run's call ---- */
@@ -117,7 +210,7 @@ static uint32_t goes_on(struct lent c) {
 }
 
 static uint32_t all_or_none(struct lent c) {
-    static uint8_t dma[MPM_DMA_LEN], image[MPM_MAX_BLOCKS * MPM_BLOCK_LEN];
+    static uint8_t dma[MPM_DMA_LEN], image[MPM_LARGE_MAX_BLOCKS * MPM_LARGE_BLOCK_LEN];
     memcpy(dma, c.dma, c.dma_len);
     memcpy(image, c.image, c.image_len);
     uint32_t answer = call(&c);
@@ -142,11 +235,10 @@ static uint32_t clears_again(struct lent c) {
     uint32_t answer = call(&c), done = mpm_done(answer, c.count), first = record_of(c.fcb);
     if (c.function != MPM_WRITE_ZEROS) return answer;
     for (uint32_t i = 0; i < done; i++) {
-        if (i + 1 < done && (first + i + 1) % MPM_BLOCK_RECORDS != 0) continue;
-        uint32_t at = mpm_look(c.list[MPM_LIST_USERS + c.process], c.fcb + MPM_FCB_NAME, MPM_NAME_LEN, first + i,
-                               c.image, c.image_len);
+        if (i + 1 < done && (first + i + 1) % mpm_block_records(c.kind) != 0) continue;
+        uint32_t at = look(&c, first + i);
         memcpy(kept, c.image + at, sizeof kept);
-        memset(c.image + at - at % MPM_BLOCK_LEN, 0, MPM_BLOCK_LEN);
+        memset(c.image + at - at % mpm_block_len(c.kind), 0, mpm_block_len(c.kind));
         memcpy(c.image + at, kept, sizeof kept);
     }
     return answer;
@@ -158,6 +250,18 @@ static uint32_t moves_fcb(struct lent c) {
     return answer;
 }
 
+static uint32_t bad_kind(const struct lent *c) {
+    switch (SPOILED) {
+    case HIGH_BYTE_DROPPED: return high_byte_dropped(*c);
+    case BLOCK_4097: return block_4097(*c);
+    case SIXTEEN_NUMBERS: return sixteen_numbers(*c);
+    case FREE_BY_EIGHT: return free_by_eight(*c);
+    case CLEARS_SEVEN: return clears_seven(*c);
+    case UNKNOWN_AS_LARGE: return unknown_as_large(*c);
+    default: return bad_call(*c);
+    }
+}
+
 static uint32_t bad_run(const struct lent *c) {
     switch (SPOILED) {
     case FIRST_ALONE: return first_alone(*c);
@@ -167,22 +271,23 @@ static uint32_t bad_run(const struct lent *c) {
     case ONE_DMA_RECORD: return one_dma_record(*c);
     case CLEARS_AGAIN: return clears_again(*c);
     case MOVES_FCB: return moves_fcb(*c);
-    default: return bad_call(*c);
+    default: return bad_kind(c);
     }
 }
 
 /* ---- The two engines ---- */
 
-uint32_t spoiled_call(uint32_t function, uint32_t process, uint32_t count, uint8_t *fcb, size_t fcb_len, uint8_t *dma,
-                      size_t dma_len, uint8_t *list, size_t list_len, uint8_t *image, size_t image_len) {
-    struct lent c = {function, process, count, fcb, fcb_len, dma, dma_len, list, list_len, image, image_len};
-    return is_run(&c) ? bad_run(&c) : bad_call(c);
+uint32_t spoiled_call(uint32_t kind, uint32_t function, uint32_t process, uint32_t count, uint8_t *fcb, size_t fcb_len,
+                      uint8_t *dma, size_t dma_len, uint8_t *list, size_t list_len, uint8_t *image, size_t image_len) {
+    struct lent c = {kind, function, process, count, fcb, fcb_len, dma, dma_len, list, list_len, image, image_len};
+    return is_run(&c) ? bad_run(&c) : bad_kind(&c);
 }
 
 /* As bad as the other, so that nothing is seen by holding the two together; with OTHER_SINGLY it alone is bad. */
-uint32_t spoiled_singly(uint32_t function, uint32_t process, uint32_t count, uint8_t *fcb, size_t fcb_len, uint8_t *dma,
-                        size_t dma_len, uint8_t *list, size_t list_len, uint8_t *image, size_t image_len) {
+uint32_t spoiled_singly(uint32_t kind, uint32_t function, uint32_t process, uint32_t count, uint8_t *fcb,
+                        size_t fcb_len, uint8_t *dma, size_t dma_len, uint8_t *list, size_t list_len, uint8_t *image,
+                        size_t image_len) {
     uint32_t answer =
-        spoiled_call(function, process, count, fcb, fcb_len, dma, dma_len, list, list_len, image, image_len);
+        spoiled_call(kind, function, process, count, fcb, fcb_len, dma, dma_len, list, list_len, image, image_len);
     return goes_by_records(function) && SPOILED != OTHER_SINGLY ? mpm_code(answer) : answer;
 }

@@ -1,19 +1,20 @@
 /* mpm.h by itself, as C and as C++: it can be included first and twice, its functions have the types that a host relies
-   on, its sizes fit together, no two functions and no two answers have the same number, and the answers leave the high
-   four bits of H free. Compiled, never run. */
+   on, its sizes fit together for each kind of drive, no length of an image is one of both kinds, no two kinds,
+   functions or answers have the same number, and the answers leave the high four bits of H free. Compiled, never
+   run. */
 
 #include "mpm.h"
 #include "mpm.h"
 
-#if MPM_VERSION != 2
-#error "the checks below are those of version 2"
+#if MPM_VERSION != 3
+#error "the checks below are those of version 3"
 #endif
 
-typedef uint32_t call_type(uint32_t, uint32_t, uint32_t, uint8_t *, size_t, uint8_t *, size_t, uint8_t *, size_t,
-                           uint8_t *, size_t);
-typedef uint32_t start_type(uint32_t, uint32_t, uint32_t, const uint8_t *, size_t, uint8_t *, size_t);
-typedef uint32_t check_type(const uint8_t *, size_t);
-typedef uint32_t look_type(uint32_t, const uint8_t *, size_t, uint32_t, const uint8_t *, size_t);
+typedef uint32_t call_type(uint32_t, uint32_t, uint32_t, uint32_t, uint8_t *, size_t, uint8_t *, size_t, uint8_t *,
+                           size_t, uint8_t *, size_t);
+typedef uint32_t start_type(uint32_t, uint32_t, uint32_t, uint32_t, const uint8_t *, size_t, uint8_t *, size_t);
+typedef uint32_t check_type(uint32_t, const uint8_t *, size_t);
+typedef uint32_t look_type(uint32_t, uint32_t, const uint8_t *, size_t, uint32_t, const uint8_t *, size_t);
 
 extern call_type *const header_call;
 extern call_type *const header_singly;
@@ -33,17 +34,43 @@ HOLDS(byte_is_one, sizeof(uint8_t) == 1 && sizeof(uint32_t) == 4 && sizeof(size_
 HOLDS(list_is_whole, MPM_LIST_PLACES + MPM_PLACES * MPM_PLACE_LEN == MPM_LIST_LEN);
 HOLDS(users_fit, MPM_LIST_USERS + MPM_USERS_LEN == MPM_LIST_PLACES && MPM_USERS_LEN == MPM_PROCESSES);
 HOLDS(place_is_whole, MPM_PLACE_NAME + MPM_NAME_LEN == MPM_PLACE_MODE && MPM_PLACE_RECORD + 4u == MPM_PLACE_LEN);
-HOLDS(directory_is_whole, MPM_ENTRIES * MPM_ENTRY_LEN == MPM_DIRECTORY_BLOCKS * MPM_BLOCK_LEN);
-HOLDS(block_is_whole, MPM_BLOCK_RECORDS * MPM_RECORD_LEN == MPM_BLOCK_LEN);
 HOLDS(fcb_is_whole, MPM_FCB_RECORD + 3u == MPM_FCB_LEN && MPM_FCB_NEW_NAME + MPM_NAME_LEN <= MPM_FCB_RECORD);
+HOLDS(fcb_has_the_map, MPM_FCB_COUNT + 1u == MPM_FCB_MAP && MPM_FCB_MAP + MPM_MAP_LEN == MPM_ENTRY_LEN);
 HOLDS(dma_is_whole, MPM_DMA_AT(0u) == MPM_DMA_RECORD && MPM_DMA_AT(MPM_MAX_COUNT) == MPM_DMA_LEN);
 HOLDS(new_record_fits, MPM_DMA_NEW == MPM_DMA_RECORD + MPM_RECORD_LEN && MPM_DMA_NEW + MPM_RECORD_LEN <= MPM_DMA_LEN);
 HOLDS(answer_is_a_and_256_h, MPM_BAD_CALL == 3583u && MPM_LOCK_LIST_FULL == 14u && MPM_OK == 0u);
 HOLDS(highest_answer_leaves_four_bits, MPM_BAD_CALL < MPM_ANSWER(0u, 16u) && MPM_MAX_COUNT - 1u <= 15u);
 
+/* Of each kind: its directory, a block and an entry's map are filled exactly, every block has a number, and the figure
+   of 46 has room. */
+#define HOLDS_OF(KIND)                                                                                                 \
+    HOLDS(KIND##_directory_is_whole,                                                                                   \
+          MPM_##KIND##_ENTRIES * MPM_ENTRY_LEN == MPM_DIRECTORY_BLOCKS * MPM_##KIND##_BLOCK_LEN);                      \
+    HOLDS(KIND##_block_is_whole, MPM_##KIND##_BLOCK_RECORDS * MPM_RECORD_LEN == MPM_##KIND##_BLOCK_LEN);               \
+    HOLDS(KIND##_map_is_whole, MPM_##KIND##_NUMBERS * MPM_##KIND##_NUMBER_LEN == MPM_MAP_LEN &&                        \
+                                   MPM_##KIND##_NUMBERS * MPM_##KIND##_BLOCK_RECORDS == MPM_EXTENT_RECORDS);           \
+    HOLDS(KIND##_numbers_have_room, MPM_##KIND##_MAX_BLOCKS - 1u < 1u << (8u * MPM_##KIND##_NUMBER_LEN));              \
+    HOLDS(KIND##_figure_has_room, MPM_##KIND##_MAX_BLOCKS * MPM_##KIND##_BLOCK_RECORDS < 1u << 24u);                   \
+    HOLDS(KIND##_has_a_data_block, MPM_##KIND##_MIN_BLOCKS > MPM_DIRECTORY_BLOCKS &&                                   \
+                                       MPM_##KIND##_MIN_BLOCKS <= MPM_##KIND##_MAX_BLOCKS)
+
+HOLDS_OF(SMALL);
+HOLDS_OF(LARGE);
+HOLDS(kinds_are_apart, MPM_SMALL_MAX_BLOCKS * MPM_SMALL_BLOCK_LEN < MPM_LARGE_MIN_BLOCKS * MPM_LARGE_BLOCK_LEN);
+HOLDS(kinds_are_all, MPM_KIND_SMALL < MPM_KINDS && MPM_KIND_LARGE < MPM_KINDS && MPM_KINDS == 2u);
+
+uint32_t header_kind(uint32_t kind, size_t image_len);
 uint32_t header_function(uint32_t number);
 uint32_t header_answer(uint32_t answer);
 uint32_t header_records(uint32_t answer);
+
+uint32_t header_kind(uint32_t kind, size_t image_len) {
+    switch (kind) {
+    case MPM_KIND_SMALL: case MPM_KIND_LARGE:
+        return mpm_blocks(kind, image_len) + mpm_block_records(kind) + mpm_entries(kind) + mpm_numbers(kind);
+    default: return 0u;
+    }
+}
 
 uint32_t header_function(uint32_t number) {
     switch (number) {

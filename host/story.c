@@ -2,7 +2,8 @@
    run of order lines and dies. Another is held up until the host takes back what the dead one held. A third reads a
    screen of sixteen lines in one call, and writes several in one call until it meets a line that is locked.
 
-   story FOLDER: makes FOLDER/ORDERS.IMG, plays the story on it and prints every step with its answer.
+   story FOLDER [small|large]: makes FOLDER/ORDERS.IMG, a drive of that kind (small), plays the story on it and prints
+   every step with its answer. The steps are the same on both, but for the numbers of lines that lie in a new block.
    Exit status: 0 if all was as expected, 1 if something was not, 2 for wrong use or a file that cannot be used. */
 
 #include "mpm.h"
@@ -10,37 +11,73 @@
 #include <stdio.h>
 #include <string.h>
 
-enum { BLOCKS = 16, CAPACITY = 12, OPEN_LIMIT = 2, LOCK_LIMIT = 10 };
+enum { SMALL_BLOCKS = 16, LARGE_BLOCKS = MPM_LARGE_MIN_BLOCKS };
+enum { CAPACITY = 12, OPEN_LIMIT = 2, LOCK_LIMIT = 10 };
 enum { OFFICE, CLERK_1, CLERK_2, CLERK_3 }; /* the processes */
-enum { LINES = 40 }; /* the order lines that have a block in the end: 0 to 24 and 30 to 33 written, the rest cleared */
-enum { USER = 0, WRONG_USE = 2, PATH_LEN = 4096 };
+enum { MORNING_LINES = 24, MOST_LINES = 5 * MPM_LARGE_BLOCK_RECORDS };
+enum { USER = 0, WRONG_USE = 2, PATH_LEN = 4096, WORDS_LEN = 46 };
+
+#define ROOM (LARGE_BLOCKS * MPM_LARGE_BLOCK_LEN)
 
 #define COUNT(array) (sizeof(array) / sizeof(array)[0])
 
 /* The answer where a line was refused after so many of the same call. */
 #define AFTER(lines, answer) ((answer) + MPM_ANSWER(0u, 16u * (lines)))
 
-/* The four buffers that are lent, in one struct to keep and compare them together. */
+/* The four buffers that are lent, in one struct to keep and compare them together. The image is the room's last bytes,
+   so that a sanitizer sees who passes its end. */
 struct buffers {
     uint8_t fcb[MPM_FCB_LEN];
     uint8_t dma[MPM_DMA_LEN];
     uint8_t list[MPM_LIST_LEN];
-    uint8_t image[BLOCKS * MPM_BLOCK_LEN];
+    uint8_t room[ROOM];
 };
 
-/* A step of a process: the order lines it names, the answer and the figure (File ID, free records) to be expected. */
+/* A step of a process: the order lines it names, the answer and the File ID to be expected. */
 struct step {
     uint32_t process, function;
     const char *words;
     uint32_t first, last;
-    uint32_t answer, figure;
+    uint32_t answer, file_id;
 };
 
 static const uint8_t file[] = "ORDERS  DAT";
-static struct buffers now, before, singly;
-static uint8_t lines[LINES + MPM_MAX_COUNT][MPM_RECORD_LEN]; /* what each line must hold; a screen may pass the end */
+static uint32_t kind, blocks; /* of the drive */
+static struct buffers now, before, singly, told;
+static uint8_t lines[MOST_LINES][MPM_RECORD_LEN]; /* what each line must hold */
+static uint8_t has_block[MOST_LINES];
 static uint32_t file_ids[MPM_PROCESSES];
 static uint32_t steps, faults;
+
+/* ---- The drive ---- */
+
+static size_t image_len(void) { return (size_t)blocks * mpm_block_len(kind); }
+
+static uint8_t *image_of(struct buffers *b) { return b->room + sizeof b->room - image_len(); }
+
+/* The first line behind the morning's that lies in a new block. */
+static uint32_t new_line(void) {
+    uint32_t records = mpm_block_records(kind);
+    return (MORNING_LINES + records - 1) / records * records;
+}
+
+/* The line that is the last with a block in the end: of the two new blocks of the afternoon. */
+static uint32_t last_line(void) { return new_line() + 2 * mpm_block_records(kind) - 1; }
+
+/* The first of four lines of which two lie in one of these blocks and two in the other. */
+static uint32_t pair_line(void) { return new_line() + mpm_block_records(kind) - 2; }
+
+/* A line written brings all lines of its block. */
+static void give_block(uint32_t line) {
+    uint32_t first = line - line % mpm_block_records(kind);
+    for (uint32_t i = 0; i < mpm_block_records(kind); i++) has_block[first + i] = 1;
+}
+
+static uint32_t free_records(void) {
+    uint32_t used = 0;
+    for (uint32_t line = 0; line < MOST_LINES; line++) used += has_block[line];
+    return mpm_block_records(kind) * (blocks - MPM_DIRECTORY_BLOCKS) - used;
+}
 
 /* ---- Numbers and words ---- */
 
@@ -162,8 +199,8 @@ static void print_head(void) {
 
 /* ---- Calls ---- */
 
-typedef uint32_t engine(uint32_t, uint32_t, uint32_t, uint8_t *, size_t, uint8_t *, size_t, uint8_t *, size_t,
-                        uint8_t *, size_t);
+typedef uint32_t engine(uint32_t, uint32_t, uint32_t, uint32_t, uint8_t *, size_t, uint8_t *, size_t, uint8_t *,
+                        size_t, uint8_t *, size_t);
 
 static int wants_file_id(uint32_t function) { return function == MPM_LOCK || function == MPM_UNLOCK; }
 
@@ -203,20 +240,45 @@ static void fill_dma(const struct step *step) {
     }
 }
 
-static uint32_t lend(engine *to, const struct step *step, struct buffers *b) {
-    return to(step->function, step->process, count_of(step), b->fcb, sizeof b->fcb, b->dma, sizeof b->dma, b->list,
-              sizeof b->list, b->image, sizeof b->image);
+static uint32_t lend(engine *to, uint32_t as_kind, const struct step *step, struct buffers *b) {
+    return to(as_kind, step->function, step->process, count_of(step), b->fcb, sizeof b->fcb, b->dma, sizeof b->dma,
+              b->list, sizeof b->list, image_of(b), image_len());
 }
 
-/* Every line that has a block must be as it was last written. */
+/* Where the line stands in the image; 0 where Look shows nothing. */
+static uint32_t place_of(uint32_t as_kind, uint32_t line) {
+    uint32_t at = mpm_look(as_kind, USER, file, MPM_NAME_LEN, line, image_of(&now), image_len());
+    return at <= image_len() - MPM_RECORD_LEN ? at : 0;
+}
+
+/* The lines that have a block, and no others, are there and as they were last written. */
 static void check_lines(void) {
-    for (uint32_t line = 0; line < LINES; line++) {
-        uint32_t at = mpm_look(USER, file, MPM_NAME_LEN, line, now.image, sizeof now.image);
-        if (at == 0 || at > sizeof now.image - MPM_RECORD_LEN) continue;
-        if (memcmp(now.image + at, lines[line], MPM_RECORD_LEN) == 0) continue;
+    for (uint32_t line = 0; line < MOST_LINES; line++) {
+        uint32_t at = place_of(kind, line);
+        if ((at != 0) != has_block[line]) {
+            fault("the line should have a block, or should have none");
+            return;
+        }
+        if (at == 0 || memcmp(image_of(&now) + at, lines[line], MPM_RECORD_LEN) == 0) continue;
         fault("a line is not as it was written");
         return;
     }
+}
+
+/* A book of one kind is never read as another: the call told so is refused, checks and looks tell nothing. */
+static void check_as(uint32_t as_kind, const struct step *step) {
+    uint32_t refusal = as_kind < MPM_KINDS ? MPM_BAD_IMAGE : MPM_BAD_CALL;
+    told = now;
+    if (lend(mpm_call, as_kind, step, &told) != refusal) fault("a book told as another kind is taken");
+    if (memcmp(&told, &now, sizeof now) != 0) fault("a book told as another kind has changed");
+    if (mpm_check(as_kind, image_of(&now), image_len()) != MPM_WRONG_LENGTH) fault("the check takes another kind");
+    if (place_of(as_kind, 0) != 0) fault("Look takes another kind");
+}
+
+static void check_other_kinds(const struct step *step) {
+    static const uint32_t unknown[] = {MPM_KINDS, 256, 257, 0xFFFFFFFFu};
+    check_as(kind == MPM_KIND_SMALL ? MPM_KIND_LARGE : MPM_KIND_SMALL, step);
+    for (size_t i = 0; i < COUNT(unknown); i++) check_as(unknown[i], step);
 }
 
 /* A refused line and those after it must leave no trace, lines done none but themselves. */
@@ -226,7 +288,7 @@ static void check_trace(const struct step *step, uint32_t done) {
     if (memcmp(before.fcb, now.fcb, sizeof now.fcb) != 0) fault("the FCB has changed");
     if (memcmp(before.dma + read, now.dma + read, sizeof now.dma - read) != 0) fault("the DMA has changed");
     if (memcmp(before.list, now.list, sizeof now.list) != 0) fault("the list has changed");
-    if (!written && memcmp(before.image, now.image, sizeof now.image) != 0) fault("the image has changed");
+    if (!written && memcmp(before.room, now.room, sizeof now.room) != 0) fault("the image has changed");
 }
 
 /* One call of the engine for all lines of the step. The plain engine must do the same on buffers of its own. */
@@ -235,13 +297,16 @@ static uint32_t call(const struct step *step) {
     fill_dma(step);
     before = now;
     singly = now;
-    uint32_t answer = lend(mpm_call, step, &now);
+    check_other_kinds(step);
+    uint32_t answer = lend(mpm_call, kind, step, &now);
     uint32_t done = done_of(step, answer);
-    if (lend(mpm_singly, step, &singly) != mpm_code(answer) || memcmp(&singly, &now, sizeof now) != 0)
+    if (lend(mpm_singly, kind, step, &singly) != mpm_code(answer) || memcmp(&singly, &now, sizeof now) != 0)
         fault("single calls do otherwise");
     if (answer != MPM_OK || goes_by_lines(step->function)) check_trace(step, done);
-    for (uint32_t i = 0; i < done && is_write(step->function); i++)
+    for (uint32_t i = 0; i < done && is_write(step->function); i++) {
         compose(lines[step->first + i], step->first + i, step->process);
+        give_block(step->first + i);
+    }
     check_lines();
     return answer;
 }
@@ -252,13 +317,13 @@ static void show_file_id(const struct step *step) {
     uint32_t file_id = get_number(now.fcb + MPM_FCB_RECORD, 3);
     file_ids[step->process] = file_id;
     printf(", File ID %u\n", (unsigned)file_id);
-    expect_figure(file_id, step->figure);
+    expect_figure(file_id, step->file_id);
 }
 
-static void show_free_records(const struct step *step) {
+static void show_free_records(void) {
     uint32_t records = get_number(now.dma + MPM_DMA_FREE, 3);
     printf(", %u records free\n", (unsigned)records);
-    expect_figure(records, step->figure);
+    expect_figure(records, free_records());
 }
 
 /* How many lines a call of several has done. A line read must be the line written. */
@@ -277,7 +342,7 @@ static void show_effect(const struct step *step) {
     switch (step->function) {
     case MPM_OPEN:
     case MPM_MAKE: show_file_id(step); break;
-    case MPM_FREE_SPACE: show_free_records(step); break;
+    case MPM_FREE_SPACE: show_free_records(); break;
     default: printf("\n");
     }
 }
@@ -348,15 +413,15 @@ static int file_exists(const char *path) {
 static int save_image(const char *path) {
     FILE *stream = fopen(path, "wb");
     if (!stream) return 0;
-    int whole = fwrite(now.image, 1, sizeof now.image, stream) == sizeof now.image;
+    int whole = fwrite(image_of(&now), 1, image_len(), stream) == image_len();
     return fclose(stream) == 0 && whole;
 }
 
 static int load_image(const char *path) {
     FILE *stream = fopen(path, "rb");
     if (!stream) return 0;
-    memset(now.image, 0, sizeof now.image);
-    int whole = fread(now.image, 1, sizeof now.image, stream) == sizeof now.image;
+    memset(image_of(&now), 0, image_len());
+    int whole = fread(image_of(&now), 1, image_len(), stream) == image_len();
     fclose(stream);
     return whole;
 }
@@ -366,7 +431,7 @@ static int keep_image(const char *path, const char *words) {
     char text[32];
     before = now;
     if (!save_image(path) || !load_image(path)) return 0;
-    uint32_t answer = mpm_check(now.image, sizeof now.image);
+    uint32_t answer = mpm_check(kind, image_of(&now), image_len());
     snprintf(text, sizeof text, "%u", (unsigned)answer);
     print_row("host", 0, words, text, check_name(answer));
     printf("\n");
@@ -385,22 +450,22 @@ static void print_text(const uint8_t *record) {
 }
 
 static void look(uint32_t line) {
-    uint32_t at = mpm_look(USER, file, MPM_NAME_LEN, line, now.image, sizeof now.image);
+    uint32_t at = place_of(kind, line);
     printf("%6u  %9u  ", (unsigned)line, (unsigned)at);
-    if (at == 0 || at > sizeof now.image - MPM_RECORD_LEN) {
+    if (at == 0) {
         printf("nothing to show\n");
-        if (at != 0 || line < LINES) fault("the line has a block");
+        if (line <= last_line()) fault("the line has a block");
         return;
     }
-    print_text(now.image + at);
-    if (line >= LINES || memcmp(now.image + at, lines[line], MPM_RECORD_LEN) != 0) fault("this is not what was written");
+    print_text(image_of(&now) + at);
+    if (memcmp(image_of(&now) + at, lines[line], MPM_RECORD_LEN) != 0) fault("this is not what was written");
 }
 
 /* ---- The story ---- */
 
 static void start_list(void) {
     static const uint8_t users[MPM_USERS_LEN]; /* every process is user 0 */
-    uint32_t answer = mpm_start(CAPACITY, OPEN_LIMIT, LOCK_LIMIT, users, sizeof users, now.list, sizeof now.list);
+    uint32_t answer = mpm_start(kind, CAPACITY, OPEN_LIMIT, LOCK_LIMIT, users, sizeof users, now.list, sizeof now.list);
     print_answer_row("host", 0, "starts a list: 12 places, 2 opens, 10 locks", answer);
     printf("\n");
     expect_answer(answer, MPM_OK);
@@ -414,7 +479,7 @@ static void morning(void) {
         {CLERK_2, MPM_OPEN, "opens it unlocked", 0, 0, MPM_OK, 1},
         {CLERK_1, MPM_WRITE_ZEROS, "writes lines 0 to 11", 0, 11, MPM_OK, 0},
         {CLERK_2, MPM_WRITE_ZEROS, "writes lines 12 to 23", 12, 23, MPM_OK, 0},
-        {CLERK_2, MPM_FREE_SPACE, "asks for the free space", 0, 0, MPM_OK, 88},
+        {CLERK_2, MPM_FREE_SPACE, "asks for the free space", 0, 0, MPM_OK, 0},
         {CLERK_1, MPM_LOCK, "locks lines 0 to 9", 0, 9, MPM_OK, 0},
     };
     play_all(all, COUNT(all));
@@ -435,20 +500,37 @@ static void noon(void) {
     play_all(all, COUNT(all));
 }
 
+/* The lines of the afternoon that lie in new blocks, and what is said of them. */
+struct afternoon {
+    uint32_t fresh, pair, screen;
+    char in_new_block[WORDS_LEN], two_in_new_block[WORDS_LEN], past_the_last[WORDS_LEN];
+};
+
+static struct afternoon plan_afternoon(void) {
+    struct afternoon p = {new_line(), pair_line(), last_line() - 11, "", "", ""};
+    snprintf(p.in_new_block, WORDS_LEN, "writes line %u, in a new block", (unsigned)p.fresh);
+    snprintf(p.two_in_new_block, WORDS_LEN, "writes lines %u to %u, two in a new block", (unsigned)p.pair,
+             (unsigned)(p.pair + 3));
+    snprintf(p.past_the_last, WORDS_LEN, "reads lines %u to %u: none are past %u", (unsigned)p.screen,
+             (unsigned)(p.screen + 15), (unsigned)last_line());
+    return p;
+}
+
 static void afternoon(void) {
-    static const struct step all[] = {
+    const struct afternoon p = plan_afternoon();
+    const struct step all[] = {
         {CLERK_2, MPM_LOCK, "locks lines 4 to 6", 4, 6, MPM_OK, 0},
         {CLERK_2, MPM_WRITE, "writes line 4", 4, 4, MPM_OK, 0},
         {CLERK_2, MPM_TEST_WRITE, "writes line 5 if it is still as it was", 5, 5, MPM_OK, 0},
-        {CLERK_2, MPM_WRITE_ZEROS, "writes line 24, in a new block", 24, 24, MPM_OK, 0},
-        {CLERK_2, MPM_FREE_SPACE, "asks for the free space", 0, 0, MPM_OK, 80},
+        {CLERK_2, MPM_WRITE_ZEROS, p.in_new_block, p.fresh, p.fresh, MPM_OK, 0},
+        {CLERK_2, MPM_FREE_SPACE, "asks for the free space", 0, 0, MPM_OK, 0},
         {CLERK_3, MPM_OPEN, "opens it unlocked", 0, 0, MPM_OK, 4},
         {CLERK_3, MPM_READ, "reads lines 0 to 15, a screen", 0, 15, MPM_OK, 0},
         {CLERK_3, MPM_WRITE, "writes lines 1 to 8: clerk 2 holds 4", 1, 8, AFTER(3, MPM_LOCKED), 0},
         {CLERK_3, MPM_READ, "reads lines 0 to 15 again", 0, 15, MPM_OK, 0},
-        {CLERK_3, MPM_WRITE_ZEROS, "writes lines 30 to 33, two in a new block", 30, 33, MPM_OK, 0},
-        {CLERK_3, MPM_READ, "reads lines 28 to 43: none are past 39", 28, 43, AFTER(12, MPM_NO_BLOCK), 0},
-        {CLERK_3, MPM_FREE_SPACE, "asks for the free space", 0, 0, MPM_OK, 72},
+        {CLERK_3, MPM_WRITE_ZEROS, p.two_in_new_block, p.pair, p.pair + 3, MPM_OK, 0},
+        {CLERK_3, MPM_READ, p.past_the_last, p.screen, p.screen + 15, AFTER(12, MPM_NO_BLOCK), 0},
+        {CLERK_3, MPM_FREE_SPACE, "asks for the free space", 0, 0, MPM_OK, 0},
     };
     play_all(all, COUNT(all));
 }
@@ -463,16 +545,23 @@ static void evening(void) {
 }
 
 static void look_at_lines(void) {
-    static const uint32_t some[] = {0, 1, 3, 4, 5, 6, 7, 8, 11, 12, 23, 24, 25, 29, 30, 31, 32, 33, 34, 39, 40};
+    static const uint32_t some[] = {0, 1, 3, 4, 5, 6, 7, 8, 11, 12, 23};
     printf("\nWhat Look shows of ORDERS.DAT\n  line  begins at  text\n");
     for (size_t i = 0; i < COUNT(some); i++) look(some[i]);
+    look(new_line());
+    look(new_line() + 1);
+    for (uint32_t line = pair_line() - 1; line <= pair_line() + 4; line++) look(line);
+    look(last_line());
+    look(last_line() + 1);
 }
 
 static int tell(const char *path) {
+    char words[WORDS_LEN];
     printf("An order book that clerks share. A/H is the engine's answer.\n");
     print_head();
-    memset(now.image, MPM_EMPTY, sizeof now.image);
-    if (!keep_image(path, "makes ORDERS.IMG, 16 empty blocks; checks it")) return 0;
+    memset(image_of(&now), MPM_EMPTY, image_len());
+    snprintf(words, sizeof words, "makes ORDERS.IMG, %u empty blocks; checks it", (unsigned)blocks);
+    if (!keep_image(path, words)) return 0;
     start_list();
     morning();
     show_list("before the death", 12);
@@ -492,11 +581,26 @@ static int tell(const char *path) {
     return 1;
 }
 
+/* Takes the words after the program's name. 0 if they are wrong. */
+static int read_words(int argc, char **argv, char path[PATH_LEN]) {
+    if (argc < 2 || argc > 3) return 0;
+    if (argc == 2 || strcmp(argv[2], "small") == 0) {
+        kind = MPM_KIND_SMALL;
+        blocks = SMALL_BLOCKS;
+    } else if (strcmp(argv[2], "large") == 0) {
+        kind = MPM_KIND_LARGE;
+        blocks = LARGE_BLOCKS;
+    } else {
+        return 0;
+    }
+    int length = snprintf(path, PATH_LEN, "%s/ORDERS.IMG", argv[1]);
+    return length >= 0 && length < PATH_LEN;
+}
+
 int main(int argc, char **argv) {
     char path[PATH_LEN];
-    int length = argc == 2 ? snprintf(path, sizeof path, "%s/ORDERS.IMG", argv[1]) : -1;
-    if (length < 0 || length >= PATH_LEN) {
-        fprintf(stderr, "use: story FOLDER\n");
+    if (!read_words(argc, argv, path)) {
+        fprintf(stderr, "use: story FOLDER [small|large]\n");
         return WRONG_USE;
     }
     if (file_exists(path)) {

@@ -1,6 +1,6 @@
 #!/usr/bin/env bash
-# story.sh: builds the host and plays the story of the order book. From a fresh clone the engine is proved first, which
-# takes minutes. The book stays in target/host/book/ORDERS.IMG.
+# story.sh [small|large]: builds the host and plays the story of the order book, on a drive of that kind (small). From a
+# fresh clone the engine is proved first, which takes minutes. The book stays in target/host/book/ORDERS.IMG.
 set -euo pipefail
 here=$(cd "$(dirname "${BASH_SOURCE[0]}")" && pwd -P)
 # shellcheck source=kit.sh
@@ -9,4 +9,4 @@ here=$(cd "$(dirname "${BASH_SOURCE[0]}")" && pwd -P)
 "$here/build.sh"
 mkdir -p "$out/book"
 rm -f "$out/book/ORDERS.IMG"
-"$here/run.sh" "$out/story" "$out/book"
+"$here/run.sh" "$out/story" "$out/book" "$@"

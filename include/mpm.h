@@ -3,6 +3,9 @@
    The engine is five functions on numbers and lent bytes. It keeps nothing between two calls: the drive is the bytes of
    the image, who has opened and locked what is the bytes of the list, and both are the host's.
 
+   A drive is of one of two kinds, small or large. Nothing in the image says which: every function is told, and an image
+   of one kind is never read as the other, since no length is one of both.
+
    What is promised, for all numbers and for buffers of every length and content:
    - Every call ends with a defined answer. The host need not test anything first.
    - A call is accepted exactly when no refusal applies, and then has exactly its effect; otherwise the answer is the
@@ -24,8 +27,9 @@ extern "C" {
 #endif
 
 /* Raised with each change of a length or of a function's parameters. 1 was before this name was; since 2 the DMA has
-   2,048 bytes. */
-#define MPM_VERSION 2u
+   2,048 bytes; since 3 the first parameter of every function is the kind of drive, and the sizes of a drive have its
+   kind in their names. */
+#define MPM_VERSION 3u
 
 /* ---- Sizes, in bytes where the name ends in LEN ---- */
 
@@ -42,15 +46,71 @@ extern "C" {
 #define MPM_RECORD_LEN 128u
 #define MPM_RECORDS 262144u /* a file has the records 0 to 262,143 */
 
-/* The image is 3 to 256 blocks. Blocks 0 and 1 are the directory. An empty drive is E5h in every byte. */
-#define MPM_BLOCK_LEN 1024u
-#define MPM_BLOCK_RECORDS 8u
-#define MPM_MIN_BLOCKS 3u
-#define MPM_MAX_BLOCKS 256u
+/* A drive of either kind. The image is a whole number of blocks, of which 0 and 1 are the directory. An empty drive is
+   E5h in every byte. An entry is an extent of 128 records; its last 16 bytes are its block numbers, 0 for none. */
 #define MPM_DIRECTORY_BLOCKS 2u
-#define MPM_ENTRIES 64u
 #define MPM_ENTRY_LEN 32u
 #define MPM_EMPTY 0xE5u /* byte 0 of an empty entry */
+#define MPM_EXTENT_RECORDS 128u
+#define MPM_MAP_LEN 16u
+
+/* The kinds, as the functions are told them. Every other number is an unknown kind. */
+#define MPM_KIND_SMALL 0u
+#define MPM_KIND_LARGE 1u
+#define MPM_KINDS 2u
+
+/* The small kind: 3 to 256 blocks of 1,024 bytes, block numbers of one byte. */
+#define MPM_SMALL_BLOCK_LEN 1024u
+#define MPM_SMALL_BLOCK_RECORDS 8u
+#define MPM_SMALL_MIN_BLOCKS 3u
+#define MPM_SMALL_MAX_BLOCKS 256u
+#define MPM_SMALL_ENTRIES 64u
+#define MPM_SMALL_NUMBERS 16u   /* block numbers in an entry */
+#define MPM_SMALL_NUMBER_LEN 1u /* bytes of a block number */
+
+/* The large kind: 257 to 4,096 blocks of 2,048 bytes, block numbers of two bytes, low byte first. The directory can
+   name 1,024 blocks; of a longer drive the rest stays free. */
+#define MPM_LARGE_BLOCK_LEN 2048u
+#define MPM_LARGE_BLOCK_RECORDS 16u
+#define MPM_LARGE_MIN_BLOCKS 257u
+#define MPM_LARGE_MAX_BLOCKS 4096u
+#define MPM_LARGE_ENTRIES 128u
+#define MPM_LARGE_NUMBERS 8u
+#define MPM_LARGE_NUMBER_LEN 2u
+
+/* The same by the kind's number. 0 for an unknown kind. */
+static inline uint32_t mpm_of_kind(uint32_t kind, uint32_t of_small, uint32_t of_large) {
+    if (kind == MPM_KIND_SMALL) return of_small;
+    return kind == MPM_KIND_LARGE ? of_large : 0u;
+}
+
+static inline uint32_t mpm_block_len(uint32_t kind) {
+    return mpm_of_kind(kind, MPM_SMALL_BLOCK_LEN, MPM_LARGE_BLOCK_LEN);
+}
+
+static inline uint32_t mpm_block_records(uint32_t kind) {
+    return mpm_of_kind(kind, MPM_SMALL_BLOCK_RECORDS, MPM_LARGE_BLOCK_RECORDS);
+}
+
+static inline uint32_t mpm_min_blocks(uint32_t kind) {
+    return mpm_of_kind(kind, MPM_SMALL_MIN_BLOCKS, MPM_LARGE_MIN_BLOCKS);
+}
+
+static inline uint32_t mpm_max_blocks(uint32_t kind) {
+    return mpm_of_kind(kind, MPM_SMALL_MAX_BLOCKS, MPM_LARGE_MAX_BLOCKS);
+}
+
+static inline uint32_t mpm_entries(uint32_t kind) { return mpm_of_kind(kind, MPM_SMALL_ENTRIES, MPM_LARGE_ENTRIES); }
+
+static inline uint32_t mpm_numbers(uint32_t kind) { return mpm_of_kind(kind, MPM_SMALL_NUMBERS, MPM_LARGE_NUMBERS); }
+
+/* How many blocks an image of this length has. 0 where no drive of the kind is so long: then calls answer 255/1. */
+static inline uint32_t mpm_blocks(uint32_t kind, size_t image_len) {
+    size_t block_len = mpm_block_len(kind);
+    if (block_len == 0 || image_len % block_len != 0) return 0u;
+    if (image_len / block_len < mpm_min_blocks(kind) || image_len / block_len > mpm_max_blocks(kind)) return 0u;
+    return (uint32_t)(image_len / block_len);
+}
 
 /* The list has 64 places, of which it uses those below its capacity. */
 #define MPM_PLACES 64u
@@ -64,7 +124,8 @@ extern "C" {
 #define MPM_FCB_NAME 1u      /* 11 bytes; high bits take no part in comparing */
 #define MPM_FCB_UNLOCKED 5u  /* 15, 22: high bit set asks for unlocked mode */
 #define MPM_FCB_READ_ONLY 6u /* 15: high bit set asks for read-only mode, before unlocked */
-#define MPM_FCB_COUNT 15u    /* 15, 22 set it: record count of extent 0, then its 16 block numbers */
+#define MPM_FCB_COUNT 15u    /* 15, 22 set it: record count of extent 0 */
+#define MPM_FCB_MAP 16u      /* 15, 22 set it: extent 0's 16 map bytes as they are: 16 block numbers, or 8 if large */
 #define MPM_FCB_NEW_NAME 17u /* 23: 11 bytes */
 #define MPM_FCB_RECORD 33u   /* 3 bytes: the record number; 15 and 22 leave the File ID here in unlocked mode */
 
@@ -116,10 +177,10 @@ static inline uint32_t mpm_done(uint32_t answer, uint32_t count) {
 }
 
 /* Tested first, in this order, before any record.
-   255/13: unknown function, process over 15, count outside 1 to 16, FCB, DMA or list of wrong length;
-           start: a number or a user out of range, users or list of wrong length */
+   255/13: unknown kind of drive, unknown function, process over 15, count outside 1 to 16, FCB, DMA or list of wrong
+           length; start: unknown kind, a number or a user out of range, users or list of wrong length */
 #define MPM_BAD_CALL MPM_ANSWER(255u, 13u)
-/* 255/1: image not sound, wrong length too */
+/* 255/1: image not sound, as one of the told kind; a length that this kind does not have, too */
 #define MPM_BAD_IMAGE MPM_ANSWER(255u, 1u)
 /* 255/12: list not sound */
 #define MPM_BAD_LIST MPM_ANSWER(255u, 12u)
@@ -196,7 +257,8 @@ static inline uint32_t mpm_done(uint32_t answer, uint32_t count) {
    or its block is missing.
    NOT_OPEN, READ_ONLY, PAST_END, LOCKED, DIRECTORY_FULL, DISK_FULL */
 #define MPM_WRITE 34u
-/* 40: as 34, refusals too; a record that takes a block has the block's other seven records cleared. */
+/* 40: as 34, refusals too; a record that takes a block has the block's other records cleared, seven on a small drive
+   and fifteen on a large one. */
 #define MPM_WRITE_ZEROS 40u
 /* 41: stores DMA bytes 128 to 255 as a record that was equal to bytes 0 to 127.
    NOT_OPEN, READ_ONLY, PAST_END, LOCKED, NO_EXTENT, NO_BLOCK, DIFFERS */
@@ -209,7 +271,8 @@ static inline uint32_t mpm_done(uint32_t answer, uint32_t count) {
 /* 43: takes away the caller's locks on count records from the FCB's on; modes as for 42.
    NOT_OPEN, BAD_FILE_ID, PAST_END */
 #define MPM_UNLOCK 43u
-/* 46: puts eight times the number of free blocks in DMA bytes 0 to 2. No refusal of its own. */
+/* 46: puts the number of free records in DMA bytes 0 to 2: eight times the free blocks of a small drive, sixteen times
+   those of a large one. No refusal of its own. */
 #define MPM_FREE_SPACE 46u
 /* 143: takes away all opens and locks of a process, as for a program that died. No refusal of its own. */
 #define MPM_TERMINATE 143u
@@ -217,40 +280,41 @@ static inline uint32_t mpm_done(uint32_t answer, uint32_t count) {
 /* ---- Answers of mpm_check ---- */
 
 #define MPM_SOUND 0u        /* the image is sound */
-#define MPM_WRONG_LENGTH 1u /* it is not 3 to 256 whole blocks */
+#define MPM_WRONG_LENGTH 1u /* no drive of the told kind has this length, or the kind is unknown */
 #define MPM_UNSOUND 2u      /* its directory is not sound */
 
 /* ---- The engine ---- */
 
 /* One call of an MP/M II program. Gives A + 256 H.
-   Numbers are taken as they come, never cut to a byte: function 271 is unknown. Count must be 1 to 16 for all
-   functions; 33, 34, 40, 42 and 43 use it, the others do their work once. The lengths must be 36, 2,048, 1,299 and a
-   whole number of blocks. An answer other than MPM_OK leaves all four buffers as they were, but for the records that a
-   33, 34 or 40 has done (mpm_done). The FCB's record number is not moved on, and DMA bytes past the records done stay.
-   A file is a name and the user that the list gives the process. */
-uint32_t mpm_call(uint32_t function, uint32_t process, uint32_t count,
+   Numbers are taken as they come, never cut to a byte: kind 256 and function 271 are unknown. Count must be 1 to 16 for
+   all functions; 33, 34, 40, 42 and 43 use it, the others do their work once. The lengths must be 36, 2,048, 1,299 and
+   one that a drive of the kind has. An answer other than MPM_OK leaves all four buffers as they were, but for the
+   records that a 33, 34 or 40 has done (mpm_done). The FCB's record number is not moved on, and DMA bytes past the
+   records done stay. A file is a name and the user that the list gives the process. */
+uint32_t mpm_call(uint32_t kind, uint32_t function, uint32_t process, uint32_t count,
                   uint8_t *fcb, size_t fcb_len, uint8_t *dma, size_t dma_len,
                   uint8_t *list, size_t list_len, uint8_t *image, size_t image_len);
 
 /* The plain engine, slower and kept to compare with: a 33, 34 or 40 is made as single calls one after another, up to
    the first that is refused. Its answer is that of the last single call, so it tells no number of records done:
    mpm_code of mpm_call's answer, with the same bytes in all four buffers. Every other function as mpm_call does it. */
-uint32_t mpm_singly(uint32_t function, uint32_t process, uint32_t count,
+uint32_t mpm_singly(uint32_t kind, uint32_t function, uint32_t process, uint32_t count,
                     uint8_t *fcb, size_t fcb_len, uint8_t *dma, size_t dma_len,
                     uint8_t *list, size_t list_len, uint8_t *image, size_t image_len);
 
-/* Writes a fresh list: MPM_OK, whatever the list held before. Or MPM_BAD_CALL and the list as it was, where one of the
-   three numbers is not 1 to 64, a user is not 0 to 15, users_len is not 16 or list_len is not 1,299. */
-uint32_t mpm_start(uint32_t capacity, uint32_t open_limit, uint32_t lock_limit,
+/* Writes a fresh list for a drive of the kind: MPM_OK, whatever the list held before. Or MPM_BAD_CALL and the list as
+   it was, where the kind is unknown, one of the three numbers is not 1 to 64, a user is not 0 to 15, users_len is not
+   16 or list_len is not 1,299. */
+uint32_t mpm_start(uint32_t kind, uint32_t capacity, uint32_t open_limit, uint32_t lock_limit,
                    const uint8_t *users, size_t users_len, uint8_t *list, size_t list_len);
 
-/* Checks an image: MPM_SOUND, MPM_WRONG_LENGTH or MPM_UNSOUND. Changes nothing. */
-uint32_t mpm_check(const uint8_t *image, size_t image_len);
+/* Checks an image of the kind: MPM_SOUND, MPM_WRONG_LENGTH or MPM_UNSOUND. Changes nothing. */
+uint32_t mpm_check(uint32_t kind, const uint8_t *image, size_t image_len);
 
 /* Tells where the 128 bytes of a record begin in the image, for screens. They lie inside the image and behind the
-   directory. Gives 0 where there is nothing to show: the image is not sound, the user over 15, the name illegal (any
-   length but 11 too), or the record has no block. Changes nothing. */
-uint32_t mpm_look(uint32_t user, const uint8_t *name, size_t name_len, uint32_t record,
+   directory. Gives 0 where there is nothing to show: the kind is unknown, the image not sound as one of the kind, the
+   user over 15, the name illegal (any length but 11 too), or the record has no block. Changes nothing. */
+uint32_t mpm_look(uint32_t kind, uint32_t user, const uint8_t *name, size_t name_len, uint32_t record,
                   const uint8_t *image, size_t image_len);
 
 #ifdef __cplusplus

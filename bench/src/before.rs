@@ -1,15 +1,16 @@
 //! Times the engine of an earlier commit and that of this tree, taking turns in one run: the image check alone, each call
-//! that is timed beside plain C, and each run of sixteen records.
+//! that is timed beside plain C, and each run of sixteen records, on the kinds of drive that the earlier one knows.
 
 mod engines;
 mod report;
 
-use crate::books::{self, Book, Call, Kind, BY_RECORDS, FUNCTIONS, KINDS, MOST, SIZES};
-use crate::measure::{all_books, calls, check_round, outcome, round, runs, stack, stack_of_call};
-use engines::{Version, BEFORE, BOTH, NOW};
+use crate::books::{Book, Call, Drive, Filling, BY_RECORDS, FUNCTIONS, MOST};
+use crate::measure::{all_calls, book, stack, Shelf, Trial, BOOKS};
+use crate::shelves;
+use engines::{kinds_before, Version, BEFORE, BOTH, NOW};
 use std::path::Path;
 
-/// What is done on the books of a kind.
+/// What is done on the books of a shelf.
 enum Work {
     Check,
     /// A call for each book. They differ in names and bytes alone.
@@ -21,8 +22,8 @@ type Both<T> = [T; 2];
 
 /// The same work on the same books by both.
 struct Pair {
-    kind: Kind,
-    blocks: usize,
+    filling: Filling,
+    drive: Drive,
     work: Work,
     /// Nanoseconds of each round.
     rounds: Vec<Both<f64>>,
@@ -31,14 +32,20 @@ struct Pair {
 
 /// Writes before.md and before.csv to the folder. Gives what stands in the first.
 pub fn compare_into(folder: &str, rounds: usize) -> Result<String, String> {
-    for (kind, blocks) in shelves() {
-        agree(kind, blocks).map_err(|work| report::disagreement(kind, blocks, &work))?;
+    for (filling, drive) in known_shelves() {
+        agree(filling, drive).map_err(|work| report::disagreement(filling, drive, &work))?;
     }
-    let timed = |(kind, blocks)| pairs(kind, blocks, rounds);
-    let pairs: Vec<Pair> = shelves().flat_map(timed).collect();
+    let timed = |(filling, drive)| pairs(filling, drive, rounds);
+    let pairs: Vec<Pair> = known_shelves().flat_map(timed).collect();
     let table = report::table(&pairs, rounds);
     write(Path::new(folder), &table, &report::csv(&pairs)).map_err(|error| format!("{folder}: {error}"))?;
     Ok(table)
+}
+
+/// An engine from before the second kind of drive is timed on the first alone.
+fn known_shelves() -> impl Iterator<Item = (Filling, Drive)> {
+    let is_known = |(_, drive): &(Filling, Drive)| drive.kind.number() < kinds_before();
+    shelves().into_iter().filter(is_known)
 }
 
 fn write(folder: &Path, table: &str, csv: &str) -> std::io::Result<()> {
@@ -47,76 +54,63 @@ fn write(folder: &Path, table: &str, csv: &str) -> std::io::Result<()> {
     std::fs::write(folder.join("before.csv"), csv)
 }
 
-/// Each kind of book on each size of drive.
-fn shelves() -> impl Iterator<Item = (Kind, usize)> {
-    let of = |kind| SIZES.map(|blocks| (kind, blocks));
-    KINDS.into_iter().flat_map(of)
+/// Or the first work that the two do not do alike: then they are no engines to time beside each other.
+fn agree(filling: Filling, drive: Drive) -> Result<(), Work> {
+    let mut books = (0..BOOKS as u64).map(|seed| book(filling, drive, seed));
+    books.try_for_each(|book| agree_on(filling, &book))
 }
 
-/// Or the first work that the two do not do alike: then they are no engines to time beside each other.
-fn agree(kind: Kind, blocks: usize) -> Result<(), Work> {
-    let books = all_books(kind, blocks);
-    if !books.iter().all(is_checked_alike) {
+fn agree_on(filling: Filling, book: &Book) -> Result<(), Work> {
+    if BEFORE.check(book) != NOW.check(book) {
         return Err(Work::Check);
     }
-    for (function, _) in FUNCTIONS {
-        agree_on(&books, calls(&books, kind, function))?;
+    let mut trial = Trial::new(book);
+    for call in all_calls(filling, book) {
+        if !is_done_alike(&mut trial, &call) {
+            return Err(Work::Calls(vec![call]));
+        }
     }
-    for run in books::runs() {
-        agree_on(&books, runs(&books, kind, run))?;
-    }
+    assert!(trial.is_whole(), "nothing else has changed");
     Ok(())
 }
 
-fn agree_on(books: &[Book], calls: Vec<Call>) -> Result<(), Work> {
-    if books.iter().zip(&calls).all(is_called_alike) {
-        return Ok(());
-    }
-    Err(Work::Calls(calls))
-}
-
-fn is_checked_alike(book: &Book) -> bool {
-    BEFORE.check(&book.image) == NOW.check(&book.image)
-}
-
 /// The same answer and the same bytes after it, of single calls too.
-fn is_called_alike((book, call): (&Book, &Call)) -> bool {
-    let same = |[before, now]: Both<Version>| outcome(before, book, call) == outcome(now, book, call);
+fn is_done_alike(trial: &mut Trial, call: &Call) -> bool {
+    let mut same = |[before, now]: Both<Version>| trial.outcome(before, call) == trial.outcome(now, call);
     same(BOTH) && same(BOTH.map(Version::plain_side))
 }
 
-fn pairs(kind: Kind, blocks: usize, rounds: usize) -> Vec<Pair> {
-    let books = all_books(kind, blocks);
-    let works = works(kind, blocks, &books);
-    let times = times(&works, &books, rounds);
+fn pairs(filling: Filling, drive: Drive, rounds: usize) -> Vec<Pair> {
+    let mut shelf = Shelf::new(filling, drive);
+    let works = works(&shelf);
+    let times = times(&works, &mut shelf, rounds);
     let pair = |(work, rounds): (Work, _)| Pair {
-        kind,
-        blocks,
+        filling,
+        drive,
         rounds,
-        stack: BOTH.map(|version| work.stack(version, &books[0])),
+        stack: BOTH.map(|version| work.stack(version, &mut shelf)),
         work,
     };
     works.into_iter().zip(times).map(pair).collect()
 }
 
 /// The check, the calls of each function, and where a file has sixteen records each run of so many.
-fn works(kind: Kind, blocks: usize, books: &[Book]) -> Vec<Work> {
+fn works(shelf: &Shelf) -> Vec<Work> {
     let mut works = vec![Work::Check];
-    works.extend(FUNCTIONS.map(|(function, _)| Work::Calls(calls(books, kind, function))));
-    if kind.sizes_with_sixteen().contains(&blocks) {
-        works.extend(BY_RECORDS.map(|function| Work::Calls(runs(books, kind, (function, 0, MOST)))));
+    works.extend(FUNCTIONS.map(|(function, _)| Work::Calls(shelf.calls(function))));
+    if shelf.filling.has_sixteen(shelf.drive) {
+        works.extend(BY_RECORDS.map(|function| Work::Calls(shelf.runs((function, 0, MOST)))));
     }
     works
 }
 
 /// What each round took, for each work. A round goes through all of them, so that a slow moment of the machine takes a few
 /// rounds of many and not all rounds of one.
-fn times(works: &[Work], books: &[Book], rounds: usize) -> Vec<Vec<Both<f64>>> {
-    let mut used = books.to_vec();
+fn times(works: &[Work], shelf: &mut Shelf, rounds: usize) -> Vec<Vec<Both<f64>>> {
     let mut times = vec![Vec::new(); works.len()];
     for number in 0..rounds {
         for (work, times) in works.iter().zip(&mut times) {
-            times.push(in_turn(number, |version| work.time(version, books, &mut used)));
+            times.push(in_turn(number, |version| work.time(version, shelf)));
         }
     }
     times
@@ -135,23 +129,27 @@ fn in_turn(number: usize, mut time: impl FnMut(Version) -> f64) -> Both<f64> {
 }
 
 impl Work {
-    fn time(&self, version: Version, books: &[Book], used: &mut [Book]) -> f64 {
+    fn time(&self, version: Version, shelf: &mut Shelf) -> f64 {
         match self {
-            Work::Check => check_round(|image| version.check(image), used),
-            Work::Calls(calls) => round(version, calls, books, used),
+            Work::Check => {
+                shelf.restore();
+                let kind = shelf.drive.kind.number();
+                shelf.check_round(|image| version.check_image(kind, image))
+            }
+            Work::Calls(calls) => shelf.round(version, calls),
         }
     }
 
-    fn stack(&self, version: Version, book: &Book) -> usize {
+    fn stack(&self, version: Version, shelf: &mut Shelf) -> usize {
         match self {
-            Work::Check => check_stack(version, book.image.clone()),
-            Work::Calls(calls) => stack_of_call(version, book, &calls[0]),
+            Work::Check => check_stack(version, shelf.books[0].clone()),
+            Work::Calls(calls) => shelf.stack_of(version, &calls[0]),
         }
     }
 }
 
-fn check_stack(version: Version, image: Vec<u8>) -> usize {
+fn check_stack(version: Version, book: Book) -> usize {
     stack(move || {
-        version.check(&image);
+        version.check(&book);
     })
 }

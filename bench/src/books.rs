@@ -2,15 +2,18 @@
 
 use reference::build::{lock_item, open_item, put_entry, put_item, Entry, Fcb};
 use reference::calls::DMA_LENGTH;
+use reference::kind::{Kind, ENTRY};
 use reference::random::Random;
+use std::ops::Range;
 
 const LOCKED_FILE: usize = 0;
 const SECOND_FILE: usize = 1;
 const CALLER: u8 = 1;
 const STRANGER: u8 = 9;
 
+/// How a book is filled.
 #[derive(Clone, Copy, PartialEq, Eq)]
-pub enum Kind {
+pub enum Filling {
     Empty,
     Typical,
     FullDirectory,
@@ -18,15 +21,50 @@ pub enum Kind {
     BothFull,
 }
 
-pub const KINDS: [Kind; 5] = [
-    Kind::Empty,
-    Kind::Typical,
-    Kind::FullDirectory,
-    Kind::FullList,
-    Kind::BothFull,
+pub const FILLINGS: [Filling; 5] = [
+    Filling::Empty,
+    Filling::Typical,
+    Filling::FullDirectory,
+    Filling::FullList,
+    Filling::BothFull,
 ];
 
-pub const SIZES: [usize; 3] = [3, 64, 256];
+#[derive(Clone, Copy, PartialEq, Eq)]
+pub struct Drive {
+    pub kind: Kind,
+    pub blocks: usize,
+}
+
+/// The drives of a kind that calls are timed on. The last one is shown, and its times are held against those of the one
+/// before it.
+pub fn drives(kind: Kind) -> Vec<Drive> {
+    let sizes: &[usize] = match kind {
+        Kind::First => &[3, 64, 256],
+        Kind::Second => &[257, 4_096],
+    };
+    sizes.iter().map(|&blocks| Drive { kind, blocks }).collect()
+}
+
+pub fn all_drives() -> Vec<Drive> {
+    Kind::ALL.into_iter().flat_map(drives).collect()
+}
+
+/// The one before the last of its kind, and the last.
+pub fn beside_and_shown(kind: Kind) -> [Drive; 2] {
+    let drives = drives(kind);
+    [drives[drives.len() - 2], drives[drives.len() - 1]]
+}
+
+pub fn shown(kind: Kind) -> Drive {
+    beside_and_shown(kind)[1]
+}
+
+pub fn kind_title(kind: Kind) -> &'static str {
+    match kind {
+        Kind::First => "small",
+        Kind::Second => "large",
+    }
+}
 
 pub const FUNCTIONS: [(u32, &str); 13] = [
     (15, "Open"),
@@ -49,52 +87,64 @@ pub const BY_RECORDS: [u32; 3] = [33, 34, 40];
 pub const COUNTS: [u32; 5] = [1, 2, 4, 8, 16];
 pub const MOST: u32 = 16;
 
-/// Where the runs begin that are compared and not timed: at records that are there, before a lock of another process in
-/// a full list, before a missing block, before a missing extent, before the last record and behind it.
-const FIRSTS: [u32; 6] = [0, 7, 30, 120, 262_136, 262_144];
+/// Function, first record and count of a run of records.
+pub type Run = (u32, u32, u32);
 
-impl Kind {
+/// Where the runs begin that are compared and not timed: at records that are there, before a lock of another process in
+/// a full list, before a missing block of either kind of drive, before a missing extent, before the last record and
+/// behind it.
+const FIRSTS: [u32; 7] = [0, 7, 30, 70, 120, 262_136, 262_144];
+
+/// A list has at most so many locks of the file with the locks.
+const MOST_LOCKS: u32 = 40;
+
+impl Filling {
     pub fn title(self) -> &'static str {
         match self {
-            Kind::Empty => "empty",
-            Kind::Typical => "typical",
-            Kind::FullDirectory => "full directory",
-            Kind::FullList => "full list",
-            Kind::BothFull => "both full",
+            Filling::Empty => "empty",
+            Filling::Typical => "typical",
+            Filling::FullDirectory => "full directory",
+            Filling::FullList => "full list",
+            Filling::BothFull => "both full",
         }
     }
 
-    pub fn describe(self) -> &'static str {
+    pub fn describe(self, drive: Drive) -> String {
+        let (files, used) = (self.files(drive.kind), owners(self, drive).len());
         match self {
-            Kind::Empty => "no file, no item",
-            Kind::Typical => "12 files of five blocks, 6 opens, 10 locks",
-            Kind::FullDirectory => "64 files, all blocks used, 6 opens, 10 locks",
-            Kind::FullList => "12 files of five blocks, 24 opens, 40 locks",
-            Kind::BothFull => "64 files, all blocks used, 24 opens, 40 locks",
+            Filling::Empty => "no file, no item".to_string(),
+            Filling::Typical => format!("{files} files of five blocks, 6 opens, 10 locks"),
+            Filling::FullDirectory => format!("{files} files of {used} blocks, 6 opens, 10 locks"),
+            Filling::FullList => format!("{files} files of five blocks, 24 opens, 40 locks"),
+            Filling::BothFull => format!("{files} files of {used} blocks, 24 opens, 40 locks"),
         }
     }
 
-    fn files(self) -> usize {
+    fn files(self, kind: Kind) -> usize {
         match self {
-            Kind::Empty => 0,
-            Kind::Typical | Kind::FullList => 12,
-            Kind::FullDirectory | Kind::BothFull => 64,
+            Filling::Empty => 0,
+            Filling::Typical | Filling::FullList => 12,
+            Filling::FullDirectory | Filling::BothFull => kind.entries(),
         }
+    }
+
+    fn is_directory_full(self) -> bool {
+        matches!(self, Filling::FullDirectory | Filling::BothFull)
     }
 
     fn is_list_full(self) -> bool {
-        matches!(self, Kind::FullList | Kind::BothFull)
+        matches!(self, Filling::FullList | Filling::BothFull)
     }
 
-    /// The sizes of drive on which the file with the locks has sixteen records.
-    pub fn sizes_with_sixteen(self) -> Vec<usize> {
-        let has_sixteen = |blocks: &usize| records(&owners(self, *blocks)) >= MOST;
-        SIZES.into_iter().filter(has_sixteen).collect()
+    /// The file with the locks has sixteen records there.
+    pub fn has_sixteen(self, drive: Drive) -> bool {
+        records(drive.kind, &owners(self, drive)) >= MOST
     }
 }
 
 #[derive(Clone)]
 pub struct Book {
+    pub kind: Kind,
     pub list: Vec<u8>,
     pub image: Vec<u8>,
     names: Vec<[u8; 11]>,
@@ -102,8 +152,29 @@ pub struct Book {
     records: u32,
 }
 
+impl Book {
+    pub fn directory(&self) -> Range<usize> {
+        0..self.kind.directory()
+    }
+
+    /// Where the blocks of a file of user 0 lie, as the directory tells now.
+    pub fn blocks_of(&self, name: &[u8]) -> Vec<Range<usize>> {
+        let is_of = |entry: &&[u8]| entry[0] == 0 && &entry[1..12] == name;
+        let entries = self.image[self.directory()].chunks_exact(ENTRY).filter(is_of);
+        let numbers = entries.flat_map(|entry| self.kind.numbers(&entry[16..]));
+        let block = self.kind.block();
+        let place = |number: u16| block * usize::from(number)..block * (usize::from(number) + 1);
+        numbers.filter(|&number| number != 0).map(place).collect()
+    }
+
+    pub fn blocks_of_locked_file(&self) -> Vec<Range<usize>> {
+        self.blocks_of(&name(self, LOCKED_FILE))
+    }
+}
+
 #[derive(Clone)]
 pub struct Call {
+    pub kind: u32,
     pub function: u32,
     pub process: u32,
     pub count: u32,
@@ -111,15 +182,15 @@ pub struct Call {
     pub dma: Vec<u8>,
 }
 
-pub fn book(kind: Kind, blocks: usize, random: &mut Random) -> Book {
-    let names = names(kind.files(), random);
-    let owners = owners(kind, blocks);
-    let mut order: Vec<u8> = (2..blocks).map(|block| block as u8).collect();
-    random.shuffle(&mut order);
-    let records = records(&owners);
+pub fn book(filling: Filling, drive: Drive, random: &mut Random) -> Book {
+    let names = names(filling.files(drive.kind), random);
+    let owners = owners(filling, drive);
+    let order = order(filling, drive, owners.len(), random);
+    let records = records(drive.kind, &owners);
     Book {
-        list: list(kind, &names, records),
-        image: image(blocks, &names, &owners, &order, random),
+        kind: drive.kind,
+        list: list(filling, &names, records),
+        image: image(drive, &names, &owners, &order, random),
         names,
         records,
     }
@@ -127,41 +198,57 @@ pub fn book(kind: Kind, blocks: usize, random: &mut Random) -> Book {
 
 /// Distinct names that share their first bytes, as those of one program do.
 fn names(count: usize, random: &mut Random) -> Vec<[u8; 11]> {
-    let mut numbers: Vec<usize> = (0..100).collect();
+    let digits = if count <= 100 { 2 } else { 3 };
+    let stem = &"ORDERS"[..8 - digits];
+    let mut numbers: Vec<usize> = (0..10usize.pow(digits as u32)).collect();
     random.shuffle(&mut numbers);
-    let name = |number: &usize| reference::build::name(&format!("ORDERS{number:02}.DAT"));
+    let name = |number: &usize| reference::build::name(&format!("{stem}{number:0digits$}.DAT"));
     numbers[..count].iter().map(name).collect()
 }
 
-/// The file that each used block belongs to. The first file gets five before the others.
-fn owners(kind: Kind, blocks: usize) -> Vec<usize> {
-    let data = blocks - 2;
+/// The file that each used block belongs to. The first file gets five before the others, which get all that there are
+/// and that their entries can name.
+fn owners(filling: Filling, drive: Drive) -> Vec<usize> {
+    let (data, files) = (drive.blocks - 2, filling.files(drive.kind));
     let each = |count: usize| (0..count).flat_map(|file| [file; 5]).take(data).collect();
-    match kind {
-        Kind::Empty => Vec::new(),
-        Kind::Typical | Kind::FullList => each(kind.files()),
-        Kind::FullDirectory | Kind::BothFull => {
-            let mut owners: Vec<usize> = each(1);
-            owners.extend((0..data - owners.len()).map(|at| 1 + at % 63));
-            owners
-        }
+    if !filling.is_directory_full() {
+        return each(files);
     }
+    let mut owners: Vec<usize> = each(1);
+    let others = files - 1;
+    let more = (data - owners.len()).min(others * drive.kind.numbers_per_entry());
+    owners.extend((0..more).map(|at| 1 + at % others));
+    owners
+}
+
+/// The used blocks. Those of a full directory are the lowest, so that the search for a free one passes them all.
+fn order(filling: Filling, drive: Drive, used: usize, random: &mut Random) -> Vec<u16> {
+    let end = if filling.is_directory_full() {
+        2 + used
+    } else {
+        drive.blocks
+    };
+    let mut order: Vec<u16> = (2..end).map(|block| block as u16).collect();
+    random.shuffle(&mut order);
+    order
 }
 
 /// How many records the file with the locks has.
-fn records(owners: &[usize]) -> u32 {
-    8 * owners.iter().filter(|&&owner| owner == LOCKED_FILE).count() as u32
+fn records(kind: Kind, owners: &[usize]) -> u32 {
+    kind.records_per_block() * owners.iter().filter(|&&owner| owner == LOCKED_FILE).count() as u32
 }
 
-fn image(blocks: usize, names: &[[u8; 11]], owners: &[usize], order: &[u8], random: &mut Random) -> Vec<u8> {
-    let mut image = vec![0xE5; 1024 * blocks];
-    image[2048..].copy_from_slice(&random.bytes(1024 * (blocks - 2)));
+fn image(drive: Drive, names: &[[u8; 11]], owners: &[usize], order: &[u16], random: &mut Random) -> Vec<u8> {
+    let kind = drive.kind;
+    let mut image = vec![0xE5; kind.block() * drive.blocks];
+    let data = image.len() - kind.directory();
+    image[kind.directory()..].copy_from_slice(&random.bytes(data));
     let mut entries: Vec<Entry> = names.iter().map(|&name| Entry::of(0, name, 0)).collect();
     let mut used = vec![0; names.len()];
     for (&file, &block) in owners.iter().zip(order) {
-        entries[file] = entries[file].block(used[file], block);
+        entries[file] = entries[file].block_of(kind, used[file], block);
         used[file] += 1;
-        entries[file] = entries[file].count(8 * used[file] as u8);
+        entries[file] = entries[file].count((kind.records_per_block() * used[file] as u32) as u8);
     }
     let mut places: Vec<usize> = (0..names.len()).collect();
     random.shuffle(&mut places);
@@ -171,20 +258,20 @@ fn image(blocks: usize, names: &[[u8; 11]], owners: &[usize], order: &[u8], rand
     image
 }
 
-fn list(kind: Kind, names: &[[u8; 11]], records: u32) -> Vec<u8> {
+fn list(filling: Filling, names: &[[u8; 11]], records: u32) -> Vec<u8> {
     let mut list = vec![0; 1299];
     list[..3].copy_from_slice(&[64, 64, 64]);
-    for (place, item) in items(kind, names, records).into_iter().enumerate() {
+    for (place, item) in items(filling, names, records).into_iter().enumerate() {
         put_item(&mut list, place, item);
     }
     list
 }
 
-fn items(kind: Kind, names: &[[u8; 11]], records: u32) -> Vec<[u8; 20]> {
+fn items(filling: Filling, names: &[[u8; 11]], records: u32) -> Vec<[u8; 20]> {
     if names.is_empty() {
         return Vec::new();
     }
-    if kind.is_list_full() {
+    if filling.is_list_full() {
         return full_items(names, records);
     }
     let open = |process, file: usize| open_item(process, names[file], 1);
@@ -194,19 +281,20 @@ fn items(kind: Kind, names: &[[u8; 11]], records: u32) -> Vec<[u8; 20]> {
     items
 }
 
-/// 64 items: a lock on each record of the first file, the first sixteen the caller's, and opens for the rest.
+/// 64 items: a lock on each record of the first file, to 40, the first sixteen the caller's, and opens for the rest.
 fn full_items(names: &[[u8; 11]], records: u32) -> Vec<[u8; 20]> {
-    let opens = 64 - records as usize;
+    let locks = records.min(MOST_LOCKS);
+    let opens = 64 - locks as usize;
     let open = |at: usize| open_item((at % 16) as u8, names[at / 16], 1);
     let holder = |record: u32| if record < 16 { CALLER } else { (record % 16) as u8 };
     let mut items: Vec<_> = (0..opens).map(open).collect();
-    items.extend((0..records).map(|record| lock_item(holder(record), names[LOCKED_FILE], record)));
+    items.extend((0..locks).map(|record| lock_item(holder(record), names[LOCKED_FILE], record)));
     items
 }
 
 /// The call of that function on the book: one that is accepted wherever the book lets it be.
-pub fn call(function: u32, kind: Kind, book: &Book) -> Call {
-    let unheld = if kind.is_list_full() { 0 } else { 10 };
+pub fn call(function: u32, filling: Filling, book: &Book) -> Call {
+    let unheld = if filling.is_list_full() { 0 } else { 10 };
     let of = |file: usize| Fcb::of(name(book, file));
     let fresh = reference::build::name("NEWFILE.DAT");
     let (process, fcb) = match function {
@@ -220,27 +308,29 @@ pub fn call(function: u32, kind: Kind, book: &Book) -> Call {
         _ => (CALLER, of(LOCKED_FILE)),
     };
     Call {
+        kind: book.kind.number(),
         function,
         process: u32::from(process),
-        count: count(function, kind, book),
+        count: count(function, filling, book),
         fcb: fcb.0.to_vec(),
-        dma: dma(function, kind, book),
+        dma: dma(function, filling, book),
     }
 }
 
 /// So many records of the file with the locks, from the first on.
-pub fn run(function: u32, first: u32, count: u32, kind: Kind, book: &Book) -> Call {
+pub fn run((function, first, count): Run, filling: Filling, book: &Book) -> Call {
     Call {
+        kind: book.kind.number(),
         function,
         process: u32::from(CALLER),
         count,
         fcb: Fcb::of(name(book, LOCKED_FILE)).record(first).0.to_vec(),
-        dma: dma(function, kind, book),
+        dma: dma(function, filling, book),
     }
 }
 
-/// Function, first record and count of each run that is compared.
-pub fn runs() -> Vec<(u32, u32, u32)> {
+/// The runs that are compared.
+pub fn runs() -> Vec<Run> {
     let counted = |function, first| COUNTS.map(|count| (function, first, count));
     let begun = |function| FIRSTS.into_iter().flat_map(move |first| counted(function, first));
     BY_RECORDS.into_iter().flat_map(begun).collect()
@@ -253,31 +343,32 @@ fn name(book: &Book, file: usize) -> [u8; 11] {
 }
 
 /// 42 and 43 take the longest run that has blocks.
-fn count(function: u32, kind: Kind, book: &Book) -> u32 {
+fn count(function: u32, filling: Filling, book: &Book) -> u32 {
     match function {
-        42 | 43 if kind != Kind::Empty => book.records.min(16),
+        42 | 43 if filling != Filling::Empty => book.records.min(16),
         _ => 1,
     }
 }
 
 /// Other bytes for each record, and over them what 41, 42 and 43 ask for.
-fn dma(function: u32, kind: Kind, book: &Book) -> Vec<u8> {
+fn dma(function: u32, filling: Filling, book: &Book) -> Vec<u8> {
     let mut dma: Vec<u8> = (0..DMA_LENGTH).map(|at| (at % 251) as u8).collect();
-    if function == 41 && kind != Kind::Empty {
-        let at = reference::look(0, &name(book, LOCKED_FILE), 3, &book.image).expect("record 3 has a block");
+    if function == 41 && filling != Filling::Empty {
+        let name = name(book, LOCKED_FILE);
+        let at = reference::look(book.kind.number(), 0, &name, 3, &book.image).expect("record 3 has a block");
         let record = &book.image[at..at + 128];
         dma[..128].copy_from_slice(record);
         dma[128..256].copy_from_slice(record);
     }
     if function == 42 || function == 43 {
-        dma[..2].copy_from_slice(&[file_id(kind), 0]);
+        dma[..2].copy_from_slice(&[file_id(filling), 0]);
     }
     dma
 }
 
 /// The place of the caller's open: the short list begins with process 1, the full one with process 0.
-fn file_id(kind: Kind) -> u8 {
-    if kind.is_list_full() {
+fn file_id(filling: Filling) -> u8 {
+    if filling.is_list_full() {
         CALLER
     } else {
         CALLER - 1

@@ -1,10 +1,11 @@
-//! The time of a call beside the number of its records, as a picture: a row for each kind of book, a panel for each call, a
-//! curve for each of those who are timed.
+//! The time of a call beside the number of its records, as a picture: a row for each kind of drive and filling of a book,
+//! a panel for each call, a curve for each of those who are timed.
 
-use crate::books::{Kind, BY_RECORDS, COUNTS, KINDS};
+use crate::books::{kind_title, shown, Filling, BY_RECORDS, COUNTS, FILLINGS};
 use crate::measure::Several;
 use crate::plot::{head, legend, title, Mark, ENGINE, LEFT, PLAIN, TOP};
-use crate::report::{name, SHOWN};
+use crate::report::name;
+use reference::kind::Kind;
 use std::fmt::Write;
 
 /// A panel with its margins, and the part of it that holds the curves.
@@ -15,24 +16,31 @@ const INNER_HIGH: f64 = 135.0;
 
 /// The scale is in powers of two of a microsecond, from the first to the last.
 const LOWEST: i32 = 0;
-const HIGHEST: i32 = 9;
+const HIGHEST: i32 = 11;
 
 const MARKS: [Mark; 3] = [ENGINE, PLAIN, ("the engine's single calls", "#3c8f4a")];
 
-pub fn svg(rows: &[Several]) -> String {
-    let kinds: Vec<Kind> = KINDS
+/// The rows of the picture, from the top: those of which there is something to show.
+fn shelves(rows: &[Several]) -> Vec<(Kind, Filling)> {
+    let all = Kind::ALL
         .into_iter()
-        .filter(|kind| of(rows, *kind).count() > 0)
-        .collect();
+        .flat_map(|kind| FILLINGS.map(|filling| (kind, filling)));
+    all.filter(|&(kind, filling)| of(rows, kind, filling).count() > 0)
+        .collect()
+}
+
+pub fn svg(rows: &[Several]) -> String {
+    let shelves = shelves(rows);
     let width = LEFT + WIDE * BY_RECORDS.len() as f64;
-    let mut text = head(width, TOP + HIGH * kinds.len() as f64);
-    legend(
-        &mut text,
-        "Microseconds a call for 1 to 16 records, drive of 256 blocks (both logarithmic)",
-        &MARKS,
+    let mut text = head(width, TOP + HIGH * shelves.len() as f64);
+    let sizes = Kind::ALL.map(|kind| format!("{} of {} blocks", kind_title(kind), shown(kind).blocks));
+    let words = format!(
+        "Microseconds a call for 1 to 16 records, drives: {} (both logarithmic)",
+        sizes.join(", ")
     );
-    for (at, kind) in kinds.into_iter().enumerate() {
-        for (column, row) in of(rows, kind).enumerate() {
+    legend(&mut text, &words, &MARKS);
+    for (at, (kind, filling)) in shelves.into_iter().enumerate() {
+        for (column, row) in of(rows, kind, filling).enumerate() {
             let corner = (LEFT + WIDE * column as f64, TOP + HIGH * at as f64);
             panel(&mut text, corner, row);
         }
@@ -41,13 +49,14 @@ pub fn svg(rows: &[Several]) -> String {
     text
 }
 
-fn of(rows: &[Several], kind: Kind) -> impl Iterator<Item = &Several> {
+fn of(rows: &[Several], kind: Kind, filling: Filling) -> impl Iterator<Item = &Several> {
     rows.iter()
-        .filter(move |row| row.kind == kind && row.blocks == SHOWN)
+        .filter(move |row| row.filling == filling && row.drive == shown(kind))
 }
 
 fn panel(text: &mut String, corner: (f64, f64), row: &Several) {
-    let words = format!("{}: {} {}", row.kind.title(), row.function, name(row.function));
+    let (kind, filling) = (kind_title(row.drive.kind), row.filling.title());
+    let words = format!("{kind}, {filling}: {} {}", row.function, name(row.function));
     title(text, corner.0, corner.1, &words);
     grid(text, corner);
     for (at, (_, colour)) in MARKS.iter().enumerate().rev() {

@@ -10,6 +10,7 @@ pub type CCall = unsafe extern "C" fn(
     u32,
     u32,
     u32,
+    u32,
     *mut u8,
     usize,
     *mut u8,
@@ -22,6 +23,7 @@ pub type CCall = unsafe extern "C" fn(
 
 extern "C" {
     fn plain_call(
+        kind: u32,
         function: u32,
         process: u32,
         count: u32,
@@ -67,6 +69,7 @@ impl Timed for Who {
 
 fn numbers(call: &Call) -> Numbers {
     Numbers {
+        kind: call.kind,
         function: call.function,
         process: call.process,
         count: call.count,
@@ -86,6 +89,7 @@ pub fn through(function: CCall, call: &mut Call, list: &mut [u8], image: &mut [u
     // SAFETY: each pointer comes with the length of the slice it is taken from, and the slices are separate.
     unsafe {
         function(
+            call.kind,
             call.function,
             call.process,
             call.count,

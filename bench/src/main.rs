@@ -1,4 +1,4 @@
-//! Times the engine, its plain C version and the reference on the same books in one run.
+//! Times the engine, its plain C version and the reference on the same books in one run, on both kinds of drive.
 //! bench FOLDER [ROUNDS]: writes table.md, rows.csv, plot.svg, several.csv and several.svg to the folder.
 //! bench --agree: times nothing, only compares what the three and the engine's single calls answer and leave.
 //! bench --before FOLDER [ROUNDS], with the feature `before`: times an earlier engine and this one instead, and writes
@@ -13,8 +13,8 @@ mod measure;
 mod plot;
 mod report;
 
-use books::Kind;
-use measure::{Row, Several, BOOKS};
+use books::{Drive, Filling};
+use measure::{Row, Several, Shelf, BOOKS};
 use std::path::Path;
 use std::process::ExitCode;
 
@@ -49,57 +49,48 @@ fn number(rounds: &str) -> Result<usize, String> {
     }
 }
 
-/// Each function on each kind of book on each size of drive.
-fn cases() -> Vec<(Kind, usize, u32)> {
-    let mut cases = Vec::new();
-    for kind in books::KINDS {
-        for blocks in books::SIZES {
-            for (function, _) in books::FUNCTIONS {
-                cases.push((kind, blocks, function));
-            }
-        }
-    }
-    cases
-}
-
-/// Each function that takes several records, on each book that has sixteen.
-fn several_cases() -> Vec<(Kind, usize, u32)> {
-    let mut cases = Vec::new();
-    for kind in books::KINDS {
-        for blocks in kind.sizes_with_sixteen() {
-            for function in books::BY_RECORDS {
-                cases.push((kind, blocks, function));
-            }
-        }
-    }
-    cases
+/// Each filling of a book on each drive.
+fn shelves() -> Vec<(Filling, Drive)> {
+    let of = |filling| books::all_drives().into_iter().map(move |drive| (filling, drive));
+    books::FILLINGS.into_iter().flat_map(of).collect()
 }
 
 fn agree() -> Result<String, String> {
-    let cases = cases();
-    for &(kind, blocks, function) in &cases {
-        measure::agree(kind, blocks, function);
+    for (filling, drive) in shelves() {
+        measure::agree(filling, drive);
     }
-    for kind in books::KINDS {
-        for blocks in books::SIZES {
-            measure::agree_on_runs(kind, blocks);
-        }
-    }
-    let calls = cases.len();
-    let runs = books::KINDS.len() * books::SIZES.len() * books::runs().len();
+    let calls = shelves().len() * books::FUNCTIONS.len();
+    let runs = shelves().len() * books::runs().len();
     Ok(format!(
-        "{calls} calls and {runs} runs of records, each on {BOOKS} books: all three agree, and so do single calls\n"
+        "{calls} calls and {runs} runs of records on both kinds of drive, each on {BOOKS} books: \
+         all three agree, and so do single calls\n"
     ))
 }
 
+/// All that is measured.
+#[derive(Default)]
+pub struct Figures {
+    pub rows: Vec<Row>,
+    pub several: Vec<Several>,
+    /// Nanoseconds of the image check alone.
+    pub checks: Vec<(Filling, Drive, f64)>,
+}
+
+fn measure_all(rounds: usize) -> Figures {
+    let mut figures = Figures::default();
+    for (filling, drive) in shelves() {
+        let mut shelf = Shelf::new(filling, drive);
+        figures.rows.extend(shelf.rows(rounds));
+        figures.several.extend(shelf.several(rounds));
+        figures.checks.push((filling, drive, shelf.image_check(rounds)));
+    }
+    figures
+}
+
 fn measure_into(folder: &str, rounds: usize) -> Result<String, String> {
-    let row = |(kind, blocks, function)| measure::row(kind, blocks, function, rounds);
-    let several = |(kind, blocks, function)| measure::several(kind, blocks, function, rounds);
-    let rows: Vec<Row> = cases().into_iter().map(row).collect();
-    let several: Vec<Several> = several_cases().into_iter().map(several).collect();
-    let checks = books::KINDS.map(|kind| measure::image_check(kind, report::SHOWN, rounds));
-    let summary = report::summary(&rows, &several, &checks) + &report::goals(&rows, &several);
-    write(Path::new(folder), &rows, &several, &summary).map_err(|error| format!("{folder}: {error}"))?;
+    let figures = measure_all(rounds);
+    let summary = report::summary(&figures) + &report::goals(&figures);
+    write(Path::new(folder), &figures, &summary).map_err(|error| format!("{folder}: {error}"))?;
     Ok(summary)
 }
 
@@ -113,7 +104,8 @@ fn compare_into(_: &str, _: usize) -> Result<String, String> {
     Err("built without an earlier engine".to_string())
 }
 
-fn write(folder: &Path, rows: &[Row], several: &[Several], summary: &str) -> std::io::Result<()> {
+fn write(folder: &Path, figures: &Figures, summary: &str) -> std::io::Result<()> {
+    let Figures { rows, several, .. } = figures;
     let table = [summary, &report::several(several), &report::details(rows)].concat();
     std::fs::create_dir_all(folder)?;
     std::fs::write(folder.join("table.md"), table)?;

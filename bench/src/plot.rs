@@ -1,8 +1,10 @@
-//! The figures as a picture: a panel for each kind of book, a column for each call, a mark for each of the three.
+//! The figures as a picture: a panel for each kind of drive and filling of a book, a column for each call, a mark for
+//! each of the three.
 
-use crate::books::{FUNCTIONS, KINDS};
+use crate::books::{kind_title, shown, Drive, Filling, FILLINGS, FUNCTIONS};
 use crate::measure::Row;
-use crate::report::{of, SHOWN};
+use crate::report::of;
+use reference::kind::Kind;
 use std::fmt::Write;
 
 pub const LEFT: f64 = 70.0;
@@ -14,7 +16,7 @@ const WIDTH: f64 = LEFT + COLUMN * 13.0 + 20.0;
 
 /// The scale is in powers of two of a microsecond, from the first to the last.
 const LOWEST: f64 = -2.0;
-const HIGHEST: f64 = 7.0;
+const HIGHEST: f64 = 9.0;
 
 /// A name and a colour.
 pub type Mark = (&'static str, &'static str);
@@ -23,30 +25,36 @@ pub const ENGINE: Mark = ("engine", "#14599d");
 pub const PLAIN: Mark = ("the same in plain C", "#8a8a8a");
 const MARKS: [Mark; 3] = [ENGINE, PLAIN, ("Rust reference", "#d0812a")];
 
+/// The panels, from the top.
+fn panels() -> Vec<(Filling, Drive)> {
+    let of = |kind| FILLINGS.map(|filling| (filling, shown(kind)));
+    Kind::ALL.into_iter().flat_map(of).collect()
+}
+
 pub fn svg(rows: &[Row]) -> String {
-    let height = TOP + PANEL * KINDS.len() as f64 + 30.0;
+    let height = TOP + PANEL * panels().len() as f64 + 30.0;
     let mut text = head(WIDTH, height);
-    legend(
-        &mut text,
-        "Microseconds a call, drive of 256 blocks (logarithmic)",
-        &MARKS,
-    );
-    for (at, kind) in KINDS.iter().enumerate() {
+    legend(&mut text, "Microseconds a call (logarithmic)", &MARKS);
+    for (at, (filling, drive)) in panels().into_iter().enumerate() {
         let top = TOP + PANEL * at as f64;
-        title(
-            &mut text,
-            LEFT,
-            top,
-            &format!("{}: {}", kind.title(), kind.describe()),
-        );
+        title(&mut text, LEFT, top, &words(filling, drive));
         grid(&mut text, top);
-        for (column, row) in of(rows, *kind, SHOWN).iter().enumerate() {
+        for (column, row) in of(rows, filling, drive).iter().enumerate() {
             points(&mut text, top, column, row);
         }
     }
     functions(&mut text, height - 22.0);
     text.push_str("</svg>\n");
     text
+}
+
+fn words(filling: Filling, drive: Drive) -> String {
+    let (kind, blocks) = (kind_title(drive.kind), drive.blocks);
+    format!(
+        "{kind} drive of {blocks} blocks, {}: {}",
+        filling.title(),
+        filling.describe(drive)
+    )
 }
 
 pub fn head(width: f64, height: f64) -> String {

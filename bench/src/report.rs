@@ -1,87 +1,176 @@
 //! The figures as text.
 
-use crate::books::{Kind, COUNTS, FUNCTIONS, KINDS, MOST, SIZES};
+use crate::books::{
+    beside_and_shown, drives, kind_title, shown, Drive, Filling, COUNTS, FILLINGS, FUNCTIONS, MOST,
+};
 use crate::measure::{Row, Several};
+use crate::Figures;
+use reference::kind::Kind;
 use std::fmt::Write;
 
-/// The size of drive that the summary and the plot show.
-pub const SHOWN: usize = 256;
+/// Microseconds that a call may take on a small drive: on a typical book, and on a full directory with a full list.
+const TYPICAL_LIMIT: f64 = 4.0;
+const FULL_LIMIT: f64 = 25.0;
+const PLAIN_LIMIT: f64 = 1.5;
+const SIXTEEN_LIMIT: f64 = 2.0;
+const GROWTH_LIMIT: f64 = 1.1;
+/// Nanoseconds for each block that a drive is longer, of a call that may look at every block: what it takes more than
+/// Read, which makes the same checks.
+const BLOCK_LIMIT: f64 = 1.0;
+const READ: u32 = 33;
 
-/// A line for each kind of book, with the time of the image check alone; then the stack.
-pub fn summary(rows: &[Row], several: &[Several], checks: &[f64]) -> String {
-    let mut text = String::from(
-        "| book | engine, median | engine, slowest | image check alone | plain C, median | engine / C, highest | reference / engine, median | n = 256 / n = 64, median |\n|---|---|---|---|---|---|---|---|\n",
+/// The calls that may look at every block: 46 counts those that are free, the timed 40 looks for the lowest.
+const BY_BLOCKS: [u32; 2] = [40, 46];
+
+/// For each kind of drive a line for each filling, with the time of the image check alone; then the stack.
+pub fn summary(figures: &Figures) -> String {
+    let tables = Kind::ALL.map(|kind| summary_of(figures, kind));
+    let stacks = figures.rows.iter().map(|row| row.stack);
+    let stack = stacks.chain(figures.several.iter().map(|row| row.stack)).max();
+    let stack = stack.unwrap_or(0);
+    format!(
+        "{}\nStack of one call, highest: {stack} bytes.\n",
+        tables.concat()
+    )
+}
+
+fn summary_of(figures: &Figures, kind: Kind) -> String {
+    let [beside, shown] = beside_and_shown(kind);
+    let mut text = format!(
+        "\n**{} drives**, n = {}\n\n\
+         | book | engine, median | engine, slowest | image check alone | plain C, median | engine / C, highest | reference / engine, median | n = {} / n = {}, median |\n\
+         |---|---|---|---|---|---|---|---|\n",
+        kind_title(kind), shown.blocks, shown.blocks, beside.blocks,
     );
-    for (kind, check) in KINDS.into_iter().zip(checks) {
-        let of = of(rows, kind, SHOWN);
+    for filling in FILLINGS {
+        let of = of(&figures.rows, filling, shown);
         let slowest = highest(&of, |row| row.ns[0]);
         let steepest = highest(&of, ratio);
         let _ = writeln!(
             text,
             "| {}: {} | {} | {} ({}) | {} | {} | {:.2} ({}) | {:.1} | {:.2} |",
-            kind.title(),
-            kind.describe(),
+            filling.title(),
+            filling.describe(shown),
             micro(median(&of, |row| row.ns[0])),
             micro(slowest.ns[0]),
             slowest.function,
-            micro(*check),
+            micro(check(figures, filling, shown)),
             micro(median(&of, |row| row.ns[1])),
             ratio(steepest),
             steepest.function,
             median(&of, |row| row.ns[2] / row.ns[0]),
-            median(&of, |row| row.ns[0] / same_call(rows, row, 64).ns[0]),
+            median(&of, |row| row.ns[0] / same_call(&figures.rows, row, beside).ns[0]),
         );
     }
-    let stacks = rows.iter().map(|row| row.stack);
-    let stack = stacks.chain(several.iter().map(|row| row.stack)).max();
-    let _ = writeln!(
-        text,
-        "\nStack of one call, highest: {} bytes.",
-        stack.unwrap_or(0)
-    );
     text
 }
 
-/// The goals, what was measured of each, and what misses it.
-pub fn goals(rows: &[Row], several: &[Several]) -> String {
-    let time = |row: &&Row| (label(row), row.ns[0] / 1000.0);
-    let typical: Vec<_> = of(rows, Kind::Typical, SHOWN).iter().map(time).collect();
-    let full: Vec<_> = of(rows, Kind::BothFull, SHOWN).iter().map(time).collect();
-    let shown = rows.iter().filter(|row| row.blocks == SHOWN);
-    let many = several.iter().filter(|row| row.blocks == SHOWN);
-    let many = many.map(|row| (several_label(row), row.most()[0] / row.most()[1]));
-    let beside: Vec<_> = shown.map(|row| (label(row), ratio(row))).chain(many).collect();
-    let sixteen: Vec<_> = several
+fn check(figures: &Figures, filling: Filling, drive: Drive) -> f64 {
+    let is_it = |(of, on, _): &&(Filling, Drive, f64)| *of == filling && *on == drive;
+    figures
+        .checks
         .iter()
-        .map(|row| (several_label(row), row.growth()))
-        .collect();
-    let growth = KINDS.map(|kind| {
-        (
-            kind.title().to_string(),
-            total(rows, kind, SHOWN) / total(rows, kind, 64),
-        )
-    });
+        .find(is_it)
+        .expect("a check of every book")
+        .2
+}
+
+/// The goals, what was measured of each, and what misses it.
+pub fn goals(figures: &Figures) -> String {
+    let head = "\n| goal | highest | missed by |\n|---|---|---|\n".to_string();
+    let times = Kind::ALL.map(|kind| time_goals(&figures.rows, kind));
+    let ratios = ratio_goals(&figures.rows, &figures.several);
+    let growth = Kind::ALL.map(|kind| growth_goals(&figures.rows, kind));
+    [head, times.concat(), ratios, growth.concat()].concat()
+}
+
+/// A typical call passes every entry, a full directory's every pair of entries: so much more a drive with more of them
+/// may take.
+fn time_goals(rows: &[Row], kind: Kind) -> String {
+    let more = kind.entries() as f64 / Kind::First.entries() as f64;
+    let (typical, full) = (TYPICAL_LIMIT * more, FULL_LIMIT * more * more);
+    let title = kind_title(kind);
+    let times = |filling| -> Vec<(String, f64)> {
+        let time = |row: &&Row| (label(row), row.ns[0] / 1000.0);
+        of(rows, filling, shown(kind)).iter().map(time).collect()
+    };
     [
-        "\n| goal | highest | missed by |\n|---|---|---|\n".to_string(),
-        goal("a typical call under 4 µs", &typical, 4.0),
         goal(
-            "a call on a full directory with a full list under 25 µs",
-            &full,
-            25.0,
-        ),
-        goal("at most 1.5 times plain C", &beside, 1.5),
-        goal(
-            "sixteen records that are there, read or written in one call, at most 2 times one record's call",
-            &sixteen,
-            2.0,
+            &format!("a typical call on a {title} drive under {typical} µs"),
+            &times(Filling::Typical),
+            typical,
         ),
         goal(
-            "no growth with n: the thirteen calls of a book at n = 256 under 1.1 times those at n = 64",
-            &growth,
-            1.1,
+            &format!("a call on a {title} drive's full directory with a full list under {full} µs"),
+            &times(Filling::BothFull),
+            full,
         ),
     ]
     .concat()
+}
+
+fn ratio_goals(rows: &[Row], several: &[Several]) -> String {
+    let is_shown = |drive: Drive| drive == shown(drive.kind);
+    let one = rows.iter().filter(|row| is_shown(row.drive));
+    let one = one.map(|row| (label(row), ratio(row)));
+    let many = several.iter().filter(|row| is_shown(row.drive));
+    let many = many.map(|row| (several_label(row), row.most()[0] / row.most()[1]));
+    let beside: Vec<_> = one.chain(many).collect();
+    let growth = |row: &Several| (several_label(row), row.growth());
+    let sixteen: Vec<_> = several.iter().map(growth).collect();
+    [
+        goal(
+            &format!("at most {PLAIN_LIMIT} times plain C"),
+            &beside,
+            PLAIN_LIMIT,
+        ),
+        goal(
+            &format!("sixteen records that are there, read or written in one call, at most {SIXTEEN_LIMIT} times one record's call"),
+            &sixteen,
+            SIXTEEN_LIMIT,
+        ),
+    ]
+    .concat()
+}
+
+/// A call's time may grow with the entries, not with n.
+fn growth_goals(rows: &[Row], kind: Kind) -> String {
+    match kind {
+        Kind::First => growth_goal(rows, kind, "the thirteen calls", &[]),
+        Kind::Second => {
+            growth_goal(rows, kind, "the calls but 40 and 46", &BY_BLOCKS) + &block_goal(rows, kind)
+        }
+    }
+}
+
+fn growth_goal(rows: &[Row], kind: Kind, calls: &str, but: &[u32]) -> String {
+    let [beside, shown] = beside_and_shown(kind);
+    let (title, few, many) = (kind_title(kind), beside.blocks, shown.blocks);
+    let growth = FILLINGS.map(|filling| {
+        let growth = total(rows, filling, shown, but) / total(rows, filling, beside, but);
+        (format!("{title} {}", filling.title()), growth)
+    });
+    let words = format!(
+        "no growth with n: {calls} of a book on a {title} drive at n = {many} under {GROWTH_LIMIT} times those at n = {few}"
+    );
+    goal(&words, &growth, GROWTH_LIMIT)
+}
+
+/// Of the calls that may look at every block.
+fn block_goal(rows: &[Row], kind: Kind) -> String {
+    let [beside, shown] = beside_and_shown(kind);
+    let (title, few, many) = (kind_title(kind), beside.blocks, shown.blocks);
+    let by_blocks = |row: &&Row| row.drive == shown && BY_BLOCKS.contains(&row.function);
+    let per_block = |row: &Row| {
+        let more = over_read(rows, row) - over_read(rows, same_call(rows, row, beside));
+        (label(row), more / (many - few) as f64)
+    };
+    let per_block: Vec<_> = rows.iter().filter(by_blocks).map(per_block).collect();
+    let words = format!(
+        "46, and 40 with the lowest free block, on a {title} drive: what they take more than 33 grows \
+         from n = {few} to n = {many} by at most {BLOCK_LIMIT} ns a block"
+    );
+    goal(&words, &per_block, BLOCK_LIMIT)
 }
 
 pub fn goal(name: &str, measured: &[(String, f64)], limit: f64) -> String {
@@ -99,16 +188,13 @@ pub fn goal(name: &str, measured: &[(String, f64)], limit: f64) -> String {
 }
 
 fn label(row: &Row) -> String {
-    format!("{} {}", row.kind.title(), row.function)
+    let kind = kind_title(row.drive.kind);
+    format!("{kind} {} {}", row.filling.title(), row.function)
 }
 
 fn several_label(row: &Several) -> String {
-    format!(
-        "{} {} of {MOST}, n = {}",
-        row.kind.title(),
-        row.function,
-        row.blocks
-    )
+    let (kind, filling, n) = (kind_title(row.drive.kind), row.filling.title(), row.drive.blocks);
+    format!("{kind} {filling} {} of {MOST}, n = {n}", row.function)
 }
 
 impl Several {
@@ -126,23 +212,44 @@ impl Several {
     }
 }
 
-fn total(rows: &[Row], kind: Kind, blocks: usize) -> f64 {
-    of(rows, kind, blocks).iter().map(|row| row.ns[0]).sum()
+/// What a call takes more than Read on the same books.
+fn over_read(rows: &[Row], row: &Row) -> f64 {
+    let of = of(rows, row.filling, row.drive);
+    let read = of.into_iter().find(|other| other.function == READ);
+    row.ns[0] - read.expect("every call on every drive").ns[0]
 }
 
-/// A table for each kind of book, a line for each call.
+/// The time of all calls but these.
+fn total(rows: &[Row], filling: Filling, drive: Drive, but: &[u32]) -> f64 {
+    let of = of(rows, filling, drive).into_iter();
+    of.filter(|row| !but.contains(&row.function))
+        .map(|row| row.ns[0])
+        .sum()
+}
+
+/// For each kind of drive a table for each filling, a line for each call.
 pub fn details(rows: &[Row]) -> String {
-    KINDS.map(|kind| table(rows, kind)).concat()
+    let of_kind = |kind| FILLINGS.map(|filling| table(rows, filling, kind)).concat();
+    Kind::ALL.map(of_kind).concat()
 }
 
-fn table(rows: &[Row], kind: Kind) -> String {
-    let mut text = format!("\n**{}**: {}\n\n", kind.title(), kind.describe());
-    text.push_str("| call | A/H | n = 3 | n = 64 | n = 256 | plain C | engine / C | reference | stack |\n");
-    text.push_str("|---|---|---|---|---|---|---|---|---|\n");
-    for row in of(rows, kind, SHOWN) {
-        let sizes: Vec<String> = SIZES
-            .map(|blocks| micro(same_call(rows, row, blocks).ns[0]))
-            .to_vec();
+fn table(rows: &[Row], filling: Filling, kind: Kind) -> String {
+    let drives = drives(kind);
+    let heads: Vec<String> = drives
+        .iter()
+        .map(|drive| format!("n = {}", drive.blocks))
+        .collect();
+    let mut text = format!(
+        "\n**{} drive, {}**: {}\n\n| call | A/H | {} | plain C | engine / C | reference | stack |\n|---|---|{}---|---|---|---|\n",
+        kind_title(kind),
+        filling.title(),
+        filling.describe(shown(kind)),
+        heads.join(" | "),
+        "---|".repeat(drives.len()),
+    );
+    for row in of(rows, filling, shown(kind)) {
+        let time = |drive: &Drive| micro(same_call(rows, row, *drive).ns[0]);
+        let times: Vec<String> = drives.iter().map(time).collect();
         let _ = writeln!(
             text,
             "| {} {} | {}/{} | {} | {} | {:.2} | {} | {} |",
@@ -150,7 +257,7 @@ fn table(rows: &[Row], kind: Kind) -> String {
             name(row.function),
             row.answer % 256,
             row.answer / 256,
-            sizes.join(" | "),
+            times.join(" | "),
             micro(row.ns[1]),
             ratio(row),
             micro(row.ns[2]),
@@ -164,18 +271,19 @@ fn table(rows: &[Row], kind: Kind) -> String {
 pub fn several(rows: &[Several]) -> String {
     let mut text = format!(
         "\n**{MOST} records in one call**: from record 0 on, all there\n\n\
-         | call | book | n | 1 record | {MOST} records | {MOST} / 1 | plain C | engine / C | {MOST} single calls | single / one call | stack |\n\
-         |---|---|---|---|---|---|---|---|---|---|---|\n"
+         | call | drive | book | n | 1 record | {MOST} records | {MOST} / 1 | plain C | engine / C | {MOST} single calls | single / one call | stack |\n\
+         |---|---|---|---|---|---|---|---|---|---|---|---|\n"
     );
     for row in rows {
         let [engine, plain, singly] = row.most();
         let _ = writeln!(
             text,
-            "| {} {} | {} | {} | {} | {} | {:.2} | {} | {:.2} | {} | {:.1} | {} |",
+            "| {} {} | {} | {} | {} | {} | {} | {:.2} | {} | {:.2} | {} | {:.1} | {} |",
             row.function,
             name(row.function),
-            row.kind.title(),
-            row.blocks,
+            kind_title(row.drive.kind),
+            row.filling.title(),
+            row.drive.blocks,
             micro(row.one()[0]),
             micro(engine),
             row.growth(),
@@ -192,15 +300,16 @@ pub fn several(rows: &[Several]) -> String {
 /// Every book, size, call and count, with the engine's time beside plain C's and its single calls' beside its own.
 pub fn several_csv(rows: &[Several]) -> String {
     let mut text = String::from(
-        "book,n,function,count,engine ns,plain C ns,single calls ns,engine / C,single / one call\n",
+        "drive,book,n,function,count,engine ns,plain C ns,single calls ns,engine / C,single / one call\n",
     );
     for row in rows {
         for (count, [engine, plain, singly]) in COUNTS.iter().zip(row.ns) {
             let _ = writeln!(
                 text,
-                "{},{},{},{count},{engine:.0},{plain:.0},{singly:.0},{:.2},{:.2}",
-                row.kind.title(),
-                row.blocks,
+                "{},{},{},{},{count},{engine:.0},{plain:.0},{singly:.0},{:.2},{:.2}",
+                kind_title(row.drive.kind),
+                row.filling.title(),
+                row.drive.blocks,
                 row.function,
                 engine / plain,
                 singly / engine,
@@ -213,16 +322,17 @@ pub fn several_csv(rows: &[Several]) -> String {
 /// Every book, size and call, with the engine's time beside plain C's and the reference's beside the engine's.
 pub fn csv(rows: &[Row]) -> String {
     let mut text = String::from(
-        "book,n,function,A,H,engine ns,plain C ns,reference ns,engine / C,reference / engine,stack bytes\n",
+        "drive,book,n,function,A,H,engine ns,plain C ns,reference ns,engine / C,reference / engine,stack bytes\n",
     );
     for row in rows {
         let (a, h) = (row.answer % 256, row.answer / 256);
         let [engine, plain, reference] = row.ns;
         let _ = writeln!(
             text,
-            "{},{},{},{a},{h},{engine:.0},{plain:.0},{reference:.0},{:.2},{:.2},{}",
-            row.kind.title(),
-            row.blocks,
+            "{},{},{},{},{a},{h},{engine:.0},{plain:.0},{reference:.0},{:.2},{:.2},{}",
+            kind_title(row.drive.kind),
+            row.filling.title(),
+            row.drive.blocks,
             row.function,
             ratio(row),
             reference / engine,
@@ -232,17 +342,17 @@ pub fn csv(rows: &[Row]) -> String {
     text
 }
 
-pub fn of(rows: &[Row], kind: Kind, blocks: usize) -> Vec<&Row> {
+pub fn of(rows: &[Row], filling: Filling, drive: Drive) -> Vec<&Row> {
     rows.iter()
-        .filter(|row| row.kind == kind && row.blocks == blocks)
+        .filter(|row| row.filling == filling && row.drive == drive)
         .collect()
 }
 
-fn same_call<'a>(rows: &'a [Row], row: &Row, blocks: usize) -> &'a Row {
-    let of = of(rows, row.kind, blocks);
+fn same_call<'a>(rows: &'a [Row], row: &Row, drive: Drive) -> &'a Row {
+    let of = of(rows, row.filling, drive);
     of.into_iter()
         .find(|other| other.function == row.function)
-        .expect("every call on every size")
+        .expect("every call on every drive")
 }
 
 pub fn name(function: u32) -> &'static str {

@@ -1,6 +1,6 @@
 /* A host that works on an image file by commands; run.sh holds what it does against cpmtools.
 
-   book IMAGE COMMANDS..: does the commands in order, all in one session with one lock list, and then writes the image
+   book KIND IMAGE COMMANDS..: takes the image for a drive of this kind, 0 or 1, whatever its length is, does the commands in order, all in one session with one lock list, and then writes the image
    back if it has changed. Process 0 has user 0, process 1 user 1 and so on: a command's user is its process too.
 
      check                             prints what the image check answers
@@ -27,8 +27,8 @@
 enum { DONE, REFUSED, WRONG_USE };
 enum { NAME_PART = 8 };
 
-/* Files up to 257 blocks can be loaded, so that an image with a block too many can be checked. */
-#define ROOM (258u * MPM_BLOCK_LEN)
+/* Files up to 4,097 blocks of 2,048 bytes can be loaded, so that an image with a block too many can be checked. */
+#define ROOM (4098u * 2048u)
 
 struct command {
     const char *word;
@@ -42,6 +42,7 @@ static uint8_t dma[MPM_DMA_LEN];
 static uint8_t list[MPM_LIST_LEN];
 static uint8_t image[ROOM], loaded[ROOM], bytes[ROOM];
 static size_t image_len;
+static uint32_t kind;
 
 /* ---- Words ---- */
 
@@ -108,7 +109,7 @@ static void fill_fcb(const uint8_t *name, uint32_t record) {
 }
 
 static uint32_t call_for(uint32_t function, uint32_t user, uint32_t count) {
-    return mpm_call(function, user, count, fcb, sizeof fcb, dma, sizeof dma, list, sizeof list, image, image_len);
+    return mpm_call(kind, function, user, count, fcb, sizeof fcb, dma, sizeof dma, list, sizeof list, image, image_len);
 }
 
 static uint32_t call(uint32_t function, uint32_t user) { return call_for(function, user, 1); }
@@ -125,7 +126,7 @@ static int report(const struct command *command, char **operands, uint32_t answe
 static int check(const struct command *command, char **operands) {
     (void)command;
     (void)operands;
-    switch (mpm_check(image, image_len)) {
+    switch (mpm_check(kind, image, image_len)) {
     case MPM_SOUND: printf("sound\n"); return DONE;
     case MPM_WRONG_LENGTH: printf("wrong length\n"); return DONE;
     case MPM_UNSOUND: printf("unsound\n"); return DONE;
@@ -174,7 +175,7 @@ static int write_records(const struct command *command, char **operands) {
 
 /* Look shows these bytes of the record; with none, it shows nothing. */
 static int look_agrees(uint32_t user, const uint8_t *name, uint32_t record, const uint8_t *shown) {
-    uint32_t at = mpm_look(user, name, MPM_NAME_LEN, record, image, image_len);
+    uint32_t at = mpm_look(kind, user, name, MPM_NAME_LEN, record, image, image_len);
     if (!shown) return at == 0;
     return at != 0 && at <= image_len - MPM_RECORD_LEN && memcmp(image + at, shown, MPM_RECORD_LEN) == 0;
 }
@@ -252,18 +253,18 @@ static int run_all(int count, char **words) {
 int main(int argc, char **argv) {
     uint8_t users[MPM_USERS_LEN];
     for (size_t i = 0; i < MPM_USERS_LEN; i++) users[i] = (uint8_t)i;
-    if (argc < 3) {
-        fprintf(stderr, "use: book IMAGE COMMANDS..\n");
+    if (argc < 4 || !read_number(argv[1], &kind)) {
+        fprintf(stderr, "use: book KIND IMAGE COMMANDS..\n");
         return WRONG_USE;
     }
-    if (!load(argv[1], image, &image_len)) return wrong(argv[1]);
+    const char *path = argv[2];
+    if (!load(path, image, &image_len)) return wrong(path);
     memcpy(loaded, image, image_len);
-    if (mpm_start(MPM_PLACES, MPM_PLACES, MPM_PLACES, users, sizeof users, list, sizeof list) != MPM_OK) {
+    if (mpm_start(kind, MPM_PLACES, MPM_PLACES, MPM_PLACES, users, sizeof users, list, sizeof list) != MPM_OK) {
         printf("the list does not start\n");
         return REFUSED;
     }
-    int status = run_all(argc - 2, argv + 2);
-    if (status == DONE && memcmp(loaded, image, image_len) != 0 && !save(argv[1], image, image_len))
-        return wrong(argv[1]);
+    int status = run_all(argc - 3, argv + 3);
+    if (status == DONE && memcmp(loaded, image, image_len) != 0 && !save(path, image, image_len)) return wrong(path);
     return status;
 }

@@ -1,6 +1,6 @@
 #!/usr/bin/env bash
-# Holds the engine against Debian's cpmtools, which know nothing of it, on drives of 64 and of 256 blocks: each must
-# read what the other wrote. Then does each case where they differ by intent. One line for each step; at the first
+# Holds the engine against Debian's cpmtools, which know nothing of it, on drives of 64 and of 256 blocks, and on those
+# of 257, 300 and 1,027 larger blocks that the second kind has: each must read what the other wrote. Then does each case where they differ by intent. One line for each step; at the first
 # other difference one plain line and exit status 1. Installs cpmtools where they are missing. All files are temporary.
 set -euo pipefail
 here=$(cd "$(dirname "${BASH_SOURCE[0]}")" && pwd -P)
@@ -35,7 +35,13 @@ expect() { # WHAT WANTED GOT
 
 # ---- Both sides ----
 
-book() { bash "$root/host/run.sh" "$work/book" "$@"; }
+# The kind of drive that the engine is told, the length of its blocks and the records in one.
+kind=0 block=1024 in_block=8
+
+first_kind() { kind=0 block=1024 in_block=8; }
+second_kind() { kind=1 block=2048 in_block=16; }
+
+book() { bash "$root/host/run.sh" "$work/book" "$kind" "$@"; }
 
 # A refusal ends the commands; its line is what is wanted then.
 refused() { # WANTED IMAGE COMMANDS..
@@ -96,7 +102,7 @@ engine_reads() { # IMAGE
     for path in "$1".in/*; do
         base=${path##*/}
         size=$(stat -c %s "$path")
-        records=$((8 * ((size + 1023) / 1024)))
+        records=$((in_block * ((size + block - 1) / block)))
         count=$(((size + 127) / 128))
         if [ "$count" -gt 128 ]; then count=128; fi
         if [ "$records" -gt 0 ] && [ $((records % 128)) -eq 0 ]; then code=4/0; else code=1/0; fi
@@ -148,10 +154,10 @@ agree() { # FORMAT IMAGE
 
 empty_drive() { # FORMAT IMAGE BLOCKS
     fresh "$1" "$2"
-    head -c $((1024 * $3)) /dev/zero | tr '\0' '\345' >empty
+    head -c $((block * $3)) /dev/zero | tr '\0' '\345' >empty
     cmp -s empty "$2" || fail "an empty image of mkfs.cpm is not E5h in every byte"
     checked sound "$2"
-    expect "free records of $2" $((8 * ($3 - 2))) "$(book "$2" free)"
+    expect "free records of $2" $((in_block * ($3 - 2))) "$(book "$2" free)"
 }
 
 names=(EMPTY ONE.B RECORD RECORD1.TXT KM1.DAT K KP1.DAT EXTM1.DA EXTENT EXTP1.DAT LONGNAME.BIG)
@@ -175,6 +181,19 @@ tools_fill_256() {
     done
     tool_puts mpm256 made256 7 REST.ALL 63488
     expect "free records of made256" 0 "$(book made256 free)"
+}
+
+# The same on a drive of larger blocks; then one file that takes the blocks left, which need the high byte of their
+# numbers, and leaves SPARE of them. An entry can name eight.
+tools_fill_large() { # FORMAT IMAGE BLOCKS SPARE
+    local i user left
+    empty_drive "$1" "$2" "$3"
+    for user in 0 15; do
+        for i in "${!names[@]}"; do tool_puts "$1" "$2" "$user" "${names[i]}" "${sizes[i]}"; done
+    done
+    left=$(($(book "$2" free) / 16 - $4))
+    tool_puts "$1" "$2" 7 REST.ALL $((2048 * left))
+    expect "free records of $2" $((16 * $4)) "$(book "$2" free)"
 }
 
 # ---- What the engine made ----
@@ -427,6 +446,61 @@ big_program() {
     differs "COM file over 64K: fsck.cpm warns; to us a type means nothing"
 }
 
+# Neither kind is read as the other, and the tools, told another definition, read other files or none.
+kinds_apart() {
+    checked sound made300
+    first_kind
+    checked "wrong length" made300
+    refused "free: 255/1" made300 free
+    checked sound made256
+    second_kind
+    checked "wrong length" made256
+    refused "free: 255/1" made256 free
+    fresh mpm256k2 few
+    expect "size of 256 blocks of 2,048" $((2048 * 256)) "$(stat -c %s few)"
+    checked "wrong length" few
+    first_kind
+    checked "wrong length" few
+    differs "256 blocks of 2,048: a drive for the tools; wrong length for both our kinds, the second begins at 257"
+}
+
+# OTHER has block 2 and FILE the block 257, whose number is 01 01. Each line: what becomes wrong, by which byte, in octal.
+large_damages() {
+    local what offset octal
+    second_kind
+    fresh large300 wide
+    content wide.in/0.OTHER 2048
+    content wide.in/0.GONE $((2048 * 254))
+    content wide.in/0.FILE 2048
+    book wide make 0 OTHER write 0 OTHER 0 16 wide.in/0.OTHER make 0 GONE write 0 GONE 0 4064 wide.in/0.GONE \
+        make 0 FILE write 0 FILE 0 16 wide.in/0.FILE close 0 GONE delete 0 GONE
+    stored "01 01 00 00" wide $((32 * 33 + 16))
+    checked sound wide
+    fsck_silent large300 wide
+    while read -r what offset octal; do
+        cp wide "$what"
+        poke "$what" "$((32 * 33 + offset))" "$octal"
+        fsck_says Error: large300 "$what"
+        checked unsound "$what"
+    done <<'EOF'
+user-40h 0 100
+blank-name 1 40
+count-129 15 201
+directory-block 17 0
+block-301 16 55
+block-513 17 2
+block-65281 17 377
+block-of-another 18 2
+EOF
+    cp wide own-block-twice
+    poke own-block-twice $((32 * 33 + 18)) 1
+    poke own-block-twice $((32 * 33 + 19)) 1
+    stored "01 01 01 01 00" own-block-twice $((32 * 33 + 16))
+    fsck_says Error: large300 own-block-twice
+    checked unsound own-block-twice
+    first_kind
+}
+
 other_drives() {
     fresh mpm64t short
     expect "size of an image of several tracks" 2048 "$(stat -c %s short)"
@@ -460,9 +534,15 @@ install_tools() {
 
 # Sectors of 128 bytes, two blocks of directory, no reserved tracks; with blocks of 1,024 bytes that is 64 entries, each
 # of one extent and sixteen one-byte block numbers. One track, because then mkfs.cpm writes an image of the full length.
-define() { # FORMAT SECTORS TRACKS BLOCKSIZE OS
+define() { # FORMAT SECTORS TRACKS BLOCKSIZE OS [EXTENTS TO AN ENTRY]
     printf 'diskdef %s\n  seclen 128\n  sectrk %s\n  tracks %s\n  blocksize %s\n' "$1" "$2" "$3" "$4"
-    printf '  maxdir %s\n  boottrk 0\n  logicalextents %s\n  os %s\nend\n' $(($4 / 16)) $(($4 / 1024)) "$5"
+    printf '  maxdir %s\n  boottrk 0\n  logicalextents %s\n  os %s\nend\n' $(($4 / 16)) "${6:-$(($4 / 1024))}" "$5"
+}
+
+# The second kind: blocks of 2,048 bytes, 128 entries. With more than 256 blocks the tools' numbers have two bytes, so
+# that an entry has eight of them and is one extent.
+define_large() { # FORMAT BLOCKS
+    define "$1" $((16 * $2)) 1 2048 2.2 1
 }
 
 define_all() {
@@ -473,6 +553,10 @@ define_all() {
     define mpm64p2 512 1 1024 p2dos
     define mpm257 2056 1 1024 2.2
     define mpm2k 512 1 2048 2.2
+    define mpm256k2 4096 1 2048 2.2
+    define_large large257 257
+    define_large large300 300
+    define_large large1027 1027
 }
 
 install_tools
@@ -482,7 +566,7 @@ ok "book.c with the kit alone"
 
 cd "$work"
 define_all >diskdefs
-seq 400000 | gzip -n >pool
+seq 3000000 | gzip -n >pool
 
 for n in 64 256; do
     "tools_fill_$n"
@@ -500,6 +584,32 @@ done
 both_change mpm64 ours64 4000
 both_change mpm256 ours256 20000
 ok "both in turn on one image: new, deleted and renamed files, read-only and system attributes"
+
+second_kind
+for n in 257 300; do
+    tools_fill_large "large$n" "made$n" "$n" 0
+    agree "large$n" "made$n"
+    zeros_follow "made$n"
+    ok "$n blocks of 2,048 bytes, made by mkfs.cpm and cpmcp: sound, and $(find "made$n.in" -type f | wc -l) files read by 33 and by Look have their bytes; zeros fill up the last record"
+done
+tools_fill_large large1027 made1027 1027 300
+agree large1027 made1027
+zeros_follow made1027
+ok "1,027 blocks of 2,048 bytes, made by mkfs.cpm and cpmcp: sound, and the files have their bytes"
+for n in 257 1027; do
+    engine_fills "large$n" "ours$n" 640 400 300 128 600
+    agree "large$n" "ours$n"
+    both_change "large$n" "ours$n" 40000
+done
+engine_fills large300 ours300 1200 400 2900 128 2600
+agree large300 ours300
+both_change large300 ours300 40000
+ok "257, 300 and 1,027 blocks of 2,048 bytes, made by the engine and changed by both: cpmls lists the files, cpmcp copies their bytes, fsck.cpm is silent, the free space is the same"
+first_kind
+large_damages
+ok "9 damages to a directory with numbers of two bytes: unsound for the engine, errors for fsck.cpm"
+second_kind
+kinds_apart
 
 damages
 ok "14 damages to a directory: unsound for the engine, errors for fsck.cpm"

@@ -6,6 +6,10 @@
    made a second time by mpm_singly, on buffers that the plain side has for itself and that are
    kept as the first ones are; the reply tells where the two have done otherwise.
 
+   An image over 64 KB is compared whole only when a step asks for it. After the others it is
+   compared where a right call can change it: in the directory, and in the blocks that entries have
+   for the call's records, before the call or after it. reference/src/parts.rs does the same.
+
    Exit status: 0 at the end of input, 3 for a batch that makes no sense, 4 if writing fails. */
 
 typedef unsigned char u8;
@@ -20,27 +24,34 @@ int memcmp(const void *, const void *, size);
 void *memcpy(void *, const void *, size);
 void *memset(void *, int, size);
 
-u32 mpm_call(u32 function, u32 process, u32 count, u8 *fcb, size fcb_len, u8 *dma, size dma_len,
-             u8 *list, size list_len, u8 *image, size image_len);
-u32 mpm_singly(u32 function, u32 process, u32 count, u8 *fcb, size fcb_len, u8 *dma, size dma_len,
-               u8 *list, size list_len, u8 *image, size image_len);
-u32 mpm_start(u32 capacity, u32 open_limit, u32 lock_limit, const u8 *users, size users_len,
-              u8 *list, size list_len);
-u32 mpm_check(const u8 *image, size image_len);
-u32 mpm_look(u32 user, const u8 *name, size name_len, u32 record, const u8 *image,
+u32 mpm_call(u32 kind, u32 function, u32 process, u32 count, u8 *fcb, size fcb_len, u8 *dma,
+             size dma_len, u8 *list, size list_len, u8 *image, size image_len);
+u32 mpm_singly(u32 kind, u32 function, u32 process, u32 count, u8 *fcb, size fcb_len, u8 *dma,
+               size dma_len, u8 *list, size list_len, u8 *image, size image_len);
+u32 mpm_start(u32 kind, u32 capacity, u32 open_limit, u32 lock_limit, const u8 *users,
+              size users_len, u8 *list, size list_len);
+u32 mpm_check(u32 kind, const u8 *image, size image_len);
+u32 mpm_look(u32 kind, u32 user, const u8 *name, size name_len, u32 record, const u8 *image,
              size image_len);
 
 enum {
     GUARD = 64,
-    MAX_IMAGE = 258 * 1024,
+    MAX_IMAGE = 4098 * 2048,
     MAX_LIST = 4096,
     MAX_DMA = 4096,
     MAX_SMALL = 1024,
     BATCH = 65536,
-    MAX_CHANGES = 2048,
-    MAX_CHANGED_BYTES = 4096,
+    MAX_CHANGES = 4096,
+    MAX_CHANGED_BYTES = 8192,
     STRIDE = 256,
     TOO_MANY = 65535,
+    SHORT_IMAGE = 64 * 1024,
+    LONGEST_DIRECTORY = 4096,
+    ENTRY = 32,
+    EXTENT_RECORDS = 128,
+    MOST_RECORDS = 16,
+    RECORD = 128,
+    FCB = 36,
     AREAS = 4,
     ANSWER_APART = 1 << AREAS,
     WITHOUT_DONE = 0x0FFF,
@@ -171,15 +182,80 @@ static void note_change(size at) {
     change_count++;
 }
 
-static void find_changes(struct area *area) {
-    const u8 *now = data(area);
-    change_count = changed_bytes = 0;
-    for (size from = 0; from < area->length; from += STRIDE) {
-        size to = area->length - from < STRIDE ? area->length : from + STRIDE;
+/* ---- Which parts of an area are compared, in rising order ---- */
+
+struct part {
+    size from;
+    size to;
+};
+
+/* A run of 16 records meets at most three map places of an entry, before the call and after it. */
+enum { MAX_PARTS = 1 + 2 * 3 * LONGEST_DIRECTORY / ENTRY };
+
+static struct part parts[MAX_PARTS];
+static size part_count;
+
+static void whole_area(const struct area *area) {
+    parts[0] = (struct part){0, area->length};
+    part_count = 1;
+}
+
+/* Puts a block among the parts unless it is there, lies in the directory or past the image. */
+static void add_block(size from, size length) {
+    size at = part_count;
+    if (from < LONGEST_DIRECTORY || length > image.length || from > image.length - length) return;
+    while (at > 0 && parts[at - 1].from > from) at--;
+    if (at > 0 && parts[at - 1].from == from) return;
+    for (size i = part_count; i > at; i--) parts[i] = parts[i - 1];
+    parts[at] = (struct part){from, from + length};
+    part_count++;
+}
+
+static void add_blocks_of_entry(u32 kind, const u8 *entry, u32 first, u32 end) {
+    u32 width = kind == 0 ? 1 : 2, records = kind == 0 ? 8 : 16;
+    u32 at = EXTENT_RECORDS * (entry[12] + 32u * entry[14]);
+    for (u32 i = 0; i < EXTENT_RECORDS / records; i++, at += records) {
+        const u8 *number = entry + 16 + width * i;
+        size block = width == 1 ? number[0] : number[0] + 256u * number[1];
+        if (at < end && first < at + records) add_block(RECORD * records * block, RECORD * records);
+    }
+}
+
+static void add_blocks_of_call(u32 kind, u32 count) {
+    const u8 *record = data(&small) + 33;
+    size directory = kind == 0 ? 2048 : LONGEST_DIRECTORY;
+    if (kind > 1 || small.length < FCB) return;
+    u32 first = record[0] + 256u * record[1] + 65536u * record[2];
+    u32 end = first + (count < MOST_RECORDS ? count : MOST_RECORDS);
+    for (size at = 0; at < directory; at += ENTRY) {
+        add_blocks_of_entry(kind, image.before + at, first, end);
+        add_blocks_of_entry(kind, data(&image) + at, first, end);
+    }
+}
+
+/* The image's parts after a step that is no call; true if there can be more of them. */
+static int beginning_of_image(void) {
+    whole_area(&image);
+    if (image.length <= SHORT_IMAGE) return 0;
+    parts[0].to = LONGEST_DIRECTORY;
+    return 1;
+}
+
+/* ---- What changed ---- */
+
+static void find_changes_in(const struct area *area, struct part part) {
+    const u8 *now = area->room + GUARD;
+    for (size from = part.from; from < part.to; from += STRIDE) {
+        size to = part.to - from < STRIDE ? part.to : from + STRIDE;
         if (memcmp(area->before + from, now + from, to - from) == 0) continue;
         for (size i = from; i < to; i++)
             if (area->before[i] != now[i]) note_change(i);
     }
+}
+
+static void find_changes(const struct area *area) {
+    change_count = changed_bytes = 0;
+    for (size i = 0; i < part_count; i++) find_changes_in(area, parts[i]);
 }
 
 static void put_changes(struct area *area) {
@@ -213,28 +289,59 @@ static u32 broken_guards(void) {
     return broken;
 }
 
-/* A bit for each area in which the plain side has left other bytes; it goes on from the engine's. */
-static u32 areas_apart(void) {
-    u32 apart = 0;
-    for (u32 i = 0; i < AREAS; i++) {
-        struct area *area = areas[i];
-        if (memcmp(plain(area), data(area), area->length) == 0) continue;
-        memcpy(plain(area), data(area), area->length);
-        apart |= 1u << i;
+/* True if the plain side has left other bytes in the parts; it goes on from the engine's. */
+static int is_apart(struct area *area) {
+    int apart = 0;
+    for (size i = 0; i < part_count; i++) {
+        size from = parts[i].from, length = parts[i].to - from;
+        if (memcmp(plain(area) + from, data(area) + from, length) == 0) continue;
+        memcpy(plain(area) + from, data(area) + from, length);
+        apart = 1;
     }
     return apart;
 }
 
+/* A bit for each area in which the plain side is apart. The image comes last, and its parts stay. */
+static u32 areas_apart(void) {
+    struct part of_image[MAX_PARTS];
+    size number = part_count;
+    u32 apart = 0;
+    memcpy(of_image, parts, sizeof parts);
+    for (u32 i = 0; i < AREAS; i++) {
+        whole_area(areas[i]);
+        if (areas[i] == &image) {
+            memcpy(parts, of_image, sizeof parts);
+            part_count = number;
+        }
+        if (is_apart(areas[i])) apart |= 1u << i;
+    }
+    return apart;
+}
+
+/* Called with the image's parts set. */
 static void reply_apart(u32 answer, u32 apart, u32 plain_answer) {
+    struct part of_image[MAX_PARTS];
+    size number = part_count;
+    memcpy(of_image, parts, sizeof parts);
     put_number('A', 1);
     put_number(broken_guards(), 1);
     put_number(answer, 4);
     put_number(apart, 1);
     if (apart != 0) put_number(plain_answer, 4);
-    for (u32 i = 0; i < AREAS; i++) put_changes(areas[i]);
+    for (u32 i = 0; i < AREAS; i++) {
+        whole_area(areas[i]);
+        if (areas[i] == &image) {
+            memcpy(parts, of_image, sizeof parts);
+            part_count = number;
+        }
+        put_changes(areas[i]);
+    }
 }
 
-static void reply(u32 answer) { reply_apart(answer, 0, 0); }
+static void reply(u32 answer) {
+    beginning_of_image();
+    reply_apart(answer, 0, 0);
+}
 
 static const u8 *take(size length) {
     const u8 *bytes = batch + batch_at;
@@ -277,10 +384,11 @@ static void serve_patch(struct area *area) {
 }
 
 static void serve_start(void) {
+    u32 kind = take_number(4);
     u32 capacity = take_number(4), open_limit = take_number(4), lock_limit = take_number(4);
     take_into(&small);
     hold(&dma, batch, 0);
-    reply(mpm_start(capacity, open_limit, lock_limit, data(&small), small.length, data(&list),
+    reply(mpm_start(kind, capacity, open_limit, lock_limit, data(&small), small.length, data(&list),
                     list.length));
 }
 
@@ -291,29 +399,40 @@ static u32 wanted_of_plain(u32 function, u32 answer) {
 }
 
 static void serve_call(void) {
+    u32 kind = take_number(4);
     u32 function = take_number(4), process = take_number(4), count = take_number(4);
     take_into(&small);
     take_dma();
-    u32 answer = mpm_call(function, process, count, data(&small), small.length, data(&dma),
+    u32 answer = mpm_call(kind, function, process, count, data(&small), small.length, data(&dma),
                           dma.length, data(&list), list.length, data(&image), image.length);
-    u32 singly = mpm_singly(function, process, count, plain(&small), small.length, plain(&dma),
-                            dma.length, plain(&list), list.length, plain(&image), image.length);
+    u32 singly =
+        mpm_singly(kind, function, process, count, plain(&small), small.length, plain(&dma),
+                   dma.length, plain(&list), list.length, plain(&image), image.length);
+    if (beginning_of_image()) add_blocks_of_call(kind, count);
     u32 apart = areas_apart();
     if (singly != wanted_of_plain(function, answer)) apart |= ANSWER_APART;
     reply_apart(answer, apart, singly);
 }
 
 static void serve_check(void) {
+    u32 kind = take_number(4);
     hold(&small, batch, 0);
     hold(&dma, batch, 0);
-    reply(mpm_check(data(&image), image.length));
+    reply(mpm_check(kind, data(&image), image.length));
 }
 
 static void serve_look(void) {
-    u32 user = take_number(4), record = take_number(4);
+    u32 kind = take_number(4), user = take_number(4), record = take_number(4);
     take_into(&small);
     hold(&dma, batch, 0);
-    reply(mpm_look(user, data(&small), small.length, record, data(&image), image.length));
+    reply(mpm_look(kind, user, data(&small), small.length, record, data(&image), image.length));
+}
+
+static void serve_whole(void) {
+    hold(&small, batch, 0);
+    hold(&dma, batch, 0);
+    whole_area(&image);
+    reply_apart(0, areas_apart(), 0);
 }
 
 static void serve_step(void) {
@@ -326,6 +445,7 @@ static void serve_step(void) {
     case 'C': serve_call(); break;
     case 'K': serve_check(); break;
     case 'V': serve_look(); break;
+    case 'W': serve_whole(); break;
     default: exit(MALFORMED);
     }
 }

@@ -1,6 +1,6 @@
 #!/usr/bin/env bash
-# Tries pipe.c: over the reference it must compare the same, over each bad stub and each wrong plain side different.
-# Needs a C compiler (CC, else cc) and the built `compare`.
+# Tries pipe.c: over the reference it must compare the same, over each bad stub, each wrong plain side and each engine
+# that is wrong about the kind of drive different. Needs a C compiler (CC, else cc) and the built `compare`.
 set -euo pipefail
 here=$(cd "$(dirname "${BASH_SOURCE[0]}")" && pwd -P)
 compare=$here/../reference/target/release/compare
@@ -24,6 +24,15 @@ must_differ() { # NAME WORDS
     }
 }
 
+# The engine over the reference with one fault: some of its functions are those of FILE.
+build_wrong() { # NUMBER FILE FUNCTIONS..
+    local number=$1 file=$2 renamed=()
+    shift 2
+    for function in "$@"; do renamed+=("-Dmpm_$function=wrong_$function"); done
+    "${CC:-cc}" "${flags[@]}" "${renamed[@]}" -c "$here/pipe.c" -o "$work/pipe.o"
+    "${CC:-cc}" "${flags[@]}" -DWRONG="$number" "$work/pipe.o" "$here/$file" "$archive" "${libraries[@]}" -o "$work/engine"
+}
+
 cargo build --quiet --release --offline -j1 --manifest-path "$here/exports/Cargo.toml"
 "${CC:-cc}" "${flags[@]}" "$here/pipe.c" "$archive" "${libraries[@]}" -o "$work/pipe"
 "$compare" --seconds "$seconds" --failures "$work/failures" -- "$work/pipe" >"$work/out" 2>/dev/null || {
@@ -39,13 +48,22 @@ for stub in 1 2 3 4 5 6; do
 done
 echo "pipe over six bad stubs: all seen"
 
-for wrong in 1 2 3 4 5 6 7 8; do
+for wrong in 1 2 3 4 5 6 7 8 9; do
     case $wrong in
         7) words='guards broken: 00100000' ;;
         *) words='mpm_singly has done otherwise' ;;
     esac
-    "${CC:-cc}" "${flags[@]}" -DWRONG="$wrong" -Dmpm_singly=wrong_singly -c "$here/pipe.c" -o "$work/pipe.o"
-    "${CC:-cc}" "${flags[@]}" -DWRONG="$wrong" "$work/pipe.o" "$here/wrong.c" "$archive" "${libraries[@]}" -o "$work/engine"
+    build_wrong "$wrong" wrong.c singly
     must_differ "wrong plain side $wrong" "$words"
 done
-echo "pipe over eight wrong plain sides: all seen"
+echo "pipe over nine wrong plain sides: all seen"
+
+for wrong in 1 2 3 4 5 6 7 8 9 10; do
+    build_wrong "$wrong" wrong_kind.c call singly start check look
+    must_differ "wrong about the kind $wrong" '^different'
+    if grep -q 'mpm_singly has done otherwise' "$work/out"; then
+        echo "wrong about the kind $wrong: seen by the plain side, which has the same fault"
+        exit 1
+    fi
+done
+echo "pipe over ten engines wrong about the kind: all seen"

@@ -18,22 +18,22 @@ typedef __SIZE_TYPE__ size;
 
 #define REFUSED (255u + 256u * 13u)
 
-u32 mpm_call(u32 function, u32 process, u32 count, u8 *fcb, size fcb_len, u8 *dma, size dma_len,
-             u8 *list, size list_len, u8 *image, size image_len);
-u32 mpm_singly(u32 function, u32 process, u32 count, u8 *fcb, size fcb_len, u8 *dma, size dma_len,
-               u8 *list, size list_len, u8 *image, size image_len);
-u32 mpm_start(u32 capacity, u32 open_limit, u32 lock_limit, const u8 *users, size users_len,
-              u8 *list, size list_len);
-u32 mpm_check(const u8 *image, size image_len);
-u32 mpm_look(u32 user, const u8 *name, size name_len, u32 record, const u8 *image,
+u32 mpm_call(u32 kind, u32 function, u32 process, u32 count, u8 *fcb, size fcb_len, u8 *dma,
+             size dma_len, u8 *list, size list_len, u8 *image, size image_len);
+u32 mpm_singly(u32 kind, u32 function, u32 process, u32 count, u8 *fcb, size fcb_len, u8 *dma,
+               size dma_len, u8 *list, size list_len, u8 *image, size image_len);
+u32 mpm_start(u32 kind, u32 capacity, u32 open_limit, u32 lock_limit, const u8 *users,
+              size users_len, u8 *list, size list_len);
+u32 mpm_check(u32 kind, const u8 *image, size image_len);
+u32 mpm_look(u32 kind, u32 user, const u8 *name, size name_len, u32 record, const u8 *image,
              size image_len);
 
-u32 mpm_start(u32 capacity, u32 open_limit, u32 lock_limit, const u8 *users, size users_len,
-              u8 *list, size list_len) {
+u32 mpm_start(u32 kind, u32 capacity, u32 open_limit, u32 lock_limit, const u8 *users,
+              size users_len, u8 *list, size list_len) {
     u32 numbers[3] = {capacity, open_limit, lock_limit};
     for (u32 i = 0; i < 3; i++)
         if (numbers[i] < 1 || numbers[i] > 64) return REFUSED;
-    if (users_len != 16 || list_len != 1299) return REFUSED;
+    if (kind > 1 || users_len != 16 || list_len != 1299) return REFUSED;
     for (u32 i = 0; i < 16; i++)
         if (users[i] > 15) return REFUSED;
     for (size i = 0; i < list_len; i++) list[i] = 0;
@@ -42,20 +42,20 @@ u32 mpm_start(u32 capacity, u32 open_limit, u32 lock_limit, const u8 *users, siz
     return 0;
 }
 
-u32 mpm_check(const u8 *image, size image_len) {
-    (void)image;
+u32 mpm_check(u32 kind, const u8 *image, size image_len) {
+    (void)kind, (void)image;
     return image_len % 1024 != 0;
 }
 
-u32 mpm_look(u32 user, const u8 *name, size name_len, u32 record, const u8 *image,
+u32 mpm_look(u32 kind, u32 user, const u8 *name, size name_len, u32 record, const u8 *image,
              size image_len) {
-    (void)user, (void)name, (void)name_len, (void)record, (void)image, (void)image_len;
+    (void)kind, (void)user, (void)name, (void)name_len, (void)record, (void)image, (void)image_len;
     return 0;
 }
 
-u32 mpm_call(u32 function, u32 process, u32 count, u8 *fcb, size fcb_len, u8 *dma, size dma_len,
-             u8 *list, size list_len, u8 *image, size image_len) {
-    (void)function, (void)process, (void)count, (void)fcb, (void)fcb_len, (void)dma;
+u32 mpm_call(u32 kind, u32 function, u32 process, u32 count, u8 *fcb, size fcb_len, u8 *dma,
+             size dma_len, u8 *list, size list_len, u8 *image, size image_len) {
+    (void)kind, (void)function, (void)process, (void)count, (void)fcb, (void)fcb_len, (void)dma;
     (void)dma_len, (void)list, (void)list_len, (void)image, (void)image_len;
 #if STUB == ACCEPT_ALL
     return 0;
@@ -75,8 +75,8 @@ u32 mpm_call(u32 function, u32 process, u32 count, u8 *fcb, size fcb_len, u8 *dm
 #endif
 }
 
-u32 mpm_singly(u32 function, u32 process, u32 count, u8 *fcb, size fcb_len, u8 *dma, size dma_len,
-               u8 *list, size list_len, u8 *image, size image_len) {
-    return mpm_call(function, process, count, fcb, fcb_len, dma, dma_len, list, list_len, image,
-                    image_len);
+u32 mpm_singly(u32 kind, u32 function, u32 process, u32 count, u8 *fcb, size fcb_len, u8 *dma,
+               size dma_len, u8 *list, size list_len, u8 *image, size image_len) {
+    return mpm_call(kind, function, process, count, fcb, fcb_len, dma, dma_len, list, list_len,
+                    image, image_len);
 }

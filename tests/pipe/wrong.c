@@ -13,6 +13,7 @@ typedef __SIZE_TYPE__ size;
 #define SPOILS_THE_IMAGE 6
 #define WRITES_BEHIND_THE_DMA 7
 #define ANSWERS_ANOTHER_46 8
+#define SPOILS_A_FAR_BLOCK 9
 
 #ifndef WRONG
 #define WRONG TELLS_RECORDS_DONE
@@ -20,21 +21,21 @@ typedef __SIZE_TYPE__ size;
 
 enum { READ = 33, WRITE = 34, FREE_SPACE = 46, FCB = 36, DMA = 2048, RECORD = 128, LIST = 1299 };
 
-u32 mpm_singly(u32 function, u32 process, u32 count, u8 *fcb, size fcb_len, u8 *dma, size dma_len,
-               u8 *list, size list_len, u8 *image, size image_len);
-u32 wrong_singly(u32 function, u32 process, u32 count, u8 *fcb, size fcb_len, u8 *dma, size dma_len,
-                 u8 *list, size list_len, u8 *image, size image_len);
+u32 mpm_singly(u32 kind, u32 function, u32 process, u32 count, u8 *fcb, size fcb_len, u8 *dma,
+               size dma_len, u8 *list, size list_len, u8 *image, size image_len);
+u32 wrong_singly(u32 kind, u32 function, u32 process, u32 count, u8 *fcb, size fcb_len, u8 *dma,
+                 size dma_len, u8 *list, size list_len, u8 *image, size image_len);
 
-u32 wrong_singly(u32 function, u32 process, u32 count, u8 *fcb, size fcb_len, u8 *dma, size dma_len,
-                 u8 *list, size list_len, u8 *image, size image_len) {
-    u32 answer = mpm_singly(function, process, count, fcb, fcb_len, dma, dma_len, list, list_len,
-                            image, image_len);
+u32 wrong_singly(u32 kind, u32 function, u32 process, u32 count, u8 *fcb, size fcb_len, u8 *dma,
+                 size dma_len, u8 *list, size list_len, u8 *image, size image_len) {
+    u32 answer = mpm_singly(kind, function, process, count, fcb, fcb_len, dma, dma_len, list,
+                            list_len, image, image_len);
 #if WRONG == TELLS_RECORDS_DONE
     if (function == READ && answer == 1 && count == 16) answer += 16u * 256u;
 #elif WRONG == GOES_ON_BEHIND_A_REFUSAL
     if (function == WRITE && answer == 8 && fcb[33] < 255) {
         fcb[33]++;
-        mpm_singly(function, process, 1, fcb, fcb_len, dma, dma_len, list, list_len, image,
+        mpm_singly(kind, function, process, 1, fcb, fcb_len, dma, dma_len, list, list_len, image,
                    image_len);
         fcb[33]--;
     }
@@ -51,6 +52,8 @@ u32 wrong_singly(u32 function, u32 process, u32 count, u8 *fcb, size fcb_len, u8
     if (function == READ && answer == 0) dma[dma_len] ^= 1;
 #elif WRONG == ANSWERS_ANOTHER_46
     if (function == FREE_SPACE && answer == 0) answer = FCB;
+#elif WRONG == SPOILS_A_FAR_BLOCK
+    if (function == FREE_SPACE && answer == 0 && kind == 1) image[image_len - 1] ^= 1;
 #endif
     return answer;
 }

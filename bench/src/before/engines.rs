@@ -1,14 +1,16 @@
-//! The engine of an earlier commit and that of this tree, called in one way.
+//! The engine of an earlier commit and that of this tree, called in one way: before.c brings an earlier one to today's
+//! parameters, and this tree's goes through it too.
 
-use crate::books::Call;
+use crate::books::{Book, Call};
 use crate::engines::{through, CCall, Timed};
 
-type CCheck = unsafe extern "C" fn(*const u8, usize) -> u32;
+type CCheck = unsafe extern "C" fn(u32, *const u8, usize) -> u32;
 
 macro_rules! declare {
     (calls: $($call:ident)*; checks: $($check:ident)*) => {
         extern "C" {
             $(fn $call(
+                kind: u32,
                 function: u32,
                 process: u32,
                 count: u32,
@@ -21,9 +23,19 @@ macro_rules! declare {
                 image: *mut u8,
                 image_len: usize,
             ) -> u32;)*
-            $(fn $check(image: *const u8, image_len: usize) -> u32;)*
+            $(fn $check(kind: u32, image: *const u8, image_len: usize) -> u32;)*
         }
     };
+}
+
+extern "C" {
+    fn before_kinds() -> u32;
+}
+
+/// How many kinds of drive the earlier engine knows.
+pub fn kinds_before() -> u32 {
+    // SAFETY: it gives a constant.
+    unsafe { before_kinds() }
 }
 
 declare!(calls: before_call before_singly now_call now_singly; checks: before_check now_check);
@@ -56,9 +68,13 @@ impl Timed for Version {
 }
 
 impl Version {
-    pub fn check(self, image: &[u8]) -> u32 {
+    pub fn check(self, book: &Book) -> u32 {
+        self.check_image(book.kind.number(), &book.image)
+    }
+
+    pub fn check_image(self, kind: u32, image: &[u8]) -> u32 {
         // SAFETY: the pointer comes with the length of the slice it is taken from.
-        unsafe { (self.check)(image.as_ptr(), image.len()) }
+        unsafe { (self.check)(kind, image.as_ptr(), image.len()) }
     }
 
     /// Its plain side, as an engine.

@@ -1,14 +1,15 @@
 //! What was measured of the two engines, as text.
 
 use super::{Both, Pair, Work};
-use crate::books::{Kind, KINDS};
+use crate::books::{kind_title, Drive, Filling, FILLINGS};
 use crate::report::goal;
+use reference::kind::Kind;
 use std::fmt::Write;
 
 /// So many times as long as before a call may take.
 const LIMIT: f64 = 1.1;
 
-/// The image check alone on each kind of book and size; the calls of each kind of book; the stack; the goal.
+/// The image check alone on each shelf; the calls of each kind of drive and filling; the stack; the goal.
 pub fn table(pairs: &[Pair], rounds: usize) -> String {
     let (checks, calls): (Vec<&Pair>, Vec<&Pair>) = pairs.iter().partition(|pair| pair.is_check());
     [
@@ -22,40 +23,48 @@ pub fn table(pairs: &[Pair], rounds: usize) -> String {
 }
 
 fn check_table(checks: &[&Pair]) -> String {
-    let mut text =
-        String::from("| image check alone | n | before | now | now / before |\n|---|---|---|---|---|\n");
+    let mut text = String::from(
+        "| image check alone | drive | n | before | now | now / before |\n|---|---|---|---|---|---|\n",
+    );
     for pair in checks {
         let [before, now] = pair.quickest();
-        let (book, n, ratio) = (pair.kind.title(), pair.blocks, pair.ratio());
+        let (book, kind) = (pair.filling.title(), kind_title(pair.drive.kind));
+        let (n, ratio) = (pair.drive.blocks, pair.ratio());
         let _ = writeln!(
             text,
-            "| {book} | {n} | {before:.0} ns | {now:.0} ns | {ratio:.2} |"
+            "| {book} | {kind} | {n} | {before:.0} ns | {now:.0} ns | {ratio:.2} |"
         );
     }
     text
 }
 
 fn call_table(calls: &[&Pair]) -> String {
-    let mut text = String::from("\n| calls, now / before | median | highest |\n|---|---|---|\n");
-    for kind in KINDS {
-        let sorted = by_ratio(calls, kind);
-        let (median, highest) = (sorted[sorted.len() / 2], sorted[sorted.len() - 1]);
+    let mut text = String::from("\n| calls, now / before | drive | median | highest |\n|---|---|---|---|\n");
+    for (kind, filling) in Kind::ALL
+        .into_iter()
+        .flat_map(|kind| FILLINGS.map(|filling| (kind, filling)))
+    {
+        let sorted = by_ratio(calls, kind, filling);
+        let (Some(median), Some(highest)) = (sorted.get(sorted.len() / 2), sorted.last()) else {
+            continue;
+        };
         let _ = writeln!(
             text,
-            "| {} | {:.2} | {:.2} ({}, n = {}) |",
-            kind.title(),
+            "| {} | {} | {:.2} | {:.2} ({}, n = {}) |",
+            filling.title(),
+            kind_title(kind),
             median.ratio(),
             highest.ratio(),
             highest.work.title(),
-            highest.blocks,
+            highest.drive.blocks,
         );
     }
     text
 }
 
-fn by_ratio<'a>(calls: &[&'a Pair], kind: Kind) -> Vec<&'a Pair> {
-    let of_kind = calls.iter().filter(|pair| pair.kind == kind);
-    let mut sorted: Vec<&Pair> = of_kind.copied().collect();
+fn by_ratio<'a>(calls: &[&'a Pair], kind: Kind, filling: Filling) -> Vec<&'a Pair> {
+    let is_it = |pair: &&&Pair| pair.drive.kind == kind && pair.filling == filling;
+    let mut sorted: Vec<&Pair> = calls.iter().filter(is_it).copied().collect();
     sorted.sort_by(|a, b| a.ratio().total_cmp(&b.ratio()));
     sorted
 }
@@ -75,7 +84,7 @@ fn stack_table(checks: &[&Pair], calls: &[&Pair]) -> String {
 }
 
 fn goals(pairs: &[Pair]) -> String {
-    let measured = |pair: &Pair| (label(pair.kind, pair.blocks, &pair.work), pair.ratio());
+    let measured = |pair: &Pair| (label(pair.filling, pair.drive, &pair.work), pair.ratio());
     let measured: Vec<_> = pairs.iter().map(measured).collect();
     let line = goal(&format!("at most {LIMIT} times before"), &measured, LIMIT);
     format!("\n| goal | highest | missed by |\n|---|---|---|\n{line}")
@@ -84,14 +93,15 @@ fn goals(pairs: &[Pair]) -> String {
 /// Every book, size and work.
 pub fn csv(pairs: &[Pair]) -> String {
     let mut text =
-        String::from("book,n,work,before ns,now ns,now / before,stack bytes before,stack bytes now\n");
+        String::from("drive,book,n,work,before ns,now ns,now / before,stack bytes before,stack bytes now\n");
     for pair in pairs {
         let ([before, now], [stack_before, stack_now]) = (pair.quickest(), pair.stack);
         let _ = writeln!(
             text,
-            "{},{},{},{before:.0},{now:.0},{:.2},{stack_before},{stack_now}",
-            pair.kind.title(),
-            pair.blocks,
+            "{},{},{},{},{before:.0},{now:.0},{:.2},{stack_before},{stack_now}",
+            kind_title(pair.drive.kind),
+            pair.filling.title(),
+            pair.drive.blocks,
             pair.work.title(),
             pair.ratio(),
         );
@@ -99,13 +109,14 @@ pub fn csv(pairs: &[Pair]) -> String {
     text
 }
 
-pub fn disagreement(kind: Kind, blocks: usize, work: &Work) -> String {
-    let label = label(kind, blocks, work);
+pub fn disagreement(filling: Filling, drive: Drive, work: &Work) -> String {
+    let label = label(filling, drive, work);
     format!("the two engines do not answer and leave the same: {label}")
 }
 
-fn label(kind: Kind, blocks: usize, work: &Work) -> String {
-    format!("{} {}, n = {blocks}", kind.title(), work.title())
+fn label(filling: Filling, drive: Drive, work: &Work) -> String {
+    let (kind, n) = (kind_title(drive.kind), drive.blocks);
+    format!("{kind} {} {}, n = {n}", filling.title(), work.title())
 }
 
 impl Work {

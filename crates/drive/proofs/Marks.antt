@@ -176,29 +176,32 @@ module _ (kind : Kind) (top : ℕ) (s : List ℕ) (e : ℕ) (seen : List ℕ) wh
 -- ---- the blocks in use
 
 -- the directory's alone
-pub used-none : (kind : Kind) (s v t u : List ℕ) → Marks kind 2 s 0 0 v → t ≡ withBit 0 v → u ≡ withBit 1 t → InUse kind s 0 0 u
-used-none kind s v t u m h g =
+pub used-none : (kind : Kind) (s v u : List ℕ) → Marks kind 2 s 0 0 v → u ≡ withBit 1 (withBit 0 v) → InUse kind s 0 0 u
+used-none kind s v u m g =
     let some = most-some kind in
-    let o : length t ≡ length v = ap length h ∙ length-bit v 0 in
-    let y : isSet t 0 ≡ true = rw h (set-here v 0 (omega (arith, m .long))) in
+    let t = withBit 0 v in
+    let o : length t ≡ length v = length-bit v 0 in
     rw g (record {
       directory = λ x l.
           ⊎-elim (λ (q : x ≡ 1). rw q (set-here t 1 (omega (arith, m .long))))
-          (λ (q : x ≡ 1 → ⊥). let z : x ≡ 0 = omega arith in rw z (set-stays t 1 0 (omega (arith, m .long)) y)) (equal? x 1);
+          (λ (q : x ≡ 1 → ⊥). let z : x ≡ 0 = omega arith in rw z (set-stays t 1 0 (omega (arith, m .long)) (set-here v 0 (omega (arith, m .long))))) (equal? x 1);
       named = record {
         long = rw (length-bit t 1, o) (m .long);
         mark = λ x p l.
             set-there t 1 x (λ q. omega arith) (omega (arith, m .long))
-            ∙ ap (λ (w : List ℕ). isSet w x) h
             ∙ set-there v 0 x (λ q. omega arith) (omega (arith, m .long)) ∙ m .mark x p l;
       };
     })
 
-pub none-long : (kind : Kind) (s v : List ℕ) (b : ℕ) → Marks kind 2 s 0 0 v → b < 2 → b < 8 * length v
-none-long kind s v b m l = let some = most-some kind in omega (arith, m .long)
+pub none-long : (kind : Kind) (s v : List ℕ) → Marks kind 2 s 0 0 v → 1 < 8 * length v
+none-long kind s v m = let some = most-some kind in omega (arith, m .long)
 
-pub next-long : (kind : Kind) (s v t : List ℕ) (a b : ℕ) → Marks kind 2 s 0 0 v → t ≡ withBit a v → b < 2 → b < 8 * length t
-next-long kind s v t a b m h l = rw (h, length-bit v a) (none-long kind s v b m l)
+-- the first two bits, one after the other
+pub next-long : (v t : List ℕ) → t ≡ withBit 0 v → 1 < 8 * length v → 1 < 8 * length t
+next-long v t h l = rw (h, length-bit v 0) l
+
+pub both-set : (v t u : List ℕ) → t ≡ withBit 0 v → u ≡ withBit 1 t → u ≡ withBit 1 (withBit 0 v)
+both-set v t u h g = g ∙ ap (λ (w : List ℕ). withBit 1 w) h
 
 module _ (kind : Kind) (s : List ℕ) (e k : ℕ) (used : List ℕ) (u : InUse kind s e k used) where
   pub used-set : (b : ℕ) (t : List ℕ) → b ≡ mapNumber kind s e k → t ≡ withBit b used → b / 8 < length used → InUse kind s e (k + 1) t
@@ -206,6 +209,9 @@ module _ (kind : Kind) (s : List ℕ) (e k : ℕ) (used : List ℕ) (u : InUse k
     directory = λ x l. rw h (set-stays used b x (omega arith) (u .directory x l));
     named = marks-set kind 2 s e k used b (u .named) is t h (omega (arith, u .named .long));
   }
+
+  pub used-skip : (b : ℕ) → b ≡ mapNumber kind s e k → b ≡ 0 → InUse kind s e (k + 1) used
+  used-skip b is z = record { directory = u .directory; named = below kind 2 s e k used b (u .named) is (omega arith) }
 
   pub used-past : (b : ℕ) → b ≡ mapNumber kind s e k → length used ≤ b / 8 → InUse kind s e (k + 1) used
   used-past b is z = record { directory = u .directory; named = past kind 2 s e k used b (u .named) is (omega (arith, u .named .long)) }
@@ -254,6 +260,21 @@ module _ (kind one : Kind) (s : List ℕ) (q : kind ≡ one) where
   pub one-few : blocks kind s ≤ most kind → blocks one s ≤ most one
   one-few h = rw q at h
 
+  pub one-blocks : (n : ℕ) → n ≡ blocks kind s → n ≡ blocks one s
+  one-blocks n h = rw q at h
+
+  pub one-range : (e : ℕ) (r : Bool) → r ≡ all (inRange one s e) (numbers one) → r ≡ all (inRange kind s e) (numbers kind)
+  one-range e r h = rw q h
+
+  pub all-range : (e : ℕ) → all (inRange kind s e) (numbers kind) ≡ true → all (inRange one s e) (numbers one) ≡ true
+  all-range e h = rw q at h
+
+  pub one-marks : (e k : ℕ) (seen : List ℕ) → Marks kind 1 s e k seen → Marks one 1 s e k seen
+  one-marks e k seen m = rw q at m
+
+  pub one-marked : (e : ℕ) (r : Bool) (seen : List ℕ) → Marked one s e r seen → Marked kind s e r seen
+  one-marked e r seen m = rw q m
+
   pub one-good : (r : Bool) (top : ℕ) → r ≡ all (goodEntry one top s) (entries one) → r ≡ all (goodEntry kind top s) (entries kind)
   one-good r top h = rw q h
 
@@ -266,16 +287,16 @@ module _ (kind one : Kind) (s : List ℕ) (q : kind ≡ one) where
   pub one-fits : (r : ℕ) → r ≤ blocks one s → r ≤ blocks kind s
   one-fits r h = rw q h
 
-pub ruleset one-kind = (one-long, one-few, one-good, one-lowest, one-count, one-fits)
+pub ruleset one-kind = (one-long, one-few, one-blocks, one-range, all-range, one-marks, one-marked, one-good, one-lowest, one-count, one-fits)
 
 pub ruleset marking = (needs, all-none, all-more, marks-skip, marks-set, range-fits, marks-long, marked-twice, marked-all, first-zero, first-unmarked, first-marked)
 
-pub ruleset noting = (needs, is-no, none-long, next-long, used-none, used-set, used-past, used-full, used-long, used-empty, used-end)
+pub ruleset noting = (needs, is-no, small-none, large-none, none-long, used-none, used-set, used-skip, used-past, used-full, used-long, used-empty, used-end)
 
-pub ruleset freeing = (needs, small-none, large-none, lowest-free, count-free, free-room)
+pub ruleset freeing = (needs, one-kind, lowest-free, count-free, free-room)
 
 pub ruleset judging = (judged-empty, judged-bad, judged-last, and-first, and-then, or-first, or-then, not-answer, answers)
 
-pub ruleset entering = (needs, answers, all-none, all-more, all-stops-as, all-ends-as, judged-marks)
+pub ruleset entering = (needs, small-none, large-none, answers, all-none, all-more, all-stops-as, all-ends-as, judged-marks)
 
 pub ruleset ranging = (needs, answers, all-none, all-more, all-stops-as, all-ends-as, range-as)

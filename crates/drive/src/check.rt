@@ -88,16 +88,17 @@ fn in_range(b: usize, n: usize) -> bool
     b < n
 }
 
-// All block numbers of entry `e` are in range.
-fn all_in_range(kind: Kind, image: &[u8], e: usize) -> bool
+// All block numbers of entry `e` are in range. This loop and those that mark stand once for each kind, so that the kind is no
+// question inside them.
+fn small_in_range(image: &[u8], e: usize) -> bool
     requires { ⌜ 32 * e + 32 ≤ length (now image) ⌝ }
-    ensures { λ r. ⌜ r ≡ all (inRange kind (now (image .entry)) e) (numbers kind) ⌝ }
+    ensures { λ r. ⌜ r ≡ all (inRange Small (now (image .entry)) e) (numbers Small) ⌝ }
 {
-    let n = blocks_in(kind, image);
-    let m = numbers(kind);
+    let n = blocks_in(Kind::Small, image);
+    let m = numbers(Kind::Small);
     let mut k = 0;
     while k < m {
-        if !in_range(map_number(kind, image, e, k), n) {
+        if !in_range(map_number(Kind::Small, image, e, k), n) {
             return false;
         }
         k += 1;
@@ -105,15 +106,41 @@ fn all_in_range(kind: Kind, image: &[u8], e: usize) -> bool
     true
 }
 
-// Marks the block numbers of entry `e`, all in range, and refuses a second mark.
-fn mark_entry(kind: Kind, image: &[u8], e: usize, seen: &mut [u8]) -> bool
-    requires { ⌜ (32 * e + 32 ≤ length (now image)) × (blocks kind (now image) ≤ most kind) × (all (inRange kind (now image) e) (numbers kind) ≡ true) × Marks kind 1 (now image) e 0 (now seen) ⌝ }
-    ensures { λ r. ⌜ Marked kind (now (image .entry)) e r (now (seen .exit)) ⌝ }
+fn large_in_range(image: &[u8], e: usize) -> bool
+    requires { ⌜ 32 * e + 32 ≤ length (now image) ⌝ }
+    ensures { λ r. ⌜ r ≡ all (inRange Large (now (image .entry)) e) (numbers Large) ⌝ }
 {
-    let m = numbers(kind);
+    let n = blocks_in(Kind::Large, image);
+    let m = numbers(Kind::Large);
     let mut k = 0;
     while k < m {
-        let b = map_number(kind, image, e, k);
+        if !in_range(map_number(Kind::Large, image, e, k), n) {
+            return false;
+        }
+        k += 1;
+    }
+    true
+}
+
+fn all_in_range(kind: Kind, image: &[u8], e: usize) -> bool
+    requires { ⌜ 32 * e + 32 ≤ length (now image) ⌝ }
+    ensures { λ r. ⌜ r ≡ all (inRange kind (now (image .entry)) e) (numbers kind) ⌝ }
+{
+    match kind {
+        Kind::Small => small_in_range(image, e),
+        Kind::Large => large_in_range(image, e),
+    }
+}
+
+// Marks the block numbers of entry `e`, all in range, and refuses a second mark.
+fn mark_small(image: &[u8], e: usize, seen: &mut [u8]) -> bool
+    requires { ⌜ (32 * e + 32 ≤ length (now image)) × (blocks Small (now image) ≤ most Small) × (all (inRange Small (now image) e) (numbers Small) ≡ true) × Marks Small 1 (now image) e 0 (now seen) ⌝ }
+    ensures { λ r. ⌜ Marked Small (now (image .entry)) e r (now (seen .exit)) ⌝ }
+{
+    let m = numbers(Kind::Small);
+    let mut k = 0;
+    while k < m {
+        let b = map_number(Kind::Small, image, e, k);
         k += 1;
         if b != 0 {
             if is_set(seen, b) {
@@ -123,6 +150,35 @@ fn mark_entry(kind: Kind, image: &[u8], e: usize, seen: &mut [u8]) -> bool
         }
     }
     true
+}
+
+fn mark_large(image: &[u8], e: usize, seen: &mut [u8]) -> bool
+    requires { ⌜ (32 * e + 32 ≤ length (now image)) × (blocks Large (now image) ≤ most Large) × (all (inRange Large (now image) e) (numbers Large) ≡ true) × Marks Large 1 (now image) e 0 (now seen) ⌝ }
+    ensures { λ r. ⌜ Marked Large (now (image .entry)) e r (now (seen .exit)) ⌝ }
+{
+    let m = numbers(Kind::Large);
+    let mut k = 0;
+    while k < m {
+        let b = map_number(Kind::Large, image, e, k);
+        k += 1;
+        if b != 0 {
+            if is_set(seen, b) {
+                return false;
+            }
+            set(seen, b);
+        }
+    }
+    true
+}
+
+fn mark_entry(kind: Kind, image: &[u8], e: usize, seen: &mut [u8]) -> bool
+    requires { ⌜ (32 * e + 32 ≤ length (now image)) × (blocks kind (now image) ≤ most kind) × (all (inRange kind (now image) e) (numbers kind) ≡ true) × Marks kind 1 (now image) e 0 (now seen) ⌝ }
+    ensures { λ r. ⌜ Marked kind (now (image .entry)) e r (now (seen .exit)) ⌝ }
+{
+    match kind {
+        Kind::Small => mark_small(image, e, seen),
+        Kind::Large => mark_large(image, e, seen),
+    }
 }
 
 // An entry before `e` has its file and extent.
@@ -155,7 +211,7 @@ fn good_entry(kind: Kind, image: &[u8], e: usize, top: usize, seen: &mut [u8]) -
     !is_repeat(image, e)
 }
 
-// Every entry is, none having a mark yet.
+// Every entry is, no block having a mark yet.
 fn judge_all(kind: Kind, image: &[u8], top: usize, seen: &mut [u8]) -> bool
     requires { ⌜ (32 * entries kind ≤ length (now image)) × (blocks kind (now image) ≤ most kind) × Marks kind 1 (now image) 0 0 (now seen) ⌝ }
     ensures { λ r. ⌜ r ≡ all (goodEntry kind top (now (image .entry))) (entries kind) ⌝ }
@@ -171,7 +227,7 @@ fn judge_all(kind: Kind, image: &[u8], top: usize, seen: &mut [u8]) -> bool
     true
 }
 
-// The marks of the first kind are 32 bytes, those of the second 512.
+// The marks are 32 bytes on a drive of the first kind, 512 on one of the second.
 fn small_entries(image: &[u8], top: usize) -> bool
     requires { ⌜ (32 * entries Small ≤ length (now image)) × (blocks Small (now image) ≤ most Small) ⌝ }
     ensures { λ r. ⌜ r ≡ all (goodEntry Small top (now (image .entry))) (entries Small) ⌝ }

@@ -2,3 +2,4 @@ pub mod Passing
 pub mod Serving
 pub mod Each
 pub mod One
+pub mod Told

@@ -10,20 +10,19 @@ use drive::check::image_check;
 use drive::look::look_at;
 use locklist::start::start;
 use rules::answer::image_number;
-use rules::kind::Kind;
+use rules::kind::Told;
+use rules::kind::told_kind;
 use singly::answer_singly;
 ghost use mathlib.Core.Path.{_≡_};
-ghost use Rattle.rules.specs.declared.kind.Kind.the-variants.{Small};
+ghost use Rattle.rules.specs.Kinds.{toldKind};
 ghost use Rattle.rules.specs.Serves.{Did, buffers};
-ghost use Rattle.rules.specs.Drive.{highest, imageCheck, imageNumber};
-ghost use Rattle.rules.specs.Locks.{start};
-ghost use Rattle.rules.specs.Look.{lookAt};
-ghost use Rattle.rules.specs.Several.{callRun, callSingly};
+ghost use Rattle.rules.specs.Told.{callTold, singlyTold, startTold, checkTold, lookTold};
 ghost use Rattle.locklist.specs.Start.{DidStart};
 
-// A call: three numbers and four separate buffers in, A + 256 H out.
+// A call: the kind of drive, three numbers and four separate buffers in, A + 256 H out.
 #[no_mangle]
 pub extern "C" fn mpm_call(
+    kind: u32,
     function: u32,
     process: u32,
     count: u32,
@@ -32,24 +31,19 @@ pub extern "C" fn mpm_call(
     list: &mut [u8],
     image: &mut [u8],
 ) -> u32
-    ensures { λ r. ⌜ Did (callRun Small function process count (buffers (now (fcb .entry)) (now (dma .entry)) (now (list .entry)) (now (image .entry)))) r (now (fcb .exit)) (now (dma .exit)) (now (list .exit)) (now (image .exit)) ⌝ }
+    ensures { λ r. ⌜ Did (callTold (toldKind kind) function process count (buffers (now (fcb .entry)) (now (dma .entry)) (now (list .entry)) (now (image .entry)))) r (now (fcb .exit)) (now (dma .exit)) (now (list .exit)) (now (image .exit)) ⌝ }
 {
-    answer(
-        Kind::Small,
-        true,
-        function,
-        process,
-        count,
-        fcb,
-        dma,
-        list,
-        image,
-    )
+    let told = told_kind(kind);
+    let Told::Known(known) = told else {
+        return 3583;
+    };
+    answer(known, true, function, process, count, fcb, dma, list, image)
 }
 
 // The same call by the plain engine: 33, 34 and 40 as single calls one after another, the answer that of the last.
 #[no_mangle]
 pub extern "C" fn mpm_singly(
+    kind: u32,
     function: u32,
     process: u32,
     count: u32,
@@ -58,37 +52,54 @@ pub extern "C" fn mpm_singly(
     list: &mut [u8],
     image: &mut [u8],
 ) -> u32
-    ensures { λ r. ⌜ Did (callSingly Small function process count (buffers (now (fcb .entry)) (now (dma .entry)) (now (list .entry)) (now (image .entry)))) r (now (fcb .exit)) (now (dma .exit)) (now (list .exit)) (now (image .exit)) ⌝ }
+    ensures { λ r. ⌜ Did (singlyTold (toldKind kind) function process count (buffers (now (fcb .entry)) (now (dma .entry)) (now (list .entry)) (now (image .entry)))) r (now (fcb .exit)) (now (dma .exit)) (now (list .exit)) (now (image .exit)) ⌝ }
 {
-    answer_singly(Kind::Small, function, process, count, fcb, dma, list, image)
+    let told = told_kind(kind);
+    let Told::Known(known) = told else {
+        return 3583;
+    };
+    answer_singly(known, function, process, count, fcb, dma, list, image)
 }
 
-// Start: a fresh list from three numbers and sixteen users, or 255/13 and the list unchanged.
+// Start: a fresh list from the kind of drive, three numbers and sixteen users, or 255/13 and the list unchanged.
 #[no_mangle]
 pub extern "C" fn mpm_start(
+    kind: u32,
     capacity: u32,
     opens: u32,
     locks: u32,
     users: &[u8],
     list: &mut [u8],
 ) -> u32
-    ensures { λ r. ⌜ DidStart (start capacity opens locks (now (users .entry)) (now (list .entry))) r (now (list .exit)) ⌝ }
+    ensures { λ r. ⌜ DidStart (startTold (toldKind kind) capacity opens locks (now (users .entry)) (now (list .entry))) r (now (list .exit)) ⌝ }
 {
+    let told = told_kind(kind);
+    let Told::Known(_) = told else {
+        return 3583;
+    };
     start(capacity, opens, locks, users, list)
 }
 
 // The image check: 0 sound, 1 wrong length, 2 unsound directory.
 #[no_mangle]
-pub extern "C" fn mpm_check(image: &[u8]) -> u32
-    ensures { λ r. ⌜ r ≡ imageNumber (imageCheck Small highest (now (image .entry))) ⌝ }
+pub extern "C" fn mpm_check(kind: u32, image: &[u8]) -> u32
+    ensures { λ r. ⌜ r ≡ checkTold (toldKind kind) (now (image .entry)) ⌝ }
 {
-    image_number(image_check(Kind::Small, image, 262143))
+    let told = told_kind(kind);
+    let Told::Known(known) = told else {
+        return 1;
+    };
+    image_number(image_check(known, image, 262143))
 }
 
 // Look: where the record's 128 bytes begin in the image, or 0 where there are none to show.
 #[no_mangle]
-pub extern "C" fn mpm_look(user: u32, name: &[u8], number: u32, image: &[u8]) -> u32
-    ensures { λ r. ⌜ r ≡ lookAt Small highest user (now (name .entry)) number (now (image .entry)) ⌝ }
+pub extern "C" fn mpm_look(kind: u32, user: u32, name: &[u8], number: u32, image: &[u8]) -> u32
+    ensures { λ r. ⌜ r ≡ lookTold (toldKind kind) user (now (name .entry)) number (now (image .entry)) ⌝ }
 {
-    look_at(Kind::Small, user, name, number, image) as u32
+    let told = told_kind(kind);
+    let Told::Known(known) = told else {
+        return 0;
+    };
+    look_at(known, user, name, number, image) as u32
 }

@@ -7,6 +7,9 @@ ghost use Prim.Native.Nat.{_≤_};
 ghost use lib.ListN.{length};
 ghost use Rattle.io.specs.Counts.{Counts};
 
+// The kind of drive that DISK.IMG is of.
+const FIRST_KIND: u32 = 0;
+
 fn wide(x: u8) -> u32 {
     x as u32
 }
@@ -98,6 +101,7 @@ fn start(list: &mut [u8]) -> bool {
         return false;
     }
     let answer = engine::mpm_start(
+        FIRST_KIND,
         wide(record::first_number(&input)),
         wide(record::second_number(&input)),
         wide(record::third_number(&input)),
@@ -115,6 +119,7 @@ fn serve(calls: u64, input: &[u8; record::CALL_SIZE], list: &mut [u8], image: &m
     let mut fcb = record::fcb_of(input);
     let mut dma = record::dma_of(input);
     let answer = engine::mpm_call(
+        FIRST_KIND,
         wide(function),
         wide(process),
         wide(count),

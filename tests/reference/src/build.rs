@@ -1,5 +1,6 @@
 //! Hands for building FCBs, entries, items and images byte by byte.
 
+use crate::kind::Kind;
 use crate::name::HIGH_BIT;
 
 pub const OPEN_MARK: [u8; 2] = [0x4F, 0x46];
@@ -102,6 +103,17 @@ impl Entry {
         self.with(16 + index, block)
     }
 
+    /// A block number as an entry of this kind of drive has it.
+    pub fn block_of(mut self, kind: Kind, index: usize, block: u16) -> Entry {
+        kind.put_number(&mut self.0[16..], index, block);
+        self
+    }
+
+    /// A block number of two bytes, as on a drive of the second kind.
+    pub fn wide_block(self, index: usize, block: u16) -> Entry {
+        self.block_of(Kind::Second, index, block)
+    }
+
     pub fn attribute(mut self, byte: usize) -> Entry {
         self.0[byte] |= HIGH_BIT;
         self
@@ -113,7 +125,11 @@ impl Entry {
 }
 
 pub fn empty_image(blocks: usize) -> Vec<u8> {
-    vec![0xE5; 1024 * blocks]
+    empty_image_of(Kind::First, blocks)
+}
+
+pub fn empty_image_of(kind: Kind, blocks: usize) -> Vec<u8> {
+    vec![0xE5; kind.block() * blocks]
 }
 
 pub fn put_entry(image: &mut [u8], slot: usize, entry: Entry) {
@@ -121,7 +137,11 @@ pub fn put_entry(image: &mut [u8], slot: usize, entry: Entry) {
 }
 
 pub fn image_with(blocks: usize, entries: &[Entry]) -> Vec<u8> {
-    let mut image = empty_image(blocks);
+    image_of(Kind::First, blocks, entries)
+}
+
+pub fn image_of(kind: Kind, blocks: usize, entries: &[Entry]) -> Vec<u8> {
+    let mut image = empty_image_of(kind, blocks);
     for (slot, entry) in entries.iter().enumerate() {
         put_entry(&mut image, slot, *entry);
     }

@@ -2,7 +2,8 @@
 //! the buffers are written only after it has succeeded, or has done some of its records.
 
 use crate::answer::{code, extended, Answer, Refusal};
-use crate::drive::{block_start, extent_of, record_start, Drive, Fault, BLOCK, RECORD, RECORD_LIMIT};
+use crate::drive::{extent_of, Drive, Fault, RECORD_LIMIT};
+use crate::kind::{Kind, RECORD};
 use crate::locks::{Lock, LockList, Mode, Open, LIST_LENGTH, PROCESSES};
 use crate::name::{File, Name, HIGH_BIT};
 use std::ops::Range;
@@ -20,6 +21,7 @@ const WITHOUT_FCB: [u32; 2] = [46, 143];
 /// The numbers of a call, as the host gives them.
 #[derive(Clone, Copy, Debug, PartialEq, Eq)]
 pub struct Numbers {
+    pub kind: u32,
     pub function: u32,
     pub process: u32,
     pub count: u32,
@@ -178,7 +180,7 @@ fn go_along(
 }
 
 fn scene<'a>(numbers: Numbers, buffers: &'a Buffers) -> Result<Scene<'a>, Refusal> {
-    let process = judged_numbers(numbers)?;
+    let (kind, process) = judged_numbers(numbers)?;
     let fcb: [u8; FCB_LENGTH] = (&*buffers.fcb)
         .try_into()
         .map_err(|_| extended(13, "FCB of wrong length"))?;
@@ -188,8 +190,9 @@ fn scene<'a>(numbers: Numbers, buffers: &'a Buffers) -> Result<Scene<'a>, Refusa
     if buffers.list.len() != LIST_LENGTH {
         return Err(extended(13, "list of wrong length"));
     }
-    let drive = Drive::read(buffers.image).map_err(|fault| match fault {
+    let drive = Drive::read(kind, buffers.image).map_err(|fault| match fault {
         Fault::Length => extended(1, "image of wrong length"),
+        Fault::OtherKind => extended(1, "image of the other kind's length"),
         Fault::Directory => extended(1, "unsound directory"),
     })?;
     let list = LockList::read(buffers.list, &drive).ok_or(extended(12, "unsound list"))?;
@@ -207,7 +210,8 @@ fn scene<'a>(numbers: Numbers, buffers: &'a Buffers) -> Result<Scene<'a>, Refusa
     })
 }
 
-fn judged_numbers(numbers: Numbers) -> Result<u8, Refusal> {
+fn judged_numbers(numbers: Numbers) -> Result<(Kind, u8), Refusal> {
+    let kind = Kind::told(numbers.kind).ok_or(extended(13, "unknown kind"))?;
     if !FUNCTIONS.contains(&numbers.function) {
         return Err(extended(13, "unknown function"));
     }
@@ -220,7 +224,7 @@ fn judged_numbers(numbers: Numbers) -> Result<u8, Refusal> {
     if numbers.count > MOST_RECORDS {
         return Err(extended(13, "count above 16"));
     }
-    Ok(numbers.process as u8)
+    Ok((kind, numbers.process as u8))
 }
 
 impl Scene<'_> {
@@ -313,7 +317,7 @@ impl Scene<'_> {
         let first = drive.extent(file, 0);
         fcb[12..15].fill(0);
         fcb[15] = first.map_or(0, |extent| extent.count);
-        fcb[16..32].copy_from_slice(&first.map_or([0; 16], |extent| extent.map()));
+        fcb[16..32].copy_from_slice(&first.map_or([0; 16], |extent| drive.map(extent)));
         if open.mode == Mode::Unlocked {
             fcb[33..35].copy_from_slice(&file_id(open));
             fcb[35] = 0;
@@ -459,7 +463,7 @@ impl Scene<'_> {
             return Err(code(4, "no extent"));
         }
         let block = self.drive.block(file, record).ok_or(code(1, "no block"))?;
-        Ok(record_start(block, record))
+        Ok(self.drive.record_start(block, record))
     }
 
     fn read_random(&self) -> Outcome {
@@ -612,7 +616,7 @@ impl Scene<'_> {
     }
 
     fn free_space(&self) -> Outcome {
-        let records = self.drive.free_blocks() as u32 * 8;
+        let records = self.drive.free_records();
         let mut dma = self.dma;
         dma[..3].copy_from_slice(&records.to_le_bytes()[..3]);
         let kind = match records {
@@ -641,13 +645,14 @@ impl Writing {
         let block = self.drive.provide(file, record).ok_or(code(2, "no free block"))?;
         self.drive.raise_count(file, record);
         if self.zero_fill && block_missing {
+            let part = self.drive.block_part(block);
             self.data.push(Write {
-                at: block_start(block),
-                bytes: vec![0; BLOCK],
+                at: part.start,
+                bytes: vec![0; part.len()],
             });
         }
         self.data.push(Write {
-            at: record_start(block, record),
+            at: self.drive.record_start(block, record),
             bytes: bytes.to_vec(),
         });
         self.took_extent |= extent_missing;

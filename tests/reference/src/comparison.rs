@@ -15,7 +15,7 @@ use std::path::Path;
 /// A batch stays below 64 KB in each direction.
 const BATCH_BYTES: usize = 48 * 1024;
 
-const CASE_MARK: &[u8; 8] = b"MPMCASE2";
+const CASE_MARK: &[u8; 8] = b"MPMCASE3";
 
 /// The step at which engine and reference part.
 #[derive(Debug)]
@@ -120,18 +120,49 @@ pub fn on_reference(steps: Vec<Step>) -> Vec<Made> {
         .collect()
 }
 
-/// The last step alone, with the image and the list as they stood before it.
+/// Where the steps begin of which one must have made the difference: the last one, or, where the
+/// whole image was compared, those behind the last such comparison.
+fn first_suspect(steps: &[Step]) -> usize {
+    let last = steps.len().saturating_sub(1);
+    if steps.last() != Some(&Step::Whole) {
+        return last;
+    }
+    let is_beginning = |step: &Step| matches!(step, Step::Whole | Step::Image { .. });
+    steps[..last]
+        .iter()
+        .rposition(is_beginning)
+        .map_or(0, |before| before + 1)
+}
+
+/// The suspects, with the whole image compared behind each one that has an answer.
+fn watched_closely(suspects: &[Step]) -> Vec<Step> {
+    let watched = |step: &Step| match step {
+        Step::Whole => vec![Step::Whole],
+        step if step.is_answered() => vec![step.clone(), Step::Whole],
+        step => vec![step.clone()],
+    };
+    match suspects {
+        [_] => suspects.to_vec(),
+        _ => suspects.iter().flat_map(watched).collect(),
+    }
+}
+
+/// The whole session, the suspects watched closely.
+fn trace(steps: &[Step]) -> Vec<Step> {
+    let (before, suspects) = steps.split_at(first_suspect(steps));
+    [before, &watched_closely(suspects)].concat()
+}
+
+/// The suspects alone, with the image and the list as they stood before them.
 fn single(steps: &[Step]) -> Vec<Step> {
     let (mut table, mut reference) = (Table::default(), Reference::default());
-    let Some((last, before)) = steps.split_last() else {
-        return Vec::new();
-    };
+    let (before, suspects) = steps.split_at(first_suspect(steps));
     for step in before {
         table.serve(&mut reference, step);
     }
     let mut single = set_image(table.image(), 0xE5);
     single.extend(set_list(table.list()));
-    single.push(last.clone());
+    single.extend(watched_closely(suspects));
     single
 }
 
@@ -150,7 +181,7 @@ pub fn keep_case(folder: &Path, made: &[Made], difference: &Difference) -> io::R
         .map(|made| made.step.clone())
         .collect();
     fs::create_dir_all(folder)?;
-    fs::write(folder.join("trace.case"), case_bytes(&steps))?;
+    fs::write(folder.join("trace.case"), case_bytes(&trace(&steps)))?;
     fs::write(folder.join("single.case"), case_bytes(&single(&steps)))?;
     fs::write(folder.join("report.txt"), describe(made, difference))
 }
@@ -191,12 +222,13 @@ pub fn describe_step(step: &Step) -> String {
     match step {
         Step::Call { numbers, fcb, dma } => {
             let Numbers {
+                kind,
                 function,
                 process,
                 count,
             } = numbers;
             format!(
-                "call of {function} by {process}, count {count}\n  FCB {}\n  DMA {}",
+                "call of {function} by {process}, count {count}, kind {kind}\n  FCB {}\n  DMA {}",
                 hex(fcb),
                 hex_and_fill(dma)
             )

@@ -3,6 +3,7 @@
 use crate::answer::Answer;
 use crate::calls::{MOST_RECORDS, RUN_FUNCTIONS};
 use crate::faults::{ImageRule, ListRule};
+use crate::kind::Kind;
 use std::collections::{BTreeMap, BTreeSet};
 use std::fmt::Write;
 
@@ -10,6 +11,11 @@ pub const FUNCTIONS: [u32; 13] = [15, 16, 19, 22, 23, 33, 34, 40, 41, 42, 43, 46
 
 /// Numbers that are no function stand under this one.
 const UNKNOWN: u32 = u32::MAX;
+
+/// The kind that a call was told; None for an unknown one.
+type Told = Option<Kind>;
+
+const ALL_TOLD: [Told; 3] = [Some(Kind::First), Some(Kind::Second), None];
 
 type Row = (u8, u8, &'static str);
 
@@ -24,9 +30,13 @@ const COMMON: &[Row] = &[
     (255, 13, "DMA of wrong length"),
     (255, 13, "list of wrong length"),
     (255, 1, "image of wrong length"),
+    (255, 1, "image of the other kind's length"),
     (255, 1, "unsound directory"),
     (255, 12, "unsound list"),
 ];
+
+/// An unknown kind is told before everything else, whatever the function.
+const UNKNOWN_KIND: Row = (255, 13, "unknown kind");
 
 const DRIVE: Row = (255, 4, "not drive A");
 
@@ -188,8 +198,14 @@ fn rows_of_stop((a, why): Stop) -> impl Iterator<Item = Row> {
     (0..MOST_RECORDS as u8).map(move |done| (a, 16 * done, why))
 }
 
-/// All rows that a function has.
-fn rows(function: u32) -> Vec<Row> {
+/// All rows that a function has. Both kinds have them all: a drive of the second kind can be full
+/// too, as long as its entries can name all its blocks.
+fn rows(told: Told, function: u32) -> Vec<Row> {
+    match (told, function) {
+        (None, _) => return vec![UNKNOWN_KIND],
+        (_, UNKNOWN) => return vec![(255, 13, "unknown function")],
+        _ => {}
+    }
     let mut rows = COMMON.to_vec();
     if function != 46 && function != 143 {
         rows.push(DRIVE);
@@ -197,6 +213,18 @@ fn rows(function: u32) -> Vec<Row> {
     rows.extend(own_rows(function));
     rows.extend(stops(function).iter().copied().flat_map(rows_of_stop));
     rows
+}
+
+fn all_rows() -> BTreeSet<Key> {
+    let functions = || FUNCTIONS.into_iter().chain([UNKNOWN]);
+    ALL_TOLD
+        .into_iter()
+        .flat_map(|told| functions().map(move |function| (told, function)))
+        .flat_map(|(told, function)| {
+            let keys = rows(told, function).into_iter();
+            keys.map(move |(a, h, why)| (told, function, a, h, why))
+        })
+        .collect()
 }
 
 /// What the records of a run can take so that a later one finds none left.
@@ -222,9 +250,13 @@ pub enum Span {
 impl Span {
     pub const ALL: [Span; 4] = [Span::OneBlock, Span::Blocks, Span::Extents, Span::Modules];
 
-    fn of(first: u32, last: u32) -> Span {
+    fn of(kind: Kind, first: u32, last: u32) -> Span {
         let parts = |size: u32| first / size != last / size;
-        match (parts(4_096), parts(128), parts(8)) {
+        let in_a_block = match kind {
+            Kind::First => 8,
+            Kind::Second => 16,
+        };
+        match (parts(4_096), parts(128), parts(in_a_block)) {
             (true, _, _) => Span::Modules,
             (false, true, _) => Span::Extents,
             (false, false, true) => Span::Blocks,
@@ -233,20 +265,71 @@ impl Span {
     }
 }
 
-type Reached = BTreeMap<(u32, u8, u8, &'static str), u64>;
+/// How much of its two bytes the block number of a record needs. On a drive of the second kind an
+/// engine can cut it in several ways.
+#[derive(Clone, Copy, Debug, PartialEq, Eq, PartialOrd, Ord)]
+pub enum Block {
+    To255,
+    To1023,
+    From1024,
+}
+
+impl Block {
+    pub const ALL: [Block; 3] = [Block::To255, Block::To1023, Block::From1024];
+
+    fn of(block: u16) -> Block {
+        match block {
+            ..=255 => Block::To255,
+            256..=1_023 => Block::To1023,
+            _ => Block::From1024,
+        }
+    }
+}
+
+/// Which half of the 128 entries was damaged; those of the first kind all stand in the lower one.
+#[derive(Clone, Copy, Debug, PartialEq, Eq, PartialOrd, Ord)]
+pub enum Half {
+    Lower,
+    Upper,
+}
+
+impl Half {
+    pub fn of(slot: usize) -> Half {
+        match slot {
+            ..64 => Half::Lower,
+            _ => Half::Upper,
+        }
+    }
+}
+
+/// Drives of these numbers of blocks must have served a call.
+const SIZES: [(Kind, usize); 7] = [
+    (Kind::First, 3),
+    (Kind::First, 4),
+    (Kind::First, 256),
+    (Kind::Second, 257),
+    (Kind::Second, 258),
+    (Kind::Second, 1_027),
+    (Kind::Second, 4_096),
+];
+
+type Key = (Told, u32, u8, u8, &'static str);
 
 #[derive(Clone, Default)]
 pub struct Coverage {
-    calls: Reached,
+    calls: BTreeMap<Key, u64>,
     /// How many records a 33, 34 or 40 has done of which nothing was refused.
-    lengths: BTreeMap<(u32, u32), u64>,
-    spans: BTreeMap<(u32, Span), u64>,
-    lasts: BTreeMap<(u32, Last), u64>,
-    starts: BTreeMap<u32, u64>,
-    checks: BTreeMap<u32, u64>,
-    looks: BTreeMap<bool, u64>,
-    image_rules: BTreeMap<ImageRule, u64>,
-    list_rules: BTreeMap<ListRule, u64>,
+    lengths: BTreeMap<(Kind, u32, u32), u64>,
+    spans: BTreeMap<(Kind, u32, Span), u64>,
+    lasts: BTreeMap<(Kind, u32, Last), u64>,
+    /// Where the records lie that a call on a drive of the second kind has done.
+    blocks: BTreeMap<(u32, Block), u64>,
+    sizes: BTreeMap<(Kind, usize), u64>,
+    starts: BTreeMap<(Told, u32), u64>,
+    checks: BTreeMap<(Told, u32), u64>,
+    looks: BTreeMap<(Told, bool), u64>,
+    image_rules: BTreeMap<(Kind, ImageRule, Half), u64>,
+    list_rules: BTreeMap<(Kind, ListRule), u64>,
 }
 
 fn add<K: Ord>(table: &mut BTreeMap<K, u64>, key: K) {
@@ -254,50 +337,67 @@ fn add<K: Ord>(table: &mut BTreeMap<K, u64>, key: K) {
 }
 
 impl Coverage {
-    pub fn note_call(&mut self, function: u32, word: u32, why: &'static str) {
+    pub fn note_call(&mut self, told: u32, function: u32, word: u32, why: &'static str) {
         let known = if FUNCTIONS.contains(&function) {
             function
         } else {
             UNKNOWN
         };
         let answer = Answer::from_word(word).unwrap_or(Answer { a: 254, h: 254 });
-        add(&mut self.calls, (known, answer.a, answer.h, why));
+        add(
+            &mut self.calls,
+            (Kind::told(told), known, answer.a, answer.h, why),
+        );
     }
 
     /// A 33, 34 or 40 has done these records, and met a refusal after them or not.
-    pub fn note_run(&mut self, function: u32, first: u32, done: u32, refused: bool) {
+    pub fn note_run(&mut self, kind: Kind, function: u32, first: u32, done: u32, refused: bool) {
         if done == 0 {
             return;
         }
-        add(&mut self.spans, (function, Span::of(first, first + done - 1)));
+        let span = Span::of(kind, first, first + done - 1);
+        add(&mut self.spans, (kind, function, span));
         if !refused {
-            add(&mut self.lengths, (function, done));
+            add(&mut self.lengths, (kind, function, done));
         }
     }
 
     /// A 34 or 40 has taken the last block or entry and then stopped for want of another.
-    pub fn note_last(&mut self, function: u32, last: Last) {
-        add(&mut self.lasts, (function, last));
+    pub fn note_last(&mut self, kind: Kind, function: u32, last: Last) {
+        add(&mut self.lasts, (kind, function, last));
     }
 
-    pub fn note_start(&mut self, word: u32) {
-        add(&mut self.starts, word);
+    /// A call has done a record in this block of a drive of the second kind.
+    pub fn note_block(&mut self, function: u32, block: u16) {
+        add(&mut self.blocks, (function, Block::of(block)));
     }
 
-    pub fn note_check(&mut self, answer: u32) {
-        add(&mut self.checks, answer);
+    /// A drive of so many blocks has served a call.
+    pub fn note_size(&mut self, kind: Kind, blocks: usize) {
+        if SIZES.contains(&(kind, blocks)) {
+            add(&mut self.sizes, (kind, blocks));
+        }
     }
 
-    pub fn note_look(&mut self, at: u32) {
-        add(&mut self.looks, at != 0);
+    pub fn note_start(&mut self, told: u32, word: u32) {
+        add(&mut self.starts, (Kind::told(told), word));
     }
 
-    pub fn note_image_rule(&mut self, rule: ImageRule) {
-        add(&mut self.image_rules, rule);
+    pub fn note_check(&mut self, told: u32, answer: u32) {
+        add(&mut self.checks, (Kind::told(told), answer));
     }
 
-    pub fn note_list_rule(&mut self, rule: ListRule) {
-        add(&mut self.list_rules, rule);
+    pub fn note_look(&mut self, told: u32, at: u32) {
+        add(&mut self.looks, (Kind::told(told), at != 0));
+    }
+
+    /// A rule of a sound image was broken, in an entry of this half.
+    pub fn note_image_rule(&mut self, kind: Kind, rule: ImageRule, half: Half) {
+        add(&mut self.image_rules, (kind, rule, half));
+    }
+
+    pub fn note_list_rule(&mut self, kind: Kind, rule: ListRule) {
+        add(&mut self.list_rules, (kind, rule));
     }
 
     pub fn calls(&self) -> u64 {
@@ -306,106 +406,170 @@ impl Coverage {
 
     /// What is missing and what should not have come; nothing if all is well.
     pub fn complaints(&self) -> Vec<String> {
-        let mut wanted: BTreeSet<(u32, u8, u8, &'static str)> = FUNCTIONS
-            .iter()
-            .flat_map(|&function| {
-                rows(function)
-                    .into_iter()
-                    .map(move |(a, h, why)| (function, a, h, why))
-            })
-            .collect();
-        wanted.insert((UNKNOWN, 255, 13, "unknown function"));
-        let reached: BTreeSet<_> = self.calls.keys().copied().collect();
+        let wanted = all_rows();
+        let reached: BTreeSet<Key> = self.calls.keys().copied().collect();
         let mut complaints: Vec<String> = Vec::new();
-        for (function, a, h, why) in wanted.difference(&reached) {
-            complaints.push(format!("not reached: function {function}, {a}/{h}, {why}"));
+        for key in wanted.difference(&reached) {
+            complaints.push(format!("not reached: {}", describe(key)));
         }
-        for (function, a, h, why) in reached.difference(&wanted) {
-            complaints.push(format!("not allowed: function {function}, {a}/{h}, {why}"));
+        for key in reached.difference(&wanted) {
+            complaints.push(format!("not allowed: {}", describe(key)));
         }
-        let lengths = of_each(&RUN_FUNCTIONS, 1..=MOST_RECORDS);
-        complaints.extend(compare_keys("run of records", &self.lengths, &lengths));
-        let spans = of_each(&RUN_FUNCTIONS, Span::ALL);
-        complaints.extend(compare_keys("span of a run", &self.spans, &spans));
-        let lasts = of_each(&[34, 40], Last::ALL);
-        complaints.extend(compare_keys("last taken by a run", &self.lasts, &lasts));
-        complaints.extend(compare_keys("Start", &self.starts, &[0, 255 + 256 * 13]));
-        complaints.extend(compare_keys("image check", &self.checks, &[0, 1, 2]));
-        complaints.extend(compare_keys("Look", &self.looks, &[false, true]));
-        complaints.extend(compare_keys("image rule", &self.image_rules, &ImageRule::ALL));
-        complaints.extend(compare_keys("list rule", &self.list_rules, &ListRule::ALL));
+        complaints.extend(self.complaints_of_runs());
+        complaints.extend(compare_keys("drive of a size", &self.sizes, &SIZES));
+        complaints.extend(compare_keys("Start", &self.starts, &wanted_starts()));
+        complaints.extend(compare_keys("image check", &self.checks, &wanted_checks()));
+        complaints.extend(compare_keys("Look", &self.looks, &wanted_looks()));
+        let image_rules = wanted_image_rules();
+        complaints.extend(compare_keys("image rule", &self.image_rules, &image_rules));
+        let list_rules = pairs(&Kind::ALL, &ListRule::ALL);
+        complaints.extend(compare_keys("list rule", &self.list_rules, &list_rules));
         complaints
     }
 
-    /// The table of (function, A/H) pairs, with how often each was reached.
+    fn complaints_of_runs(&self) -> Vec<String> {
+        let all_lengths: Vec<u32> = (1..=MOST_RECORDS).collect();
+        let lengths = of_each(&RUN_FUNCTIONS, &all_lengths);
+        let spans = of_each(&RUN_FUNCTIONS, &Span::ALL);
+        let lasts = of_each(&[34, 40], &Last::ALL);
+        let blocks = pairs(&[33, 34, 40, 41], &Block::ALL);
+        [
+            compare_keys("run of records", &self.lengths, &lengths),
+            compare_keys("span of a run", &self.spans, &spans),
+            compare_keys("last taken by a run", &self.lasts, &lasts),
+            compare_keys("block of a record", &self.blocks, &blocks),
+        ]
+        .concat()
+    }
+
+    /// The table of (kind, function, A/H), with how often each was reached.
     pub fn pairs(&self) -> String {
         let mut lines = String::new();
-        for function in FUNCTIONS.into_iter().chain([UNKNOWN]) {
-            let mut counts: BTreeMap<(u8, u8), u64> = BTreeMap::new();
-            for ((of, a, h, _), count) in &self.calls {
-                if *of == function {
-                    *counts.entry((*a, *h)).or_default() += count;
-                }
-            }
-            let cells: Vec<String> = counts
-                .iter()
-                .map(|((a, h), count)| format!("{a}/{h}: {count}"))
-                .collect();
-            let label = match function {
-                UNKNOWN => "other".to_string(),
-                known => known.to_string(),
-            };
+        for told in ALL_TOLD {
             // Writing to a String cannot fail.
-            let _ = writeln!(lines, "{label:>5}  {}", cells.join("  "));
+            let _ = writeln!(lines, "{}", title(told));
+            for function in FUNCTIONS.into_iter().chain([UNKNOWN]) {
+                let cells = self.cells_of(told, function);
+                let _ = writeln!(lines, "{:>5}  {cells}", label(function));
+            }
+            let start = |word: &u32| format!("{}/{}", word % 256, word / 256);
+            let _ = writeln!(lines, "start  {}", cells(told, &self.starts, start));
+            let _ = writeln!(lines, "check  {}", cells(told, &self.checks, u32::to_string));
+            let look = |found: &bool| if *found { "found" } else { "empty" }.to_string();
+            let _ = writeln!(lines, " look  {}", cells(told, &self.looks, look));
         }
-        let start = |word: &u32| format!("{}/{}", word % 256, word / 256);
-        let _ = writeln!(lines, "start  {}", cells(&self.starts, start));
-        let _ = writeln!(lines, "check  {}", cells(&self.checks, u32::to_string));
-        let look = |found: &bool| if *found { "found" } else { "empty" }.to_string();
-        let _ = writeln!(lines, " look  {}", cells(&self.looks, look));
         lines
+    }
+
+    fn cells_of(&self, told: Told, function: u32) -> String {
+        let mut counts: BTreeMap<(u8, u8), u64> = BTreeMap::new();
+        for ((of_told, of, a, h, _), count) in &self.calls {
+            if (*of_told, *of) == (told, function) {
+                *counts.entry((*a, *h)).or_default() += count;
+            }
+        }
+        let cells: Vec<String> = counts
+            .iter()
+            .map(|((a, h), count)| format!("{a}/{h}: {count}"))
+            .collect();
+        cells.join("  ")
     }
 
     /// The finer table: each reason and kind of success, and each rule broken.
     pub fn reasons(&self) -> String {
         let mut lines = String::new();
-        for ((function, a, h, why), count) in &self.calls {
-            let label = match *function {
-                UNKNOWN => "other".to_string(),
-                known => known.to_string(),
-            };
+        for ((told, function, a, h, why), count) in &self.calls {
+            let (kind, function) = (title(*told), label(*function));
             let answer = format!("{a}/{h}");
-            let _ = writeln!(lines, "{label:>5}  {answer:<7} {count:>9}  {why}");
+            let _ = writeln!(lines, "{kind:<12} {function:>5}  {answer:<7} {count:>9}  {why}");
         }
-        for ((function, length), count) in &self.lengths {
-            let _ = writeln!(lines, "{function:>5}  records {count:>9}  {length}");
-        }
-        for ((function, span), count) in &self.spans {
-            let _ = writeln!(lines, "{function:>5}  span    {count:>9}  {span:?}");
-        }
-        for ((function, last), count) in &self.lasts {
-            let _ = writeln!(lines, "{function:>5}  last    {count:>9}  {last:?}");
-        }
-        for (rule, count) in &self.image_rules {
-            let _ = writeln!(lines, "image  broken  {count:>9}  {rule:?}");
-        }
-        for (rule, count) in &self.list_rules {
-            let _ = writeln!(lines, " list  broken  {count:>9}  {rule:?}");
-        }
+        lines.push_str(&counted("records", &self.lengths));
+        lines.push_str(&counted("span", &self.spans));
+        lines.push_str(&counted("last", &self.lasts));
+        lines.push_str(&counted("block", &self.blocks));
+        lines.push_str(&counted("size", &self.sizes));
+        lines.push_str(&counted("image broken", &self.image_rules));
+        lines.push_str(&counted("list broken", &self.list_rules));
         lines
     }
 }
 
-/// All of these for each of the functions.
-fn of_each<T: Copy>(functions: &[u32], all: impl IntoIterator<Item = T> + Clone) -> Vec<(u32, T)> {
-    let pairs = |&function: &u32| all.clone().into_iter().map(move |one| (function, one));
-    functions.iter().flat_map(pairs).collect()
+fn title(told: Told) -> String {
+    match told {
+        Some(kind) => format!("kind {}", kind.number()),
+        None => "unknown kind".to_string(),
+    }
 }
 
-fn cells<K>(table: &BTreeMap<K, u64>, label: impl Fn(&K) -> String) -> String {
+fn label(function: u32) -> String {
+    match function {
+        UNKNOWN => "other".to_string(),
+        known => known.to_string(),
+    }
+}
+
+fn describe((told, function, a, h, why): &Key) -> String {
+    format!("{}, function {}, {a}/{h}, {why}", title(*told), label(*function))
+}
+
+fn counted<K: std::fmt::Debug>(what: &str, table: &BTreeMap<K, u64>) -> String {
+    table
+        .iter()
+        .map(|(key, count)| format!("{what:<12} {count:>9}  {key:?}\n"))
+        .collect()
+}
+
+fn pairs<A: Copy, B: Copy>(first: &[A], second: &[B]) -> Vec<(A, B)> {
+    let with_each = |&one: &A| second.iter().map(move |&other| (one, other));
+    first.iter().flat_map(with_each).collect()
+}
+
+/// All of these for each of the functions, on drives of each kind.
+fn of_each<T: Copy>(functions: &[u32], all: &[T]) -> Vec<(Kind, u32, T)> {
+    pairs(&Kind::ALL, &pairs(functions, all))
+        .into_iter()
+        .map(|(kind, (function, one))| (kind, function, one))
+        .collect()
+}
+
+fn wanted_starts() -> Vec<(Told, u32)> {
+    const REFUSED: u32 = 255 + 256 * 13;
+    let mut wanted = pairs(&Kind::ALL.map(Some), &[0, REFUSED]);
+    wanted.push((None, REFUSED));
+    wanted
+}
+
+fn wanted_checks() -> Vec<(Told, u32)> {
+    let mut wanted = pairs(&Kind::ALL.map(Some), &[0, 1, 2]);
+    wanted.push((None, 1));
+    wanted
+}
+
+fn wanted_looks() -> Vec<(Told, bool)> {
+    let mut wanted = pairs(&Kind::ALL.map(Some), &[false, true]);
+    wanted.push((None, false));
+    wanted
+}
+
+/// A wrong length is no entry's fault and stands in the lower half.
+fn wanted_image_rules() -> Vec<(Kind, ImageRule, Half)> {
+    let lower = pairs(&Kind::ALL, &ImageRule::ALL);
+    let mut wanted: Vec<_> = lower
+        .into_iter()
+        .map(|(kind, rule)| (kind, rule, Half::Lower))
+        .collect();
+    let of_entries = ImageRule::ALL
+        .into_iter()
+        .filter(|rule| *rule != ImageRule::Length);
+    wanted.extend(of_entries.map(|rule| (Kind::Second, rule, Half::Upper)));
+    wanted
+}
+
+fn cells<K>(told: Told, table: &BTreeMap<(Told, K), u64>, label: impl Fn(&K) -> String) -> String {
     let cells: Vec<String> = table
         .iter()
-        .map(|(key, count)| format!("{}: {count}", label(key)))
+        .filter(|((of, _), _)| *of == told)
+        .map(|((_, key), count)| format!("{}: {count}", label(key)))
         .collect();
     cells.join("  ")
 }

@@ -2,8 +2,9 @@
 //! just this rule is broken, or at least this one where it cannot be broken alone.
 
 use crate::build::{lock_item, open_item, place_start, put_item, Entry};
-use crate::drive::{DIRECTORY, EMPTY, ENTRY};
+use crate::drive::EMPTY;
 use crate::faults::{self, directory_faults, list_faults, ImageRule, Item, ListRule};
+use crate::kind::{Kind, ENTRY};
 use crate::random::Random;
 use std::collections::BTreeSet;
 
@@ -11,21 +12,23 @@ const TRIES: usize = 12;
 const NOWHERE: [u8; 11] = *b"NOWHERE XYZ";
 
 /// A directory that breaks just this rule. The length is not the directory's to break.
-pub fn break_directory(rule: ImageRule, image: &[u8], random: &mut Random) -> Option<Vec<u8>> {
-    let blocks = image.len() / 1024;
+pub fn break_directory(rule: ImageRule, kind: Kind, image: &[u8], random: &mut Random) -> Option<Vec<u8>> {
+    let blocks = image.len() / kind.block();
     let wanted = BTreeSet::from([rule]);
     (0..TRIES).find_map(|_| {
-        let mut directory = image[..DIRECTORY].to_vec();
+        let mut directory = image[..kind.directory()].to_vec();
         Directory {
+            kind,
             bytes: &mut directory,
             random,
         }
         .damage(rule, blocks)?;
-        (directory_faults(&directory, blocks) == wanted).then_some(directory)
+        (directory_faults(kind, &directory, blocks) == wanted).then_some(directory)
     })
 }
 
 struct Directory<'a> {
+    kind: Kind,
     bytes: &'a mut [u8],
     random: &'a mut Random,
 }
@@ -33,7 +36,7 @@ struct Directory<'a> {
 impl Directory<'_> {
     fn slots(&self, empty: bool) -> Vec<usize> {
         let is_wanted = |slot: &usize| (self.bytes[ENTRY * slot] == EMPTY) == empty;
-        (0..DIRECTORY / ENTRY).filter(is_wanted).collect()
+        (0..self.kind.entries()).filter(is_wanted).collect()
     }
 
     fn a_slot(&mut self, empty: bool) -> Option<usize> {
@@ -124,29 +127,41 @@ impl Directory<'_> {
         self.put(slot, entry.count(count))
     }
 
+    fn an_index(&mut self) -> usize {
+        self.random.below(self.kind.numbers_per_entry())
+    }
+
+    /// 1, the first number past the drive's blocks, or any after it. The highest are those that a
+    /// reader of too few bits takes for small ones.
     fn bad_map(&mut self, blocks: usize) -> Option<()> {
         let (slot, entry) = self.a_victim()?;
-        let index = self.random.below(16);
-        let block = match self.random.below(3) {
+        let index = self.an_index();
+        let most = match self.kind {
+            Kind::First => usize::from(u8::MAX),
+            Kind::Second => usize::from(u16::MAX),
+        };
+        let block = match self.random.below(4) {
             0 => 1,
             1 => blocks,
-            _ => self.random.between(blocks.min(255), 255),
+            2 => most - most / 256 + self.random.below(most / 256 + 1),
+            _ => self.random.between(blocks.min(most), most),
         };
-        let block = u8::try_from(block).unwrap_or(1);
-        self.put(slot, entry.block(index, block))
+        let block = if block > most { 1 } else { block };
+        self.put(slot, entry.block_of(self.kind, index, block as u16))
     }
 
     fn double_block(&mut self, blocks: usize) -> Option<()> {
         let (slot, entry) = self.a_victim()?;
-        let used: Vec<u8> = faults::used_entries(self.bytes)
-            .flat_map(|used| used[16..].to_vec())
+        let used: Vec<u16> = faults::used_entries(self.kind, self.bytes)
+            .flat_map(|used| faults::block_numbers(self.kind, used))
             .filter(|&block| block != 0)
             .collect();
-        let (one, other) = (self.random.below(16), self.random.below(16));
-        let fresh = self.random.between(2, blocks - 1) as u8;
+        let (one, other) = (self.an_index(), self.an_index());
+        let fresh = self.random.between(2, blocks - 1) as u16;
+        let with = |entry: Entry, index, block| entry.block_of(self.kind, index, block);
         let damaged = match self.random.pick_any(&used) {
-            Some(block) if self.random.chance(70) => entry.block(one, block),
-            _ => entry.block(one, fresh).block(other, fresh),
+            Some(block) if self.random.chance(70) => with(entry, one, block),
+            _ => with(with(entry, one, fresh), other, fresh),
         };
         self.put(slot, damaged)
     }
@@ -174,22 +189,30 @@ impl Directory<'_> {
 }
 
 /// A list that breaks this rule beside a sound image.
-pub fn break_list(rule: ListRule, list: &[u8], image: &[u8], random: &mut Random) -> Option<Vec<u8>> {
+pub fn break_list(
+    rule: ListRule,
+    kind: Kind,
+    list: &[u8],
+    image: &[u8],
+    random: &mut Random,
+) -> Option<Vec<u8>> {
     (0..TRIES).find_map(|_| {
         let mut damaged = list.to_vec();
         List {
+            kind,
             bytes: &mut damaged,
             image,
             random,
         }
         .damage(rule)?;
-        let faults = list_faults(&damaged, image);
+        let faults = list_faults(kind, &damaged, image);
         let alone = faults.len() == 1 || !rule.can_be_broken_alone();
         (faults.contains(&rule) && alone).then_some(damaged)
     })
 }
 
 struct List<'a> {
+    kind: Kind,
     bytes: &'a mut [u8],
     image: &'a [u8],
     random: &'a mut Random,
@@ -421,20 +444,21 @@ impl List<'_> {
 
     /// A lock of a record with a block, by any process of its user.
     fn lock_of_some_record(&mut self) -> Option<[u8; 20]> {
-        let blocks = crate::history::blocks_of_groups(self.image);
+        let blocks = crate::history::blocks_of_groups(self.kind, self.image);
         let (group, _) = self.random.pick_any(&blocks)?;
         let process = self.random.below(16);
         if self.bytes[3 + process] != group.file.user {
             return None;
         }
-        let record = 8 * group.number + self.random.below(8) as u32;
+        let size = self.kind.records_per_block();
+        let record = size * group.number + self.random.below(size as usize) as u32;
         Some(lock_item(process as u8, group.file.name, record))
     }
 
     fn lock_without_block(&mut self) -> Option<()> {
         let place = self.an_item(Sort::Lock)?;
         let mut lock = self.place(place);
-        let record = self.random.pick(&[8, 16, 127, 128, 4096, 100_000, 262_143]);
+        let record = self.random.pick(&[8, 16, 32, 127, 128, 4096, 100_000, 262_143]);
         lock[16..].copy_from_slice(&u32::to_le_bytes(record));
         self.put(place, lock)
     }

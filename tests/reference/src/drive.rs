@@ -1,16 +1,10 @@
 //! The image as a map of files. Bytes that the map does not speak of stay in the image untouched.
 
+use crate::kind::{Kind, ENTRY, RECORD, RECORDS_PER_EXTENT};
 use crate::name::{File, Name, HIGH_BIT, NAME_LENGTH};
 use std::collections::{BTreeMap, BTreeSet};
 
-pub const BLOCK: usize = 1024;
-pub const RECORD: usize = 128;
-pub const ENTRIES: usize = 64;
-pub const ENTRY: usize = 32;
-pub const DIRECTORY: usize = ENTRIES * ENTRY;
 pub const EMPTY: u8 = 0xE5;
-pub const RECORDS_PER_EXTENT: u32 = 128;
-pub const RECORDS_PER_BLOCK: u32 = 8;
 pub const RECORD_LIMIT: u32 = 262_144;
 
 const FIRST_DATA_BLOCK: usize = 2;
@@ -22,7 +16,10 @@ const READ_ONLY_ATTRIBUTE: usize = 8;
 
 #[derive(Clone, Copy, Debug, PartialEq, Eq)]
 pub enum Fault {
+    /// A length that no kind has.
     Length,
+    /// A length that the other kind has.
+    OtherKind,
     Directory,
 }
 
@@ -31,14 +28,21 @@ pub struct Extent {
     pub slot: usize,
     pub attributes: [u8; NAME_LENGTH],
     pub count: u8,
-    pub blocks: BTreeMap<usize, u8>,
+    /// Places in the map and the blocks there, in rising order of places.
+    blocks: Vec<(usize, u16)>,
 }
 
 impl Extent {
-    pub fn map(&self) -> [u8; 16] {
+    fn block(&self, index: usize) -> Option<u16> {
+        let found = self.blocks.iter().find(|(place, _)| *place == index);
+        found.map(|(_, block)| *block)
+    }
+
+    /// The map's sixteen bytes on a drive of this kind.
+    pub fn map(&self, kind: Kind) -> [u8; 16] {
         let mut map = [0; 16];
-        for (&index, &block) in &self.blocks {
-            map[index] = block;
+        for &(index, block) in &self.blocks {
+            kind.put_number(&mut map, index, block);
         }
         map
     }
@@ -46,10 +50,12 @@ impl Extent {
 
 #[derive(Clone, Debug, PartialEq, Eq)]
 pub struct Drive {
+    kind: Kind,
     block_count: usize,
     files: BTreeMap<File, BTreeMap<u32, Extent>>,
     empty_slots: BTreeSet<usize>,
-    used_blocks: BTreeSet<u8>,
+    /// In rising order.
+    used_blocks: Vec<u16>,
 }
 
 pub fn extent_of(record: u32) -> u32 {
@@ -60,36 +66,30 @@ pub fn place_in_extent(record: u32) -> u32 {
     record % RECORDS_PER_EXTENT
 }
 
-fn map_index(record: u32) -> usize {
-    (place_in_extent(record) / RECORDS_PER_BLOCK) as usize
-}
-
-pub fn block_start(block: u8) -> usize {
-    usize::from(block) * BLOCK
-}
-
-pub fn record_start(block: u8, record: u32) -> usize {
-    block_start(block) + (record % RECORDS_PER_BLOCK) as usize * RECORD
-}
-
-fn block_count(length: usize) -> Option<usize> {
-    let blocks = length / BLOCK;
-    (length.is_multiple_of(BLOCK) && (3..=256).contains(&blocks)).then_some(blocks)
+fn length_fault(kind: Kind, length: usize) -> Fault {
+    match kind.other().blocks_of(length) {
+        Some(_) => Fault::OtherKind,
+        None => Fault::Length,
+    }
 }
 
 impl Drive {
-    pub fn read(image: &[u8]) -> Result<Drive, Fault> {
-        let block_count = block_count(image.len()).ok_or(Fault::Length)?;
+    pub fn read(kind: Kind, image: &[u8]) -> Result<Drive, Fault> {
+        let block_count = kind
+            .blocks_of(image.len())
+            .ok_or_else(|| length_fault(kind, image.len()))?;
         let mut drive = Drive {
+            kind,
             block_count,
             files: BTreeMap::new(),
             empty_slots: BTreeSet::new(),
-            used_blocks: BTreeSet::new(),
+            used_blocks: Vec::new(),
         };
-        for (slot, entry) in image[..DIRECTORY].chunks_exact(ENTRY).enumerate() {
+        for (slot, entry) in image[..kind.directory()].chunks_exact(ENTRY).enumerate() {
             drive.take_in(slot, entry).ok_or(Fault::Directory)?;
         }
-        if !drive.files.values().all(|file| file.contains_key(&0)) {
+        let begins = |extents: &BTreeMap<u32, Extent>| extents.contains_key(&0);
+        if drive.has_double_block() || !drive.files.values().all(begins) {
             return Err(Fault::Directory);
         }
         Ok(drive)
@@ -121,19 +121,40 @@ impl Drive {
         twin.is_none().then_some(())
     }
 
-    fn take_in_map(&mut self, map: &[u8]) -> Option<BTreeMap<usize, u8>> {
-        let mut blocks = BTreeMap::new();
-        for (index, &block) in map.iter().enumerate().filter(|(_, &block)| block != 0) {
-            let number = usize::from(block);
-            if number < FIRST_DATA_BLOCK || number >= self.block_count {
-                return None;
-            }
-            if !self.used_blocks.insert(block) {
-                return None;
-            }
-            blocks.insert(index, block);
+    fn take_in_map(&mut self, map: &[u8]) -> Option<Vec<(usize, u16)>> {
+        let numbers = self.kind.numbers(map).enumerate();
+        let blocks: Vec<(usize, u16)> = numbers.filter(|(_, block)| *block != 0).collect();
+        let is_data_block = |block: u16| (FIRST_DATA_BLOCK..self.block_count).contains(&usize::from(block));
+        if !blocks.iter().all(|(_, block)| is_data_block(*block)) {
+            return None;
         }
+        self.used_blocks.extend(blocks.iter().map(|(_, block)| *block));
         Some(blocks)
+    }
+
+    /// True if a block was named twice. Before this the blocks are in no order.
+    fn has_double_block(&mut self) -> bool {
+        self.used_blocks.sort_unstable();
+        self.used_blocks.windows(2).any(|pair| pair[0] == pair[1])
+    }
+
+    fn map_index(&self, record: u32) -> usize {
+        (place_in_extent(record) / self.kind.records_per_block()) as usize
+    }
+
+    pub fn block_part(&self, block: u16) -> std::ops::Range<usize> {
+        let at = usize::from(block) * self.kind.block();
+        at..at + self.kind.block()
+    }
+
+    /// Where the record lies in the image that has this block.
+    pub fn record_start(&self, block: u16, record: u32) -> usize {
+        let place = record % self.kind.records_per_block();
+        self.block_part(block).start + RECORD * place as usize
+    }
+
+    pub fn map(&self, extent: &Extent) -> [u8; 16] {
+        extent.map(self.kind)
     }
 
     pub fn has(&self, file: &File) -> bool {
@@ -148,9 +169,9 @@ impl Drive {
         self.files.get(file).map_or(0, BTreeMap::len)
     }
 
-    pub fn block(&self, file: &File, record: u32) -> Option<u8> {
+    pub fn block(&self, file: &File, record: u32) -> Option<u16> {
         let extent = self.extent(file, extent_of(record))?;
-        extent.blocks.get(&map_index(record)).copied()
+        extent.block(self.map_index(record))
     }
 
     pub fn is_read_only(&self, file: &File) -> bool {
@@ -162,18 +183,18 @@ impl Drive {
         self.empty_slots.first().copied()
     }
 
-    fn data_blocks(&self) -> impl Iterator<Item = u8> + '_ {
-        (0..=u8::MAX)
-            .skip(FIRST_DATA_BLOCK)
-            .take_while(|&block| usize::from(block) < self.block_count)
+    pub fn lowest_free_block(&self) -> Option<u16> {
+        let data_blocks = FIRST_DATA_BLOCK as u16..self.block_count as u16;
+        let mut used = self.used_blocks.iter().peekable();
+        data_blocks
+            .into_iter()
+            .find(|block| used.next_if_eq(&block).is_none())
     }
 
-    pub fn lowest_free_block(&self) -> Option<u8> {
-        self.data_blocks().find(|block| !self.used_blocks.contains(block))
-    }
-
-    pub fn free_blocks(&self) -> usize {
-        self.data_blocks().count() - self.used_blocks.len()
+    /// How many records the free blocks have.
+    pub fn free_records(&self) -> u32 {
+        let free = self.block_count - FIRST_DATA_BLOCK - self.used_blocks.len();
+        free as u32 * self.kind.records_per_block()
     }
 
     pub fn make(&mut self, file: File) -> Option<()> {
@@ -185,7 +206,7 @@ impl Drive {
             slot: self.empty_slots.pop_first()?,
             attributes,
             count: 0,
-            blocks: BTreeMap::new(),
+            blocks: Vec::new(),
         };
         self.files.entry(file).or_default().insert(number, extent);
         Some(())
@@ -194,9 +215,8 @@ impl Drive {
     pub fn delete(&mut self, file: &File) {
         for extent in self.files.remove(file).unwrap_or_default().into_values() {
             self.empty_slots.insert(extent.slot);
-            for block in extent.blocks.values() {
-                self.used_blocks.remove(block);
-            }
+            self.used_blocks
+                .retain(|used| !extent.blocks.iter().any(|(_, block)| block == used));
         }
     }
 
@@ -207,7 +227,7 @@ impl Drive {
     }
 
     /// Sees to it that the record has an extent and a block; None if either is not to be had.
-    pub fn provide(&mut self, file: &File, record: u32) -> Option<u8> {
+    pub fn provide(&mut self, file: &File, record: u32) -> Option<u16> {
         if let Some(block) = self.block(file, record) {
             return Some(block);
         }
@@ -217,9 +237,12 @@ impl Drive {
             self.add_extent(*file, number, attributes)?;
         }
         let block = self.lowest_free_block()?;
-        self.used_blocks.insert(block);
+        let place = self.used_blocks.partition_point(|used| *used < block);
+        self.used_blocks.insert(place, block);
+        let index = self.map_index(record);
         let extent = self.files.get_mut(file)?.get_mut(&number)?;
-        extent.blocks.insert(map_index(record), block);
+        extent.blocks.push((index, block));
+        extent.blocks.sort_unstable();
         Some(block)
     }
 
@@ -235,11 +258,12 @@ impl Drive {
         rises
     }
 
-    fn entries(&self) -> BTreeMap<usize, [u8; ENTRY]> {
+    /// What stands in each entry that is used.
+    fn entries(&self) -> BTreeMap<usize, (&File, u32, &Extent)> {
         let mut entries = BTreeMap::new();
         for (file, extents) in &self.files {
             for (&number, extent) in extents {
-                entries.insert(extent.slot, entry_bytes(file, number, extent));
+                entries.insert(extent.slot, (file, number, extent));
             }
         }
         entries
@@ -247,18 +271,19 @@ impl Drive {
 
     pub fn write_changes(&self, before: &Drive, image: &mut [u8]) {
         let (old, new) = (before.entries(), self.entries());
-        for (slot, place) in image[..DIRECTORY].chunks_exact_mut(ENTRY).enumerate() {
+        for (slot, place) in image[..self.kind.directory()].chunks_exact_mut(ENTRY).enumerate() {
             match (old.get(&slot), new.get(&slot)) {
                 (None, None) => {}
                 (Some(_), None) => place[0] = EMPTY,
-                (None, Some(entry)) => place.copy_from_slice(entry),
-                (Some(_), Some(entry)) => write_all_but_unread(entry, place),
+                (None, Some(entry)) => place.copy_from_slice(&entry_bytes(self.kind, *entry)),
+                (Some(was), Some(is)) if was == is => {}
+                (Some(_), Some(entry)) => write_all_but_unread(&entry_bytes(self.kind, *entry), place),
             }
         }
     }
 }
 
-fn entry_bytes(file: &File, number: u32, extent: &Extent) -> [u8; ENTRY] {
+fn entry_bytes(kind: Kind, (file, number, extent): (&File, u32, &Extent)) -> [u8; ENTRY] {
     let mut entry = [0; ENTRY];
     entry[0] = file.user;
     for (i, byte) in file.name.bytes().into_iter().enumerate() {
@@ -267,7 +292,7 @@ fn entry_bytes(file: &File, number: u32, extent: &Extent) -> [u8; ENTRY] {
     entry[12] = (number % u32::from(EX_LIMIT)) as u8;
     entry[14] = (number / u32::from(EX_LIMIT)) as u8;
     entry[15] = extent.count;
-    entry[16..].copy_from_slice(&extent.map());
+    entry[16..].copy_from_slice(&extent.map(kind));
     entry
 }
 

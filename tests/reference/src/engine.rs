@@ -8,12 +8,12 @@ use crate::table::Table;
 
 /// Buffers are lent mutable even where the function may only read, so that a write can be seen.
 pub trait Engine {
-    fn start(&mut self, numbers: [u32; 3], users: &mut [u8], list: &mut [u8]) -> u32;
+    fn start(&mut self, kind: u32, numbers: [u32; 3], users: &mut [u8], list: &mut [u8]) -> u32;
 
-    fn check(&mut self, image: &mut [u8]) -> u32;
+    fn check(&mut self, kind: u32, image: &mut [u8]) -> u32;
 
     /// Where the 128 bytes begin in the image, or 0.
-    fn look(&mut self, user: u32, name: &mut [u8], record: u32, image: &mut [u8]) -> u32;
+    fn look(&mut self, kind: u32, user: u32, name: &mut [u8], record: u32, image: &mut [u8]) -> u32;
 
     fn call(&mut self, numbers: Numbers, buffers: Buffers) -> u32;
 
@@ -40,16 +40,16 @@ pub struct Reference {
 }
 
 impl Engine for Reference {
-    fn start(&mut self, numbers: [u32; 3], users: &mut [u8], list: &mut [u8]) -> u32 {
-        crate::start(numbers[0], numbers[1], numbers[2], users, list)
+    fn start(&mut self, kind: u32, numbers: [u32; 3], users: &mut [u8], list: &mut [u8]) -> u32 {
+        crate::start(kind, numbers[0], numbers[1], numbers[2], users, list)
     }
 
-    fn check(&mut self, image: &mut [u8]) -> u32 {
-        crate::check(image)
+    fn check(&mut self, kind: u32, image: &mut [u8]) -> u32 {
+        crate::check(kind, image)
     }
 
-    fn look(&mut self, user: u32, name: &mut [u8], record: u32, image: &mut [u8]) -> u32 {
-        crate::look(user, name, record, image).map_or(0, |at| at as u32)
+    fn look(&mut self, kind: u32, user: u32, name: &mut [u8], record: u32, image: &mut [u8]) -> u32 {
+        crate::look(kind, user, name, record, image).map_or(0, |at| at as u32)
     }
 
     fn call(&mut self, numbers: Numbers, buffers: Buffers) -> u32 {

@@ -1,6 +1,7 @@
 //! Which rules of "Sound image" and "Sound list" a buffer breaks, found by walking the bytes.
 //! Written apart from the decoders, as a check on them and to see that a rule is broken alone.
 
+use crate::kind::Kind;
 use std::collections::BTreeSet;
 
 #[derive(Clone, Copy, Debug, PartialEq, Eq, PartialOrd, Ord)]
@@ -107,8 +108,29 @@ fn same_name(one: &[u8], other: &[u8]) -> bool {
     one.iter().zip(other).all(|(a, b)| a & 127 == b & 127)
 }
 
-pub fn used_entries(image: &[u8]) -> impl Iterator<Item = &[u8]> + Clone {
-    image[..2048].chunks(32).filter(|entry| entry[0] != 0xE5)
+fn directory_length(kind: Kind) -> usize {
+    match kind {
+        Kind::First => 64 * 32,
+        Kind::Second => 128 * 32,
+    }
+}
+
+pub fn used_entries(kind: Kind, image: &[u8]) -> impl Iterator<Item = &[u8]> + Clone {
+    image[..directory_length(kind)]
+        .chunks(32)
+        .filter(|entry| entry[0] != 0xE5)
+}
+
+/// The block numbers of an entry, 0 meaning none.
+pub fn block_numbers(kind: Kind, entry: &[u8]) -> Vec<u16> {
+    let map = entry[16..32].iter().map(|&byte| u16::from(byte));
+    match kind {
+        Kind::First => map.collect(),
+        Kind::Second => {
+            let (low, high) = (map.clone().step_by(2), map.skip(1).step_by(2));
+            low.zip(high).map(|(low, high)| low + 256 * high).collect()
+        }
+    }
 }
 
 fn is_same_file(one: &[u8], other: &[u8]) -> bool {
@@ -119,7 +141,7 @@ pub fn extent_number(entry: &[u8]) -> usize {
     usize::from(entry[12]) + 32 * usize::from(entry[14])
 }
 
-fn entry_faults(entry: &[u8], blocks: usize) -> Vec<ImageRule> {
+fn entry_faults(kind: Kind, entry: &[u8], blocks: usize) -> Vec<ImageRule> {
     let mut faults = Vec::new();
     let mut note = |broken: bool, rule: ImageRule| {
         if broken {
@@ -131,65 +153,87 @@ fn entry_faults(entry: &[u8], blocks: usize) -> Vec<ImageRule> {
     note(entry[12] > 31, ImageRule::Ex);
     note(entry[14] > 63, ImageRule::Module);
     note(entry[15] > 128, ImageRule::Count);
-    let wild = |&block: &u8| block == 1 || usize::from(block) >= blocks;
-    note(entry[16..].iter().any(wild), ImageRule::MapRange);
+    let wild = |&block: &u16| block == 1 || usize::from(block) >= blocks;
+    note(block_numbers(kind, entry).iter().any(wild), ImageRule::MapRange);
     faults
 }
 
-fn has_double_block(image: &[u8]) -> bool {
-    let mut seen = [false; 256];
-    used_entries(image)
-        .flat_map(|entry| &entry[16..])
-        .filter(|&&block| block != 0)
-        .any(|&block| std::mem::replace(&mut seen[usize::from(block)], true))
+fn has_double_block(kind: Kind, image: &[u8]) -> bool {
+    let mut seen = BTreeSet::new();
+    used_entries(kind, image)
+        .flat_map(|entry| block_numbers(kind, entry))
+        .any(|block| block != 0 && !seen.insert(block))
 }
 
-fn has_twins(image: &[u8]) -> bool {
+fn has_twins(kind: Kind, image: &[u8]) -> bool {
     let twins =
         |one: &[u8], other: &[u8]| is_same_file(one, other) && extent_number(one) == extent_number(other);
-    used_entries(image)
-        .enumerate()
-        .any(|(i, one)| used_entries(image).skip(i + 1).any(|other| twins(one, other)))
+    let entries: Vec<&[u8]> = used_entries(kind, image).collect();
+    (1..entries.len()).any(|i| entries[i..].iter().any(|other| twins(entries[i - 1], other)))
 }
 
-fn lacks_extent_zero(image: &[u8]) -> bool {
-    used_entries(image)
-        .any(|one| !used_entries(image).any(|other| is_same_file(one, other) && extent_number(other) == 0))
+fn lacks_extent_zero(kind: Kind, image: &[u8]) -> bool {
+    let begins = |one: &[u8], other: &[u8]| is_same_file(one, other) && extent_number(other) == 0;
+    let entries: Vec<&[u8]> = used_entries(kind, image).collect();
+    !entries
+        .iter()
+        .all(|one| entries.iter().any(|other| begins(one, other)))
 }
 
-pub fn image_faults(image: &[u8]) -> BTreeSet<ImageRule> {
-    let blocks = image.len() / 1024;
-    if !image.len().is_multiple_of(1024) || !(3..=256).contains(&blocks) {
-        return BTreeSet::from([ImageRule::Length]);
+/// How many blocks an image of this length has, if this kind has such images.
+fn blocks_of(kind: Kind, length: usize) -> Option<usize> {
+    let (block, range) = match kind {
+        Kind::First => (1_024, 3..=256),
+        Kind::Second => (2_048, 257..=4_096),
+    };
+    range.into_iter().find(|blocks| block * blocks == length)
+}
+
+pub fn image_faults(kind: Kind, image: &[u8]) -> BTreeSet<ImageRule> {
+    match blocks_of(kind, image.len()) {
+        None => BTreeSet::from([ImageRule::Length]),
+        Some(blocks) => directory_faults(kind, image, blocks),
     }
-    directory_faults(image, blocks)
 }
 
 /// The faults of a directory, which may be the beginning of an image, on a drive of so many blocks.
-pub fn directory_faults(directory: &[u8], blocks: usize) -> BTreeSet<ImageRule> {
-    let mut faults: BTreeSet<ImageRule> = used_entries(directory)
-        .flat_map(|entry| entry_faults(entry, blocks))
+pub fn directory_faults(kind: Kind, directory: &[u8], blocks: usize) -> BTreeSet<ImageRule> {
+    let mut faults: BTreeSet<ImageRule> = used_entries(kind, directory)
+        .flat_map(|entry| entry_faults(kind, entry, blocks))
         .collect();
     let whole = [
-        (has_double_block(directory), ImageRule::BlockTwice),
-        (has_twins(directory), ImageRule::ExtentTwice),
-        (lacks_extent_zero(directory), ImageRule::ExtentZero),
+        (has_double_block(kind, directory), ImageRule::BlockTwice),
+        (has_twins(kind, directory), ImageRule::ExtentTwice),
+        (lacks_extent_zero(kind, directory), ImageRule::ExtentZero),
     ];
     faults.extend(whole.iter().filter(|(broken, _)| *broken).map(|(_, rule)| *rule));
     faults
 }
 
-/// The map byte of the record, 0 if it has no extent or no block.
-pub fn block_of(user: u8, name: &[u8], record: u32, image: &[u8]) -> u8 {
+/// The block number of the record, 0 if it has no extent or no block.
+pub fn block_of(kind: Kind, user: u8, name: &[u8], record: u32, image: &[u8]) -> u16 {
     let extent = (record / 128) as usize;
-    let index = (record % 128 / 8) as usize;
-    used_entries(image)
+    let in_extent = (record % 128) as usize;
+    let index = match kind {
+        Kind::First => in_extent / 8,
+        Kind::Second => in_extent / 16,
+    };
+    used_entries(kind, image)
         .find(|entry| entry[0] == user && same_name(&entry[1..12], name) && extent_number(entry) == extent)
-        .map_or(0, |entry| entry[16 + index])
+        .map_or(0, |entry| block_numbers(kind, entry)[index])
 }
 
-fn has_file(user: u8, name: &[u8], image: &[u8]) -> bool {
-    used_entries(image).any(|entry| entry[0] == user && same_name(&entry[1..12], name))
+/// Where the record lies, if it is in this block.
+pub fn record_at(kind: Kind, block: u16, record: u32) -> usize {
+    let (block, record) = (usize::from(block), record as usize);
+    match kind {
+        Kind::First => 1_024 * block + 128 * (record % 8),
+        Kind::Second => 2_048 * block + 128 * (record % 16),
+    }
+}
+
+fn has_file(kind: Kind, user: u8, name: &[u8], image: &[u8]) -> bool {
+    used_entries(kind, image).any(|entry| entry[0] == user && same_name(&entry[1..12], name))
 }
 
 /// An item of the list by its bytes.
@@ -281,7 +325,7 @@ fn item_faults(item: Item) -> Vec<ListRule> {
     ])
 }
 
-fn open_faults(open: Item, opens: &[Item], list: &[u8], image: &[u8]) -> Vec<ListRule> {
+fn open_faults(kind: Kind, open: Item, opens: &[Item], list: &[u8], image: &[u8]) -> Vec<ListRule> {
     let own = |other: &&Item| other.process() == open.process();
     let twins = opens
         .iter()
@@ -295,7 +339,7 @@ fn open_faults(open: Item, opens: &[Item], list: &[u8], image: &[u8]) -> Vec<Lis
     });
     let on_image = open
         .user(list)
-        .is_some_and(|user| has_file(user, open.name(), image));
+        .is_some_and(|user| has_file(kind, user, open.name(), image));
     broken(&[
         (twins > 1, ListRule::OneOpenPerFile),
         (
@@ -307,7 +351,14 @@ fn open_faults(open: Item, opens: &[Item], list: &[u8], image: &[u8]) -> Vec<Lis
     ])
 }
 
-fn lock_faults(lock: Item, opens: &[Item], locks: &[Item], list: &[u8], image: &[u8]) -> Vec<ListRule> {
+fn lock_faults(
+    kind: Kind,
+    lock: Item,
+    opens: &[Item],
+    locks: &[Item],
+    list: &[u8],
+    image: &[u8],
+) -> Vec<ListRule> {
     let own = |other: &&Item| other.process() == lock.process();
     let has_open = opens
         .iter()
@@ -315,7 +366,7 @@ fn lock_faults(lock: Item, opens: &[Item], locks: &[Item], list: &[u8], image: &
         .any(|open| open.is_same_file(&lock, list) && open.mode() == 1);
     let has_block = lock
         .user(list)
-        .is_some_and(|user| block_of(user, lock.name(), lock.record(), image) != 0);
+        .is_some_and(|user| block_of(kind, user, lock.name(), lock.record(), image) != 0);
     let twins = locks
         .iter()
         .filter(|other| lock.is_same_file(other, list) && lock.record() == other.record())
@@ -332,7 +383,7 @@ fn lock_faults(lock: Item, opens: &[Item], locks: &[Item], list: &[u8], image: &
 }
 
 /// The list must have its length and the image must be sound.
-pub fn list_faults(list: &[u8], image: &[u8]) -> BTreeSet<ListRule> {
+pub fn list_faults(kind: Kind, list: &[u8], image: &[u8]) -> BTreeSet<ListRule> {
     let mut faults: BTreeSet<ListRule> = header_faults(list).into_iter().collect();
     let items = items(list);
     let opens: Vec<Item> = items
@@ -352,10 +403,10 @@ pub fn list_faults(list: &[u8], image: &[u8]) -> BTreeSet<ListRule> {
         faults.extend(item_faults(*item));
     }
     for open in &opens {
-        faults.extend(open_faults(*open, &opens, list, image));
+        faults.extend(open_faults(kind, *open, &opens, list, image));
     }
     for lock in &locks {
-        faults.extend(lock_faults(*lock, &opens, &locks, list, image));
+        faults.extend(lock_faults(kind, *lock, &opens, &locks, list, image));
     }
     faults
 }

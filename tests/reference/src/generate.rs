@@ -1,18 +1,19 @@
 //! Makes sessions at random from a seed: a drive, a list, and calls that run on, with damage,
 //! wrong lengths and wild numbers in between.
 
-use crate::build::{empty_image, place_start, Entry, Fcb};
+use crate::build::{empty_image_of, place_start, Entry, Fcb};
 use crate::calls::{Numbers, DMA_LENGTH, MOST_RECORDS};
-use crate::coverage::Coverage;
+use crate::coverage::{Coverage, Half};
 use crate::damage::{break_directory, break_list};
 use crate::faults::{self, ImageRule, Item, ListRule};
 use crate::history::blocks_of_groups;
-use crate::named;
+use crate::kind::Kind;
+use crate::named::{self, Case};
 use crate::program::{CALL_MARK, START_MARK};
 use crate::random::Random;
 use crate::singly::is_run_function;
 use crate::stage::{Made, Stage};
-use crate::step::{changes, Step};
+use crate::step::{changes, put_back, Step};
 use std::collections::BTreeSet;
 
 const NAMES: [&[u8; 11]; 8] = [
@@ -36,9 +37,9 @@ const ILLEGAL: [&[u8; 11]; 6] = [
 ];
 
 /// Records at the edges of blocks, extents and modules.
-const EDGE_RECORDS: [u32; 28] = [
-    0, 1, 6, 7, 8, 9, 15, 16, 112, 119, 120, 127, 128, 129, 135, 136, 4_080, 4_088, 4_095, 4_096, 4_097,
-    8_176, 8_191, 262_015, 262_016, 262_128, 262_135, 262_143,
+const EDGE_RECORDS: [u32; 33] = [
+    0, 1, 6, 7, 8, 9, 15, 16, 17, 31, 32, 33, 111, 112, 119, 120, 127, 128, 129, 135, 136, 4_080, 4_088,
+    4_095, 4_096, 4_097, 8_176, 8_191, 262_015, 262_016, 262_128, 262_135, 262_143,
 ];
 
 const LAST_EXTENT: u32 = 2_047;
@@ -63,6 +64,9 @@ const WEIGHTS: [(u32, usize); 13] = [
     (46, 3),
     (143, 1),
 ];
+
+/// Numbers that tell no kind of drive.
+const UNKNOWN_KINDS: [u32; 7] = [2, 3, 255, 256, 257, 1 << 31, u32::MAX];
 
 /// Who takes part in a session.
 struct Cast {
@@ -100,6 +104,8 @@ struct Target {
 pub struct Generator {
     random: Random,
     stage: Stage,
+    /// The kind of the session's drive.
+    kind: Kind,
 }
 
 impl Generator {
@@ -107,6 +113,7 @@ impl Generator {
         Generator {
             random: Random::new(seed),
             stage: Stage::default(),
+            kind: Kind::First,
         }
     }
 
@@ -119,35 +126,70 @@ impl Generator {
         self.stage.faults()
     }
 
-    /// The named cases, each a session.
-    pub fn named(&mut self) -> Vec<(&'static str, Vec<Made>)> {
-        named::CASES
+    /// A named case as a session.
+    pub fn named_case(&mut self, case: &Case) -> Vec<Made> {
+        named::play(case, &mut self.stage, &mut self.random);
+        self.stage.take_made()
+    }
+
+    /// All named cases.
+    pub fn named(&mut self) -> Vec<(String, Vec<Made>)> {
+        named::cases()
             .iter()
-            .map(|(case, play)| {
-                named::play(case, *play, &mut self.stage, &mut self.random);
-                (*case, self.stage.take_made())
-            })
+            .map(|case| (case.title(), self.named_case(case)))
             .collect()
     }
 
     /// One session on a drive of its own.
     pub fn session(&mut self) -> Vec<Made> {
-        let most_blocks = match self.random.below(100) {
-            0..80 => 12,
-            80..92 => 64,
-            92..96 => 255,
-            _ => 256,
+        let kind = match self.random.chance(65) {
+            true => Kind::First,
+            false => Kind::Second,
         };
-        self.session_on(most_blocks);
+        self.session_of(kind)
+    }
+
+    /// One session on a drive of this kind.
+    pub fn session_of(&mut self, kind: Kind) -> Vec<Made> {
+        self.kind = kind;
+        let blocks = match kind {
+            Kind::First => self.blocks_of_first_kind(),
+            Kind::Second => self.blocks_of_second_kind(),
+        };
+        self.session_on(blocks);
         self.stage.take_made()
+    }
+
+    fn blocks_of_first_kind(&mut self) -> usize {
+        match self.random.below(100) {
+            0..80 => self.random.between(3, 12),
+            80..92 => self.random.between(3, 64),
+            92..96 => self.random.between(3, 255),
+            _ => 256,
+        }
+    }
+
+    /// Mostly few, so that they can be used up; 1,026 are all that the directory can name.
+    fn blocks_of_second_kind(&mut self) -> usize {
+        match self.random.below(100) {
+            0..40 => 257,
+            40..55 => 258,
+            55..86 => self.random.between(259, 520),
+            86..90 => self.random.pick(&[1_025, 1_026]),
+            90..95 => 1_027,
+            95..97 => self.random.between(1_028, 4_095),
+            _ => 4_096,
+        }
     }
 
     /// A drive that the program `mpmcalls` takes, and an input of calls upon it.
     pub fn program_run(&mut self) -> (Vec<u8>, Vec<u8>) {
         self.stage.begin();
         let cast = self.cast();
+        self.kind = Kind::First;
         let most_blocks = self.random.pick(&[6, 12, 12, 64]);
-        let mut image = self.drive(&cast, most_blocks, 0xE5);
+        let blocks = self.random.between(3, most_blocks);
+        let mut image = self.drive(&cast, blocks, 0xE5);
         if self.random.chance(10) {
             self.spoil(&mut image);
         }
@@ -168,8 +210,8 @@ impl Generator {
 
     fn spoil(&mut self, image: &mut Vec<u8>) {
         let rule = self.random.pick(&ImageRule::ALL);
-        match break_directory(rule, image, &mut self.random) {
-            Some(directory) => image[..2048].copy_from_slice(&directory),
+        match break_directory(rule, self.kind, image, &mut self.random) {
+            Some(directory) => image[..directory.len()].copy_from_slice(&directory),
             None => image.truncate(self.random.below(image.len())),
         }
     }
@@ -187,11 +229,11 @@ impl Generator {
         step
     }
 
-    fn session_on(&mut self, most_blocks: usize) {
+    fn session_on(&mut self, blocks: usize) {
         self.stage.begin();
         let cast = self.cast();
         let fill = self.random.pick(&[0xE5, 0, 0x5A]);
-        let image = self.drive(&cast, most_blocks, fill);
+        let image = self.drive(&cast, blocks, fill);
         self.begin_session(&cast, &image, fill);
         for _ in 0..self.random.between(40, 160) {
             self.act(&cast);
@@ -227,6 +269,7 @@ impl Generator {
 
     fn plain_call(&mut self, process: u8, function: u32, fcb: Fcb) {
         let numbers = Numbers {
+            kind: self.kind.number(),
             function,
             process: u32::from(process),
             count: 1,
@@ -270,28 +313,32 @@ impl Generator {
         let open_limit = self.random.pick(&[1, 2, 2, 3, 4, 64]);
         let lock_limit = self.random.pick(&[1, 2, 3, 4, 15, 16, 17, 64]);
         self.stage.serve(Step::Start {
+            kind: self.kind.number(),
             numbers: [capacity, open_limit, lock_limit],
             users: cast.users.to_vec(),
         });
     }
 
-    fn drive(&mut self, cast: &Cast, most_blocks: usize, fill: u8) -> Vec<u8> {
-        let blocks = match most_blocks {
-            256 => 256,
-            most => self.random.between(3, most),
-        };
-        let mut image = empty_image(blocks);
-        image[2048..].fill(fill);
+    fn drive(&mut self, cast: &Cast, blocks: usize, fill: u8) -> Vec<u8> {
+        let mut image = empty_image_of(self.kind, blocks);
+        if fill != 0xE5 {
+            image[self.kind.directory()..].fill(fill);
+        }
         if self.random.chance(60) {
             self.spoil_unread_bytes(&mut image);
         }
         if self.random.chance(70) {
             self.add_files(cast, &mut image);
         }
-        if self.random.chance(25) {
+        // The larger drives run out of blocks and entries only where both are seen to here.
+        let (used_up, crowded) = match self.kind {
+            Kind::First => (25, 30),
+            Kind::Second => (45, 50),
+        };
+        if self.random.chance(used_up) {
             self.use_up_blocks(&mut image);
         }
-        if self.random.chance(30) {
+        if self.random.chance(crowded) {
             self.crowd(&mut image);
         }
         image
@@ -299,14 +346,15 @@ impl Generator {
 
     /// Empty entries need only their first byte.
     fn spoil_unread_bytes(&mut self, image: &mut [u8]) {
-        for entry in image[..2048].chunks_mut(32) {
+        for entry in image[..self.kind.directory()].chunks_mut(32) {
             let byte = self.random.byte();
             entry[1..].fill(byte);
         }
     }
 
     fn empty_slots(&mut self, image: &[u8]) -> Vec<usize> {
-        let mut slots: Vec<usize> = (0..64).filter(|slot| image[32 * slot] == 0xE5).collect();
+        let entries = 0..self.kind.entries();
+        let mut slots: Vec<usize> = entries.filter(|slot| image[32 * slot] == 0xE5).collect();
         if self.random.chance(50) {
             self.random.shuffle(&mut slots);
         }
@@ -315,7 +363,7 @@ impl Generator {
 
     fn add_files(&mut self, cast: &Cast, image: &mut [u8]) {
         let mut slots = self.empty_slots(image).into_iter();
-        let mut free: Vec<u8> = (2..image.len() / 1024).map(|block| block as u8).collect();
+        let mut free = self.free_blocks(image);
         self.random.shuffle(&mut free);
         let users: BTreeSet<u8> = cast
             .processes
@@ -350,7 +398,7 @@ impl Generator {
         extents
     }
 
-    fn an_entry(&mut self, user: u8, name: [u8; 11], extent: u32, free: &mut Vec<u8>) -> Entry {
+    fn an_entry(&mut self, user: u8, name: [u8; 11], extent: u32, free: &mut Vec<u16>) -> Entry {
         let mut entry = Entry::of(user, name, extent)
             .with(13, self.random.byte())
             .count(self.random.below(129) as u8);
@@ -362,45 +410,57 @@ impl Generator {
         if !self.random.chance(15) {
             entry.0[9] &= 127;
         }
-        for index in self.some_blocks() {
-            if entry.0[16 + index] == 0 {
-                entry.0[16 + index] = free.pop().unwrap_or(0);
-            }
+        let indices: BTreeSet<usize> = self.some_blocks().into_iter().collect();
+        for index in indices {
+            entry = entry.block_of(self.kind, index, free.pop().unwrap_or(0));
         }
         entry
     }
 
     /// Places in a map: a few here and there, or the first or last ones, for runs to go along.
     fn some_blocks(&mut self) -> Vec<usize> {
+        let last = self.kind.numbers_per_entry() - 1;
         match self.random.below(10) {
-            0..3 => vec![14, 15],
+            0..3 => vec![last - 1, last],
             3 => vec![0, 1, 2],
-            4 => vec![0, 1, 14, 15],
-            _ => [0, 1, self.random.below(16), 15]
+            4 => vec![0, 1, last - 1, last],
+            _ => [0, 1, self.random.below(last + 1), last]
                 .into_iter()
                 .filter(|_| self.random.chance(45))
                 .collect(),
         }
     }
 
-    /// Leaves at most three blocks free; on larger drives nothing is done.
+    fn free_blocks(&self, image: &[u8]) -> Vec<u16> {
+        let groups = blocks_of_groups(self.kind, image);
+        let used: BTreeSet<u16> = groups.iter().map(|(_, block)| *block).collect();
+        let blocks = image.len() / self.kind.block();
+        (2..blocks as u16).filter(|block| !used.contains(block)).collect()
+    }
+
+    /// Leaves at most three blocks free, or where the entries are too few for that, as many as
+    /// they cannot name. On larger drives of the first kind nothing is done.
     fn use_up_blocks(&mut self, image: &mut [u8]) {
-        let used: BTreeSet<u8> = blocks_of_groups(image).iter().map(|(_, block)| *block).collect();
-        let mut free: Vec<u8> = (2..image.len() / 1024)
-            .map(|block| block as u8)
-            .filter(|block| !used.contains(block))
-            .collect();
-        self.random.shuffle(&mut free);
-        let leave = self.random.below(4);
-        let slot = self.empty_slots(image).first().copied();
-        let (Some(slot), 0..=16) = (slot, free.len().saturating_sub(leave)) else {
-            return;
-        };
-        let mut entry = Entry::of(7, *b"HOARD   XXX", 0);
-        for (index, block) in free.into_iter().skip(leave).enumerate() {
-            entry = entry.block(index, block);
+        const SPARED_ENTRIES: usize = 6;
+        let mut free = self.free_blocks(image);
+        if self.random.chance(50) {
+            self.random.shuffle(&mut free);
         }
-        image[32 * slot..32 * slot + 32].copy_from_slice(&entry.0);
+        let leave = self.random.pick(&[0, 0, 1, 2, 3]);
+        free.truncate(free.len().saturating_sub(leave));
+        let slots = self.empty_slots(image);
+        if self.kind == Kind::First && free.len() > 16 {
+            return;
+        }
+        let entries = free.chunks(self.kind.numbers_per_entry());
+        let slots = slots.iter().skip(SPARED_ENTRIES);
+        for ((extent, blocks), slot) in (0..).zip(entries).zip(slots) {
+            let mut entry = Entry::of(7, *b"HOARD   XXX", extent);
+            for (index, block) in blocks.iter().enumerate() {
+                entry = entry.block_of(self.kind, index, *block);
+            }
+            image[32 * slot..32 * slot + 32].copy_from_slice(&entry.0);
+        }
     }
 
     /// Leaves at most two entries empty.
@@ -420,15 +480,29 @@ impl Generator {
             4 => self.with_wrong_image_length(cast),
             5 => self.with_wrong_list_length(cast),
             6 => self.with_wrong_length(cast),
-            7 => self.with_wild_number(cast),
-            8..11 => self.look(cast),
-            11 => {
-                self.stage.serve(Step::Check);
-            }
+            7..9 => self.with_wild_number(cast),
+            9..11 => self.look(cast),
+            11 => self.check(),
             12 => self.shuffle_places(),
             13 => self.start_again(cast),
             14..16 => self.with_stray_bytes(cast),
             _ => self.call(cast),
+        }
+    }
+
+    fn check(&mut self) {
+        let kind = match self.random.chance(80) {
+            true => self.kind.number(),
+            false => self.wrong_kind(),
+        };
+        self.stage.serve(Step::Check { kind });
+    }
+
+    /// The other kind, or none at all.
+    fn wrong_kind(&mut self) -> u32 {
+        match self.random.chance(50) {
+            true => self.kind.other().number(),
+            false => self.random.pick(&UNKNOWN_KINDS),
         }
     }
 
@@ -475,6 +549,7 @@ impl Generator {
             _ => {}
         }
         let numbers = Numbers {
+            kind: self.kind.number(),
             function,
             process: u32::from(process),
             count,
@@ -610,14 +685,14 @@ impl Generator {
 
     /// A file on the image that nobody has open.
     fn idle_file(&mut self, user: u8) -> Option<[u8; 11]> {
-        if self.stage.image().len() < 2048 || self.stage.list().len() != 1299 {
+        if self.has_no_directory() || self.stage.list().len() != 1299 {
             return None;
         }
         let open: BTreeSet<Vec<u8>> = faults::items(self.stage.list())
             .iter()
             .map(|(_, item)| item.name().to_vec())
             .collect();
-        let idle: Vec<[u8; 11]> = faults::used_entries(self.stage.image())
+        let idle: Vec<[u8; 11]> = faults::used_entries(self.kind, self.stage.image())
             .filter(|entry| entry[0] == user)
             .map(|entry| std::array::from_fn(|i| entry[1 + i] & 127))
             .filter(|name: &[u8; 11]| !open.contains(&name[..]))
@@ -646,19 +721,25 @@ impl Generator {
             let any_extent = 128 * self.random.pick(&EXTENTS);
             return self.random.pick(&[END_OF_RECORDS, any_extent]);
         }
-        let opens_an_extent = |number: &u32| number.is_multiple_of(16);
+        let in_an_extent = self.kind.numbers_per_entry() as u32;
+        let opens_an_extent = |number: &u32| number.is_multiple_of(in_an_extent);
         if missing.iter().any(opens_an_extent) && self.random.chance(60) {
             missing.retain(opens_an_extent);
         }
-        8 * self.random.pick(&missing)
+        self.kind.records_per_block() * self.random.pick(&missing)
+    }
+
+    /// The image was cut, and the directory with it.
+    fn has_no_directory(&self) -> bool {
+        self.stage.image().len() < self.kind.directory()
     }
 
     /// The groups of a file that have a block.
     fn groups(&self, user: u8, name: &[u8; 11]) -> BTreeSet<u32> {
-        if self.stage.image().len() < 2048 {
+        if self.has_no_directory() {
             return BTreeSet::new();
         }
-        blocks_of_groups(self.stage.image())
+        blocks_of_groups(self.kind, self.stage.image())
             .iter()
             .filter(|(group, _)| group.file.user == user && group.file.name == *name)
             .map(|(group, _)| group.number)
@@ -687,9 +768,13 @@ impl Generator {
     /// A record of a block that the file has, or one just beside it.
     fn record_with_block(&mut self, user: u8, name: &[u8; 11]) -> Option<u32> {
         let groups: Vec<u32> = self.groups(user, name).into_iter().collect();
-        let first = 8 * self.random.pick_any(&groups)?;
-        let offset = self.random.between(0, 9) as u32;
-        Some((first + offset).saturating_sub(u32::from(offset == 9) * 10))
+        let size = self.kind.records_per_block();
+        let first = size * self.random.pick_any(&groups)?;
+        let offset = self.random.between(0, size as usize + 1) as u32;
+        Some(match offset > size {
+            true => first.saturating_sub(1),
+            false => first + offset,
+        })
     }
 
     fn fcb(
@@ -784,7 +869,7 @@ impl Generator {
 
     fn put_tested_record(&mut self, dma: &mut [u8], user: u8, name: &[u8; 11], record: u32) {
         let image = self.stage.image();
-        let Some(at) = crate::look(u32::from(user), name, record, image) else {
+        let Some(at) = crate::look(self.kind.number(), u32::from(user), name, record, image) else {
             return;
         };
         if self.random.chance(10) {
@@ -817,12 +902,21 @@ impl Generator {
             _ => {}
         }
         let (user, name, record) = step;
-        self.stage.serve(Step::Look { user, name, record });
+        let kind = match self.random.chance(92) {
+            true => self.kind.number(),
+            false => self.wrong_kind(),
+        };
+        self.stage.serve(Step::Look {
+            kind,
+            user,
+            name,
+            record,
+        });
     }
 
     fn file_to_look_at(&mut self, cast: &Cast) -> (u8, [u8; 11]) {
-        if self.stage.image().len() >= 2048 && self.random.chance(60) {
-            let blocks = blocks_of_groups(self.stage.image());
+        if !self.has_no_directory() && self.random.chance(60) {
+            let blocks = blocks_of_groups(self.kind, self.stage.image());
             if let Some((group, _)) = self.random.pick_any(&blocks) {
                 return (group.file.user, group.file.name);
             }
@@ -851,13 +945,15 @@ impl Generator {
         }
         let mut numbers = [1, 2, 64];
         let mut users = cast.users.to_vec();
-        match self.random.below(4) {
+        let mut kind = self.kind.number();
+        match self.random.below(5) {
+            4 => kind = self.random.pick(&UNKNOWN_KINDS),
             0 => users[self.random.below(16)] = self.random.pick(&[16, 0x80, 0xFF]),
             1 => users.truncate(self.random.below(16)),
             2 => users.push(0),
             _ => numbers[self.random.below(3)] = self.random.pick(&[0, 65, 256, 257, 320, u32::MAX]),
         }
-        self.stage.serve(Step::Start { numbers, users });
+        self.stage.serve(Step::Start { kind, numbers, users });
     }
 
     fn with_wrong_length(&mut self, cast: &Cast) {
@@ -874,7 +970,12 @@ impl Generator {
     fn with_wild_number(&mut self, cast: &Cast) {
         let mut step = self.a_call(cast);
         if let Step::Call { numbers, .. } = &mut step {
-            match self.random.below(3) {
+            match self.random.below(5) {
+                3 => numbers.kind = self.wrong_kind(),
+                4 => {
+                    numbers.kind = self.wrong_kind();
+                    numbers.function = self.wild_function(numbers.function);
+                }
                 0 => numbers.function = self.wild_function(numbers.function),
                 1 => numbers.process = self.wild(numbers.process, &[16, 17, 255]),
                 _ => numbers.count = self.wild(numbers.count, &[0, 17, 255]),
@@ -900,15 +1001,16 @@ impl Generator {
 
     fn with_damaged_directory(&mut self, cast: &Cast) {
         let rule = self.random.pick(&ImageRule::ALL);
-        let before = self.stage.image()[..2048].to_vec();
-        let Some(damaged) = break_directory(rule, self.stage.image(), &mut self.random) else {
+        let before = self.stage.image()[..self.kind.directory()].to_vec();
+        let Some(damaged) = break_directory(rule, self.kind, self.stage.image(), &mut self.random) else {
             return;
         };
-        self.stage.coverage.note_image_rule(rule);
+        let half = half_damaged(&before, &damaged);
+        self.stage.coverage.note_image_rule(self.kind, rule, half);
         self.stage.damaged();
         self.patch_image(&before, &damaged);
         if self.random.chance(30) {
-            self.stage.serve(Step::Check);
+            self.check();
             self.look(cast);
         }
         for _ in 0..self.random.between(1, 3) {
@@ -930,10 +1032,10 @@ impl Generator {
     fn with_damaged_list(&mut self, cast: &Cast) {
         let rule = self.random.pick(&ListRule::ALL);
         let before = self.stage.list().to_vec();
-        let Some(damaged) = break_list(rule, &before, self.stage.image(), &mut self.random) else {
+        let Some(damaged) = break_list(rule, self.kind, &before, self.stage.image(), &mut self.random) else {
             return;
         };
-        self.stage.coverage.note_list_rule(rule);
+        self.stage.coverage.note_list_rule(self.kind, rule);
         self.stage.damaged();
         self.patch_list(&before, &damaged);
         for _ in 0..self.random.between(1, 3) {
@@ -954,27 +1056,28 @@ impl Generator {
 
     /// A few bytes of the directory and the list become others, which may or may not be sound.
     fn with_stray_bytes(&mut self, cast: &Cast) {
-        const QUICKLY_PUT_BACK: usize = 16 * 1024;
-        let (image, list) = (self.stage.image().to_vec(), self.stage.list().to_vec());
-        if image.len() > QUICKLY_PUT_BACK {
+        const QUICKLY_PUT_BACK: usize = 600 * 1024;
+        if self.stage.image().len() > QUICKLY_PUT_BACK {
             return;
         }
+        let (image, list) = (self.stage.image().to_vec(), self.stage.list().to_vec());
         self.stage.damaged();
         for _ in 0..self.random.between(1, 2) {
             self.stray_byte(&image, &list);
         }
-        self.stage.serve(Step::Check);
+        self.check();
         self.look(cast);
         for _ in 0..self.random.between(1, 4) {
             self.call(cast);
         }
-        self.stage.set_image(&image, 0xE5);
+        let steps = put_back(&image, self.stage.image());
+        self.stage.serve_all(steps);
         self.stage.set_list(&list);
         self.stage.repaired();
     }
 
     fn stray_byte(&mut self, image: &[u8], list: &[u8]) {
-        let blocks = image.len() / 1024;
+        let blocks = image.len() / self.kind.block();
         let any = self.random.byte();
         let edges = [
             0,
@@ -993,17 +1096,31 @@ impl Generator {
             0xE5,
             blocks - 1,
             blocks,
+            blocks / 256,
         ];
         let edge = self.random.pick(&edges) as u8;
         let bytes = vec![self.random.pick(&[any, edge, edge])];
         if self.random.chance(50) {
-            let at = self.random.below(2048);
+            let at = self.stray_place(image);
             self.stage.serve(Step::PatchImage { at, bytes });
             return;
         }
         let used = place_start(usize::from(list[0]).min(64));
         let at = self.random.below(used);
         self.stage.serve(Step::PatchList { at, bytes });
+    }
+
+    /// A byte of the directory, mostly one of a used entry.
+    fn stray_place(&mut self, image: &[u8]) -> usize {
+        let directory = self.kind.directory();
+        let used: Vec<usize> = (0..directory)
+            .step_by(32)
+            .filter(|&at| image[at] != 0xE5)
+            .collect();
+        match self.random.pick_any(&used) {
+            Some(entry) if self.random.chance(60) => entry + self.random.below(32),
+            _ => self.random.below(directory),
+        }
     }
 
     fn with_wrong_list_length(&mut self, cast: &Cast) {
@@ -1022,19 +1139,24 @@ impl Generator {
     /// The wrong lengths keep to what is quickly put back.
     fn with_wrong_image_length(&mut self, cast: &Cast) {
         let length = self.stage.image().len();
-        let wrong = match (length, self.random.below(4)) {
-            (262_144, 0..2) => 257 * 1024,
-            (..=12_288, 0) => self.random.pick(&[0, 1, 1024, 2048, 2049]),
-            (_, 1) => length - 1,
-            (_, 2) => length + 512,
+        let block = self.kind.block();
+        let blocks = length / block;
+        let wrong = match self.random.below(4) {
+            0..2 if blocks == self.kind.most_blocks() => length + block,
+            0..2 if self.kind == Kind::Second && blocks == 257 => length - block,
+            0 if length <= 12_288 => self.random.pick(&[0, 1, 1024, 2048, 2049]),
+            1 => length - 1,
+            2 => length + block / 2,
             _ => length + 1,
         };
         let tail = self.stage.image()[wrong.min(length)..].to_vec();
-        self.stage.coverage.note_image_rule(ImageRule::Length);
+        self.stage
+            .coverage
+            .note_image_rule(self.kind, ImageRule::Length, Half::Lower);
         self.stage.damaged();
         self.resize_image(wrong);
         if self.random.chance(30) {
-            self.stage.serve(Step::Check);
+            self.check();
             self.look(cast);
         }
         self.call(cast);
@@ -1053,6 +1175,12 @@ impl Generator {
     }
 }
 
+/// The half of the entries in which the first damaged one stands.
+pub fn half_damaged(before: &[u8], damaged: &[u8]) -> Half {
+    let first = before.iter().zip(damaged).position(|(old, new)| old != new);
+    Half::of(first.unwrap_or(0) / 32)
+}
+
 fn aim_at(record: u32, before: u32) -> Aim {
     let first = record.saturating_sub(before);
     Aim {
@@ -1064,7 +1192,7 @@ fn aim_at(record: u32, before: u32) -> Aim {
 /// The step as a record of the program's input; nothing for steps that are none.
 fn program_record(step: &Step) -> Vec<u8> {
     match step {
-        Step::Start { numbers, users } => {
+        Step::Start { numbers, users, .. } => {
             let numbers = numbers.map(|number| number as u8);
             [&START_MARK[..], &numbers, users].concat()
         }

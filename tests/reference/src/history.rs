@@ -1,6 +1,7 @@
 //! What the calls so far have granted, kept apart from the list and the image, and the checks
 //! that list and image agree with it. Nothing of the decoders is used here.
 
+use crate::kind::Kind;
 use std::collections::{BTreeMap, BTreeSet};
 use std::ops::Range;
 
@@ -11,7 +12,7 @@ pub struct FileName {
     pub name: [u8; 11],
 }
 
-/// Eight records of a file that share a block.
+/// Records of a file that share a block: eight of them, on a drive of the second kind sixteen.
 #[derive(Clone, Copy, Debug, PartialEq, Eq, PartialOrd, Ord)]
 pub struct Group {
     pub file: FileName,
@@ -55,6 +56,7 @@ pub struct Kept {
 
 #[derive(Clone)]
 pub struct History {
+    kind: Kind,
     capacity: usize,
     open_limit: usize,
     lock_limit: usize,
@@ -68,48 +70,71 @@ fn low_bits(bytes: &[u8]) -> [u8; 11] {
     std::array::from_fn(|i| bytes[i] & 127)
 }
 
+fn records_of_group(kind: Kind) -> u32 {
+    match kind {
+        Kind::First => 8,
+        Kind::Second => 16,
+    }
+}
+
+fn block_length(kind: Kind) -> usize {
+    128 * records_of_group(kind) as usize
+}
+
+/// The number and the block of each group that an entry has a block for.
+fn groups_of_entry(kind: Kind, entry: &[u8]) -> impl Iterator<Item = (u32, u16)> + '_ {
+    let extent = u32::from(entry[12]) + 32 * u32::from(entry[14]);
+    let groups = 128 / records_of_group(kind);
+    (0..groups).filter_map(move |index| {
+        let at = index as usize;
+        let block = match kind {
+            Kind::First => u16::from(entry[16 + at]),
+            Kind::Second => u16::from(entry[16 + 2 * at]) | u16::from(entry[17 + 2 * at]) << 8,
+        };
+        (block != 0).then_some((groups * extent + index, block))
+    })
+}
+
 /// The groups that have a block, with the block; the image must be sound.
-pub fn blocks_of_groups(image: &[u8]) -> Vec<(Group, u8)> {
+pub fn blocks_of_groups(kind: Kind, image: &[u8]) -> Vec<(Group, u16)> {
     let mut found = Vec::new();
-    for entry in image[..2048].chunks(32).filter(|entry| entry[0] != 0xE5) {
+    let directory = &image[..2 * block_length(kind)];
+    for entry in directory.chunks(32).filter(|entry| entry[0] != 0xE5) {
         let file = FileName {
             user: entry[0],
             name: low_bits(&entry[1..12]),
         };
-        let extent = u32::from(entry[12]) + 32 * u32::from(entry[14]);
-        for (index, &block) in (0..).zip(&entry[16..]) {
-            let number = 16 * extent + index;
-            if block != 0 {
-                found.push((Group { file, number }, block));
-            }
-        }
+        let groups = groups_of_entry(kind, entry);
+        found.extend(groups.map(|(number, block)| (Group { file, number }, block)));
     }
     found
 }
 
-pub fn groups_with_block(image: &[u8]) -> BTreeSet<Group> {
-    blocks_of_groups(image)
+pub fn groups_with_block(kind: Kind, image: &[u8]) -> BTreeSet<Group> {
+    blocks_of_groups(kind, image)
         .into_iter()
         .map(|(group, _)| group)
         .collect()
 }
 
 /// The record as Look would show it, given the blocks of the image's groups.
-fn shown<'a>(lock: &Lock, blocks: &[(Group, u8)], image: &'a [u8]) -> Option<&'a [u8]> {
+fn shown<'a>(kind: Kind, lock: &Lock, blocks: &[(Group, u16)], image: &'a [u8]) -> Option<&'a [u8]> {
+    let records = records_of_group(kind);
     let group = Group {
         file: lock.file,
-        number: lock.record / 8,
+        number: lock.record / records,
     };
     let (_, block) = blocks.iter().find(|(has, _)| *has == group)?;
-    let at = 1024 * usize::from(*block) + 128 * (lock.record % 8) as usize;
+    let at = block_length(kind) * usize::from(*block) + 128 * (lock.record % records) as usize;
     image.get(at..at + 128)
 }
 
 impl History {
     /// What begins with an accepted Start.
-    pub fn new(numbers: [u32; 3], users: [u8; 16], groups: BTreeSet<Group>) -> History {
+    pub fn new(kind: Kind, numbers: [u32; 3], users: [u8; 16], groups: BTreeSet<Group>) -> History {
         let [capacity, open_limit, lock_limit] = numbers.map(|number| number as usize);
         History {
+            kind,
             capacity,
             open_limit,
             lock_limit,
@@ -176,7 +201,7 @@ impl History {
     fn touch(&mut self, file: FileName, records: Range<u32>) {
         let touched = records.map(|record| Group {
             file,
-            number: record / 8,
+            number: record / records_of_group(self.kind),
         });
         self.groups.extend(touched);
     }
@@ -207,24 +232,29 @@ impl History {
         if self.locks.is_empty() {
             return Vec::new();
         }
-        let blocks = blocks_of_groups(image);
+        let blocks = blocks_of_groups(self.kind, image);
         self.locks
             .iter()
             .filter(|lock| u32::from(lock.process) != process)
             .map(|&lock| Kept {
                 lock,
-                bytes: shown(&lock, &blocks, image).map(<[u8]>::to_vec),
+                bytes: shown(self.kind, &lock, &blocks, image).map(<[u8]>::to_vec),
             })
             .collect()
     }
 
     /// All of demand 3, after a call.
     pub fn check(&self, kept: &[Kept], list: &[u8], image: &[u8]) -> Result<(), String> {
+        self.check_groups(image)?;
+        self.check_holdings(kept, list, image)
+    }
+
+    /// All but the blocks, after a call that changed neither the image nor the groups.
+    pub fn check_holdings(&self, kept: &[Kept], list: &[u8], image: &[u8]) -> Result<(), String> {
         self.check_list(list)?;
         self.check_limits()?;
         self.check_clashes()?;
-        self.check_groups(image)?;
-        check_kept(kept, image)
+        check_kept(self.kind, kept, image)
     }
 
     fn holdings(&self) -> BTreeSet<Holding> {
@@ -315,8 +345,8 @@ impl History {
     }
 
     fn check_groups(&self, image: &[u8]) -> Result<(), String> {
-        let blocks = blocks_of_groups(image);
-        let in_use: BTreeSet<u8> = blocks.iter().map(|(_, block)| *block).collect();
+        let blocks = blocks_of_groups(self.kind, image);
+        let in_use: BTreeSet<u16> = blocks.iter().map(|(_, block)| *block).collect();
         if in_use.len() != blocks.len() {
             return Err("a block serves two groups".to_string());
         }
@@ -332,10 +362,12 @@ impl History {
         if in_use.len() != self.groups.len() {
             return Err("blocks in use and groups differ in number".to_string());
         }
-        let free = (2..image.len() / 1024)
-            .filter(|block| !in_use.contains(&(*block as u8)))
-            .count();
-        if self.groups.len() + free != image.len() / 1024 - 2 {
+        let all_blocks = image.len() / block_length(self.kind);
+        let in_data_blocks = in_use
+            .iter()
+            .filter(|&&block| (2..all_blocks).contains(&block.into()));
+        let free = all_blocks - 2 - in_data_blocks.count();
+        if self.groups.len() + free != all_blocks - 2 {
             return Err("groups and free blocks do not make up the drive".to_string());
         }
         Ok(())
@@ -344,8 +376,9 @@ impl History {
     /// Function 46's figure against the history.
     pub fn check_free_space(&self, dma: &[u8], image: &[u8]) -> Result<(), String> {
         let figure = u32::from_le_bytes([dma[0], dma[1], dma[2], 0]) as usize;
-        let blocks = image.len() / 1024;
-        if figure + 8 * (self.groups.len() + 2) != 8 * blocks {
+        let blocks = image.len() / block_length(self.kind);
+        let records = records_of_group(self.kind) as usize;
+        if figure + records * (self.groups.len() + 2) != records * blocks {
             let groups = self.groups.len();
             return Err(format!(
                 "function 46 says {figure} of {blocks} blocks with {groups} groups"
@@ -371,13 +404,13 @@ fn mode_asked(fcb: &[u8], may_ask_read_only: bool) -> u8 {
     u8::from(fcb[5] > 127)
 }
 
-fn check_kept(kept: &[Kept], image: &[u8]) -> Result<(), String> {
+fn check_kept(kind: Kind, kept: &[Kept], image: &[u8]) -> Result<(), String> {
     if kept.is_empty() {
         return Ok(());
     }
-    let blocks = blocks_of_groups(image);
+    let blocks = blocks_of_groups(kind, image);
     for Kept { lock, bytes } in kept {
-        if bytes.is_none() || shown(lock, &blocks, image) != bytes.as_deref() {
+        if bytes.is_none() || shown(kind, lock, &blocks, image) != bytes.as_deref() {
             return Err(format!("another's call changed what {lock:?} protects"));
         }
     }

@@ -1,6 +1,7 @@
 //! A second, independent program for the rules of the scope document.
 
 pub mod answer;
+pub mod book;
 pub mod build;
 pub mod calls;
 pub mod comparison;
@@ -11,11 +12,14 @@ pub mod engine;
 pub mod faults;
 pub mod generate;
 pub mod history;
+pub mod kind;
 #[cfg(feature = "linked")]
 pub mod linked;
 pub mod locks;
 pub mod name;
 pub mod named;
+pub mod named_kinds;
+pub mod parts;
 pub mod pipe;
 pub mod program;
 pub mod program_cases;
@@ -31,38 +35,52 @@ pub use program::mpmcalls;
 use answer::Answer;
 use calls::{Buffers, Numbers};
 use drive::{Drive, Fault};
+use kind::Kind;
 use locks::{LockList, LIST_LENGTH};
 use name::{File, Name};
 
-pub fn start(capacity: u32, open_limit: u32, lock_limit: u32, users: &[u8], list: &mut [u8]) -> u32 {
+/// Each function is told the kind of drive by a number: 0 or 1, and any other is unknown.
+pub fn start(
+    kind: u32,
+    capacity: u32,
+    open_limit: u32,
+    lock_limit: u32,
+    users: &[u8],
+    list: &mut [u8],
+) -> u32 {
     let fresh = LockList::fresh(capacity, open_limit, lock_limit, users);
-    let (Some(fresh), LIST_LENGTH) = (fresh, list.len()) else {
+    let (Some(_), Some(fresh), LIST_LENGTH) = (Kind::told(kind), fresh, list.len()) else {
         return Answer::extended(13).word();
     };
     list.copy_from_slice(&fresh.write());
     Answer::SUCCESS.word()
 }
 
-/// 0 sound, 1 wrong length, 2 unsound directory.
-pub fn check(image: &[u8]) -> u32 {
-    match Drive::read(image) {
+/// 0 sound, 1 wrong length or unknown kind, 2 unsound directory.
+pub fn check(kind: u32, image: &[u8]) -> u32 {
+    let Some(kind) = Kind::told(kind) else {
+        return 1;
+    };
+    match Drive::read(kind, image) {
         Ok(_) => 0,
-        Err(Fault::Length) => 1,
+        Err(Fault::Length | Fault::OtherKind) => 1,
         Err(Fault::Directory) => 2,
     }
 }
 
 /// Where the record's 128 bytes begin in the image.
-pub fn look(user: u32, name: &[u8], record: u32, image: &[u8]) -> Option<usize> {
-    let drive = Drive::read(image).ok()?;
+pub fn look(kind: u32, user: u32, name: &[u8], record: u32, image: &[u8]) -> Option<usize> {
+    let drive = Drive::read(Kind::told(kind)?, image).ok()?;
     let user = u8::try_from(user).ok().filter(|&user| user <= 15)?;
     let name = Name::read(name)?;
     let block = drive.block(&File { user, name }, record)?;
-    Some(drive::record_start(block, record))
+    Some(drive.record_start(block, record))
 }
 
 /// A + 256·H.
+#[allow(clippy::too_many_arguments)]
 pub fn call(
+    kind: u32,
     function: u32,
     process: u32,
     count: u32,
@@ -72,6 +90,7 @@ pub fn call(
     image: &mut [u8],
 ) -> u32 {
     let numbers = Numbers {
+        kind,
         function,
         process,
         count,
@@ -86,7 +105,9 @@ pub fn call(
 }
 
 /// The same call made as single calls, one after another: the answer of the last one made.
+#[allow(clippy::too_many_arguments)]
 pub fn call_singly(
+    kind: u32,
     function: u32,
     process: u32,
     count: u32,
@@ -96,6 +117,7 @@ pub fn call_singly(
     image: &mut [u8],
 ) -> u32 {
     let numbers = Numbers {
+        kind,
         function,
         process,
         count,

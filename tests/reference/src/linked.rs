@@ -8,6 +8,7 @@ type Call = unsafe extern "C" fn(
     u32,
     u32,
     u32,
+    u32,
     *mut u8,
     usize,
     *mut u8,
@@ -20,6 +21,7 @@ type Call = unsafe extern "C" fn(
 
 extern "C" {
     fn mpm_call(
+        kind: u32,
         function: u32,
         process: u32,
         count: u32,
@@ -34,6 +36,7 @@ extern "C" {
     ) -> u32;
 
     fn mpm_singly(
+        kind: u32,
         function: u32,
         process: u32,
         count: u32,
@@ -48,6 +51,7 @@ extern "C" {
     ) -> u32;
 
     fn mpm_start(
+        kind: u32,
         capacity: u32,
         open_limit: u32,
         lock_limit: u32,
@@ -57,9 +61,10 @@ extern "C" {
         list_len: usize,
     ) -> u32;
 
-    fn mpm_check(image: *const u8, image_len: usize) -> u32;
+    fn mpm_check(kind: u32, image: *const u8, image_len: usize) -> u32;
 
     fn mpm_look(
+        kind: u32,
         user: u32,
         name: *const u8,
         name_len: usize,
@@ -74,10 +79,11 @@ pub struct Linked;
 // SAFETY, of all five: each pointer comes with the length of the slice it is taken from, and the
 // slices are separate and stay borrowed until the call returns.
 impl Engine for Linked {
-    fn start(&mut self, numbers: [u32; 3], users: &mut [u8], list: &mut [u8]) -> u32 {
+    fn start(&mut self, kind: u32, numbers: [u32; 3], users: &mut [u8], list: &mut [u8]) -> u32 {
         let [capacity, open_limit, lock_limit] = numbers;
         unsafe {
             mpm_start(
+                kind,
                 capacity,
                 open_limit,
                 lock_limit,
@@ -89,13 +95,14 @@ impl Engine for Linked {
         }
     }
 
-    fn check(&mut self, image: &mut [u8]) -> u32 {
-        unsafe { mpm_check(image.as_mut_ptr(), image.len()) }
+    fn check(&mut self, kind: u32, image: &mut [u8]) -> u32 {
+        unsafe { mpm_check(kind, image.as_mut_ptr(), image.len()) }
     }
 
-    fn look(&mut self, user: u32, name: &mut [u8], record: u32, image: &mut [u8]) -> u32 {
+    fn look(&mut self, kind: u32, user: u32, name: &mut [u8], record: u32, image: &mut [u8]) -> u32 {
         unsafe {
             mpm_look(
+                kind,
                 user,
                 name.as_mut_ptr(),
                 name.len(),
@@ -126,6 +133,7 @@ fn make(call: Call, numbers: Numbers, buffers: Buffers) -> u32 {
     // SAFETY: as above.
     unsafe {
         call(
+            numbers.kind,
             numbers.function,
             numbers.process,
             numbers.count,

@@ -1,18 +1,36 @@
 //! Cases by name, with the answers they must get: the places easiest to misread, and every row
 //! of every table, so that each run has reached them all.
 
-use crate::build::{empty_image, image_with, lock_item, name, open_item, put_item, Entry, Fcb};
+use crate::book::Book;
+use crate::build::{lock_item, name, open_item, put_item, Entry, Fcb};
 use crate::calls::{Numbers, DMA_LENGTH, MOST_RECORDS, RUN_FUNCTIONS};
-use crate::coverage::FUNCTIONS;
+use crate::coverage::{Half, FUNCTIONS};
 use crate::damage::{break_directory, break_list};
 use crate::faults::{ImageRule, ListRule};
+use crate::generate::half_damaged;
+use crate::kind::Kind;
+use crate::named_kinds;
 use crate::random::Random;
 use crate::stage::{changed_dma, Stage};
 use crate::step::Step;
 
 pub type Play = fn(&mut Script);
 
-pub const CASES: [(&str, Play); 34] = [
+/// A case on a drive of one kind.
+pub struct Case {
+    name: &'static str,
+    pub kind: Kind,
+    play: Play,
+}
+
+impl Case {
+    pub fn title(&self) -> String {
+        format!("{}, kind {}", self.name, self.kind.number())
+    }
+}
+
+/// Played on drives of both kinds.
+const CASES: [(&str, Play); 32] = [
     ("the session", session),
     ("open again at the open limit and with a full list", open_again),
     ("rename to itself", rename_to_itself),
@@ -20,10 +38,8 @@ pub const CASES: [(&str, Play); 34] = [
     ("the lock limit counts held records of the run twice", lock_limit),
     ("2/0 leaves no trace", no_free_block),
     ("5/0 leaves no trace", no_empty_entry),
-    ("40 clears the other seven records, 34 none", zero_fill),
+    ("40 clears the other records of a block, 34 none", zero_fill),
     ("41 raises the count", count_raised),
-    ("256 and 257 blocks", most_blocks),
-    ("2 and 3 blocks", fewest_blocks),
     ("the last record", last_record),
     ("numbers are judged whole", whole_numbers),
     ("Start's edges", start_edges),
@@ -52,20 +68,39 @@ pub const CASES: [(&str, Play); 34] = [
     ("Look", look),
 ];
 
-pub fn play(case: &'static str, play: Play, stage: &mut Stage, random: &mut Random) {
+pub fn cases() -> Vec<Case> {
+    let both = Kind::ALL
+        .into_iter()
+        .flat_map(|kind| CASES.into_iter().map(move |(name, play)| (kind, name, play)));
+    both.chain(named_kinds::CASES)
+        .map(|(kind, name, play)| Case { name, kind, play })
+        .collect()
+}
+
+pub fn play(case: &Case, stage: &mut Stage, random: &mut Random) {
     stage.begin();
-    play(&mut Script { stage, random, case });
+    let mut script = Script {
+        stage,
+        random,
+        case: case.title(),
+        kind: case.kind,
+        book: Book::of(case.kind, case.kind.fewest_blocks()),
+    };
+    (case.play)(&mut script);
 }
 
 /// Plays calls on the stage and complains of answers other than the written ones.
 pub struct Script<'a> {
-    stage: &'a mut Stage,
+    pub stage: &'a mut Stage,
     random: &'a mut Random,
-    case: &'static str,
+    case: String,
+    pub kind: Kind,
+    /// The drive as it was when its world began.
+    book: Book,
 }
 
 /// A call that waits for its answer.
-struct Asked<'s, 'a> {
+pub struct Asked<'s, 'a> {
     script: &'s mut Script<'a>,
     numbers: Numbers,
     fcb: Vec<u8>,
@@ -73,48 +108,53 @@ struct Asked<'s, 'a> {
 }
 
 impl Asked<'_, '_> {
-    fn count(mut self, count: u32) -> Self {
+    pub fn kind(mut self, kind: u32) -> Self {
+        self.numbers.kind = kind;
+        self
+    }
+
+    pub fn count(mut self, count: u32) -> Self {
         self.numbers.count = count;
         self
     }
 
-    fn id(mut self, low: u8, high: u8) -> Self {
+    pub fn id(mut self, low: u8, high: u8) -> Self {
         self.dma[..2].copy_from_slice(&[low, high]);
         self
     }
 
-    fn fill(mut self, byte: u8) -> Self {
+    pub fn fill(mut self, byte: u8) -> Self {
         self.dma.fill(byte);
         self
     }
 
     /// The record to be tested and the one to be written.
-    fn records(mut self, tested: u8, written: u8) -> Self {
+    pub fn records(mut self, tested: u8, written: u8) -> Self {
         self.dma[..128].fill(tested);
         self.dma[128..].fill(written);
         self
     }
 
     /// Each record of the DMA has a byte of its own, one more than that of the record before.
-    fn rising(mut self, first: u8) -> Self {
+    pub fn rising(mut self, first: u8) -> Self {
         for (byte, record) in (first..).zip(self.dma.chunks_mut(128)) {
             record.fill(byte);
         }
         self
     }
 
-    fn lengths(mut self, fcb: usize, dma: usize) -> Self {
+    pub fn lengths(mut self, fcb: usize, dma: usize) -> Self {
         self.fcb.resize(fcb, 0);
         self.dma.resize(dma, 0);
         self
     }
 
-    fn gives(self, a: u8, h: u8) {
+    pub fn gives(self, a: u8, h: u8) {
         self.gives_and_leaves(a, h, None);
     }
 
     /// The DMA then begins with records of these bytes, and its rest is as it was.
-    fn reads(self, a: u8, h: u8, records: &[u8]) {
+    pub fn reads(self, a: u8, h: u8, records: &[u8]) {
         let mut dma = self.dma.clone();
         for (byte, record) in records.iter().zip(dma.chunks_mut(128)) {
             record.fill(*byte);
@@ -141,17 +181,29 @@ impl Asked<'_, '_> {
         }
     }
 
-    fn ok(self) {
+    pub fn ok(self) {
         self.gives(0, 0);
+    }
+
+    /// A 46 that tells so many free records.
+    pub fn tells(self, records: u32) {
+        let mut dma = self.dma.clone();
+        dma[..3].copy_from_slice(&records.to_le_bytes()[..3]);
+        self.gives_and_leaves(0, 0, Some(dma));
     }
 }
 
 impl<'a> Script<'a> {
-    fn world(&mut self, image: &[u8], numbers: [u32; 3]) {
-        self.world_of(image, numbers, [0; 16]);
+    pub fn world(&mut self, book: &Book, numbers: [u32; 3]) {
+        self.world_of(book, numbers, [0; 16]);
     }
 
-    fn world_of(&mut self, image: &[u8], numbers: [u32; 3], users: [u8; 16]) {
+    pub fn world_of(&mut self, book: &Book, numbers: [u32; 3], users: [u8; 16]) {
+        self.book = book.clone();
+        self.world_on(&book.image, numbers, users);
+    }
+
+    pub fn world_on(&mut self, image: &[u8], numbers: [u32; 3], users: [u8; 16]) {
         self.stage.begin();
         self.stage.set_image(image, 0xE5);
         self.stage.serve(Step::List { length: 0, fill: 0 });
@@ -162,25 +214,42 @@ impl<'a> Script<'a> {
         self.starts(numbers, &users, true);
     }
 
-    fn starts(&mut self, numbers: [u32; 3], users: &[u8], accepted: bool) {
+    pub fn starts(&mut self, numbers: [u32; 3], users: &[u8], accepted: bool) {
+        self.starts_told(self.kind.number(), numbers, users, accepted);
+    }
+
+    pub fn starts_told(&mut self, kind: u32, numbers: [u32; 3], users: &[u8], accepted: bool) {
         let reply = self.stage.serve(Step::Start {
+            kind,
             numbers,
             users: users.to_vec(),
         });
         let wanted = if accepted { 0 } else { 255 + 256 * 13 };
         if reply.map(|reply| reply.answer) != Some(wanted) {
-            self.complain(&format!("Start with {numbers:?}"));
+            self.complain(&format!("Start with {numbers:?}, kind {kind}"));
         }
     }
 
-    fn complain(&mut self, what: &str) {
+    /// An empty drive of so many blocks, two of them the directory's.
+    fn empty(&self, blocks: usize) -> Book {
+        Book::of(self.kind, blocks)
+    }
+
+    /// How many records a block has.
+    fn size(&self) -> u32 {
+        self.kind.records_per_block()
+    }
+
+    pub fn complain(&mut self, what: &str) {
         self.stage.complain(format!("{}: {what}", self.case));
     }
 
-    fn call(&mut self, process: u32, function: u32, fcb: Fcb) -> Asked<'_, 'a> {
+    pub fn call(&mut self, process: u32, function: u32, fcb: Fcb) -> Asked<'_, 'a> {
+        let kind = self.kind.number();
         Asked {
             script: self,
             numbers: Numbers {
+                kind,
                 function,
                 process,
                 count: 1,
@@ -190,25 +259,46 @@ impl<'a> Script<'a> {
         }
     }
 
-    fn check(&mut self, wanted: u32) {
-        let reply = self.stage.serve(Step::Check);
+    pub fn check(&mut self, wanted: u32) {
+        self.check_told(self.kind.number(), wanted);
+    }
+
+    pub fn check_told(&mut self, kind: u32, wanted: u32) {
+        let reply = self.stage.serve(Step::Check { kind });
         if reply.map(|reply| reply.answer) != Some(wanted) {
-            self.complain(&format!("check does not give {wanted}"));
+            self.complain(&format!("check of kind {kind} does not give {wanted}"));
         }
     }
 
-    fn look(&mut self, user: u32, name: &[u8], record: u32, wanted: u32) {
+    pub fn look(&mut self, user: u32, name: &[u8], record: u32, wanted: usize) {
+        self.look_told(self.kind.number(), user, name, record, wanted);
+    }
+
+    pub fn look_told(&mut self, kind: u32, user: u32, name: &[u8], record: u32, wanted: usize) {
         let reply = self.stage.serve(Step::Look {
+            kind,
             user,
             name: name.to_vec(),
             record,
         });
-        if reply.map(|reply| reply.answer) != Some(wanted) {
-            self.complain(&format!("look at {record} does not give {wanted}"));
+        if reply.map(|reply| reply.answer as usize) != Some(wanted) {
+            self.complain(&format!("look at {record}, kind {kind}, does not give {wanted}"));
         }
     }
 
-    fn image_has(&mut self, at: usize, bytes: &[u8]) {
+    /// This record of this block is full of this byte.
+    fn record_has(&mut self, block: u16, place: u32, byte: u8) {
+        let at = self.book.record_at(block, place);
+        self.image_has(at, &[byte; 128]);
+    }
+
+    /// The entry has this count and these block numbers, and no others.
+    fn entry_has(&mut self, slot: usize, count: u8, blocks: &[(usize, u16)]) {
+        let wanted = self.book.entry(Entry([0; 32]).count(count), blocks);
+        self.image_has(32 * slot + 15, &wanted.0[15..]);
+    }
+
+    pub fn image_has(&mut self, at: usize, bytes: &[u8]) {
         let there = &self.stage.image()[at..at + bytes.len()];
         let differing = (at..)
             .zip(there.iter().zip(bytes))
@@ -219,7 +309,7 @@ impl<'a> Script<'a> {
         }
     }
 
-    fn list_has(&mut self, place: usize, item: [u8; 20]) {
+    pub fn list_has(&mut self, place: usize, item: [u8; 20]) {
         if crate::build::item_at(self.stage.list(), place) != item {
             self.complain(&format!("place {place} is not {item:?}"));
         }
@@ -243,60 +333,51 @@ fn other() -> Fcb {
 }
 
 /// Two files without blocks.
-fn two_files() -> Vec<u8> {
-    image_with(6, &[Entry::named(FILE), Entry::named(OTHER)])
+fn two_files(kind: Kind) -> Book {
+    Book::of(kind, 6).with(&[(Entry::named(FILE), &[]), (Entry::named(OTHER), &[])])
 }
 
-/// A file with blocks for records 0 to 7, 16 to 23 and 4,096 to 4,103; the rest of the drive free.
-fn one_file(blocks: usize) -> Vec<u8> {
-    let first = Entry::named(FILE).count(4).block(0, 2).block(2, 3);
-    let later = Entry::named(FILE).extent(32).block(0, 4);
-    image_with(
-        blocks,
-        &[first.attribute(2).with(13, 9), later.attribute(3).with(13, 8)],
-    )
-}
-
-fn full_directory(blocks: usize) -> Vec<u8> {
-    let mut image = one_file(blocks);
-    for slot in 2..64 {
-        let filler = Entry::of(9, name("FILLER"), slot as u32 - 2);
-        crate::build::put_entry(&mut image, slot, filler);
-    }
-    image
+/// A file with a block for its first records, one for those behind the next block's, and one for
+/// the records from 4,096 on; the rest of the drive free.
+fn one_file(kind: Kind, blocks: usize) -> Book {
+    let first = Entry::named(FILE).count(4).attribute(2).with(13, 9);
+    let later = Entry::named(FILE).extent(32).attribute(3).with(13, 8);
+    Book::of(kind, blocks).with(&[(first, &[(0, 2), (2, 3)]), (later, &[(0, 4)])])
 }
 
 fn session(script: &mut Script) {
     let orders = |record: u32| Fcb::named("ORDERS.DAT").unlocked().record(record);
     let orders_name = name("ORDERS.DAT");
-    script.world(&empty_image(4), [3, 2, 2]);
+    let size = script.size();
+    script.world(&script.empty(4), [3, 2, 2]);
     script.call(1, 22, orders(0)).ok();
     script.list_has(0, open_item(1, orders_name, 1));
     script.call(2, 15, orders(0)).ok();
     script.list_has(1, open_item(2, orders_name, 1));
     script.call(1, 34, orders(0)).ok();
-    script.image_has(15, &[1, 2, 0]);
+    script.entry_has(0, 1, &[(0, 2)]);
     script.call(1, 42, orders(0)).ok();
     script.list_has(2, lock_item(1, orders_name, 0));
     script.call(2, 34, orders(0)).id(1, 0).gives(8, 0);
-    script.call(2, 34, orders(8)).id(1, 0).ok();
-    script.image_has(15, &[9, 2, 3]);
-    script.call(2, 42, orders(8)).id(1, 0).gives(14, 0);
-    script.call(2, 34, orders(16)).id(1, 0).gives(2, 0);
-    script.call(1, 46, orders(0)).ok();
+    script.call(2, 34, orders(size)).id(1, 0).ok();
+    script.entry_has(0, size as u8 + 1, &[(0, 2), (1, 3)]);
+    script.call(2, 42, orders(size)).id(1, 0).gives(14, 0);
+    script.call(2, 34, orders(2 * size)).id(1, 0).gives(2, 0);
+    script.call(1, 46, orders(0)).tells(0);
     script.call(1, 42, orders(0)).ok();
     script.call(1, 42, orders(0)).count(2).gives(12, 0);
     script.call(1, 143, orders(0)).ok();
     script.list_has(0, [0; 20]);
     script.list_has(2, [0; 20]);
-    script.call(2, 42, orders(8)).id(1, 0).ok();
-    script.list_has(0, lock_item(2, orders_name, 8));
+    script.call(2, 42, orders(size)).id(1, 0).ok();
+    script.list_has(0, lock_item(2, orders_name, size));
     script.call(2, 19, orders(0)).id(1, 0).gives(255, 5);
 }
 
 fn open_again(script: &mut Script) {
+    let two_files = two_files(script.kind);
     for fcb in [file(), shared(), file().read_only(), shared().read_only()] {
-        script.world(&two_files(), [1, 1, 1]);
+        script.world(&two_files, [1, 1, 1]);
         script.call(3, 15, fcb).ok();
         let mut dirty = Fcb([0xFF; 36]);
         dirty.0[..12].copy_from_slice(&fcb.0[..12]);
@@ -305,13 +386,13 @@ fn open_again(script: &mut Script) {
         script.call(4, 15, other()).gives(255, 11);
     }
     // At the open limit, with places left.
-    script.world(&two_files(), [9, 1, 1]);
+    script.world(&two_files, [9, 1, 1]);
     script.call(3, 15, shared()).ok();
     script.call(3, 15, shared().record(77)).ok();
     script.call(3, 15, file()).gives(255, 5);
     script.call(3, 15, other()).gives(255, 10);
     // With a full list, below the open limit.
-    script.world(&two_files(), [2, 9, 1]);
+    script.world(&two_files, [2, 9, 1]);
     script.call(4, 15, shared()).ok();
     script.call(3, 15, shared()).ok();
     script.call(3, 15, shared().record(77)).ok();
@@ -319,21 +400,22 @@ fn open_again(script: &mut Script) {
 }
 
 fn rename_to_itself(script: &mut Script) {
-    script.world(&one_file(6), [9, 9, 9]);
+    script.world(&one_file(script.kind, 6), [9, 9, 9]);
     script.call(0, 23, file().new_name(name(FILE))).gives(255, 8);
     let high = name(FILE).map(|byte| byte | 128);
     script.call(0, 23, file().new_name(high)).gives(255, 8);
     script.call(0, 23, other().new_name(name(OTHER))).gives(255, 0);
     script.call(0, 15, file()).ok();
     script.call(0, 23, file().new_name(name(FILE))).gives(255, 5);
-    let read_only = image_with(6, &[Entry::named(FILE).read_only()]);
+    let read_only = script.empty(6).with(&[(Entry::named(FILE).read_only(), &[])]);
     script.world(&read_only, [9, 9, 9]);
     script.call(0, 23, file().new_name(name(FILE))).gives(255, 3);
 }
 
 fn locks_without_effect(script: &mut Script) {
+    let one_file = one_file(script.kind, 6);
     for fcb in [file(), file().read_only()] {
-        script.world(&one_file(6), [1, 1, 1]);
+        script.world(&one_file, [1, 1, 1]);
         script.call(5, 15, fcb).ok();
         for function in [42, 43] {
             let wild = fcb.with(33, 255).with(34, 255).with(35, 255);
@@ -344,13 +426,13 @@ fn locks_without_effect(script: &mut Script) {
         script.list_has(1, [0; 20]);
     }
     // The mode is that of the open, not of the FCB.
-    script.world(&one_file(6), [9, 1, 1]);
+    script.world(&one_file, [9, 1, 1]);
     script.call(5, 15, shared()).ok();
     script.call(5, 42, file().read_only()).id(9, 9).gives(13, 0);
 }
 
 fn lock_limit(script: &mut Script) {
-    script.world(&one_file(6), [64, 2, 4]);
+    script.world(&one_file(script.kind, 6), [64, 2, 4]);
     script.call(0, 15, shared()).ok();
     script.call(0, 42, shared()).count(2).ok();
     script.call(0, 42, shared()).count(3).gives(12, 0);
@@ -361,7 +443,8 @@ fn lock_limit(script: &mut Script) {
     script.call(0, 42, shared().record(7)).count(1).ok();
     script.call(0, 42, shared()).count(1).gives(12, 0);
     // Records held in another file count too.
-    script.world(&image_with(6, &[Entry::named(FILE).block(0, 2)]), [64, 2, 1]);
+    let book = script.empty(6).with(&[(Entry::named(FILE), &[(0, 2)])]);
+    script.world(&book, [64, 2, 1]);
     script.call(0, 22, other().unlocked()).ok();
     script.call(0, 34, other()).ok();
     script.call(0, 42, other()).ok();
@@ -370,10 +453,14 @@ fn lock_limit(script: &mut Script) {
 }
 
 fn no_free_block(script: &mut Script) {
+    let size = script.size();
     for function in [34, 40] {
-        script.world(&one_file(5), [9, 9, 9]);
+        script.world(&one_file(script.kind, 5), [9, 9, 9]);
         script.call(0, 15, shared()).ok();
-        script.call(0, function, shared().record(8)).fill(1).gives(2, 0);
+        script
+            .call(0, function, shared().record(size))
+            .fill(1)
+            .gives(2, 0);
         script.call(0, function, shared().record(128)).fill(1).gives(2, 0);
         script.image_has(64, &[0xE5; 32]);
         script.call(0, function, shared().record(7)).fill(1).ok();
@@ -381,121 +468,74 @@ fn no_free_block(script: &mut Script) {
 }
 
 fn no_empty_entry(script: &mut Script) {
+    let size = script.size();
     for function in [34, 40] {
-        script.world(&full_directory(6), [9, 9, 9]);
+        script.world(&one_file(script.kind, 6).crowded(None), [9, 9, 9]);
         script.call(0, 15, shared()).ok();
         script.call(0, function, shared().record(128)).fill(1).gives(5, 0);
-        script.call(0, 46, file()).ok();
+        script.call(0, 46, file()).tells(size);
         script.call(0, function, shared().record(127)).fill(1).ok();
         script.call(0, function, shared().record(128)).fill(1).gives(5, 0);
-        script.call(0, function, shared().record(119)).fill(1).gives(2, 0);
+        let before_it = shared().record(127 - size);
+        script.call(0, function, before_it).fill(1).gives(2, 0);
     }
 }
 
 fn zero_fill(script: &mut Script) {
+    let size = script.size();
     for (function, rest) in [(34, 0xE5), (40, 0)] {
-        script.world(&one_file(7), [9, 9, 9]);
+        script.world(&one_file(script.kind, 7), [9, 9, 9]);
         script.call(0, 15, shared()).ok();
         // A new block in an extent that is there, then one in a new extent, then both again.
-        for (record, block) in [(11, 5), (130, 6)] {
+        for (record, block) in [(size + 3, 5), (128 + size - 2, 6)] {
             let fcb = shared().record(record);
-            let place = (record % 8) as usize;
+            let place = record % size;
             script.call(0, function, fcb).fill(0x77).ok();
-            for i in 0..8 {
+            for i in 0..size {
                 let byte = if i == place { 0x77 } else { rest };
-                script.image_has(1024 * block + 128 * i, &[byte; 128]);
+                script.record_has(block, i, byte);
             }
             let next = shared().record(record + 1);
             script.call(0, 74 - function, next).fill(0x78).ok();
-            script.image_has(1024 * block + 128 * place, &[0x77; 128]);
-            script.image_has(1024 * block + 128 * (place + 1), &[0x78; 128]);
-            script.image_has(1024 * block, &[rest; 128]);
+            script.record_has(block, place, 0x77);
+            script.record_has(block, place + 1, 0x78);
+            script.record_has(block, 0, rest);
         }
     }
 }
 
 fn count_raised(script: &mut Script) {
-    let mut image = one_file(6);
-    image[2048..3072].fill(0x11);
-    script.world(&image, [9, 9, 9]);
+    script.world(&one_file(script.kind, 6).filled(2, 0x11), [9, 9, 9]);
     script.call(0, 15, shared()).ok();
     for (record, count) in [(0, 4), (3, 4), (4, 5), (7, 8), (5, 8)] {
         let fcb = shared().record(record);
         script.call(0, 41, fcb).records(0x11, 0x22).ok();
-        script.image_has(15, &[count]);
+        script.entry_has(0, count, &[(0, 2), (2, 3)]);
         script.call(0, 41, fcb).records(0x11, 0x22).gives(7, 0);
         script.call(0, 41, fcb).records(0x22, 0x11).ok();
     }
 }
 
-fn most_blocks(script: &mut Script) {
-    for (blocks, sound) in [(256, true), (257, false)] {
-        script.world(&empty_image(blocks), [9, 9, 9]);
-        script.check(if sound { 0 } else { 1 });
-        for (function, fcb) in [
-            (46, file()),
-            (22, shared()),
-            (34, shared()),
-            (40, shared().record(262_143)),
-        ] {
-            match sound {
-                true => script.call(0, function, fcb).ok(),
-                false => script.call(0, function, fcb).gives(255, 1),
-            }
-        }
-    }
-    // All blocks but the last are taken; the last is 255.
-    let mut entries = vec![Entry::named(FILE)];
-    let mut blocks = 2..255;
-    for extent in 0..16 {
-        let mut entry = Entry::of(0, name(OTHER), extent);
-        for (index, block) in (0..16).zip(&mut blocks) {
-            entry = entry.block(index, block);
-        }
-        entries.push(entry);
-    }
-    script.world(&image_with(256, &entries), [9, 9, 9]);
-    script.call(0, 46, file()).fill(0xEE).ok();
-    script.call(0, 15, shared()).ok();
-    script.call(0, 40, shared().record(3)).fill(0x44).ok();
-    script.image_has(16, &[255]);
-    script.call(0, 34, shared().record(8)).gives(2, 0);
-    script.call(0, 46, file()).fill(0xEE).ok();
-    script.call(0, 33, shared().record(3)).ok();
-    script.call(0, 42, shared()).count(8).ok();
-    script.call(1, 19, other()).ok();
-    script.call(1, 46, file()).fill(0xEE).ok();
-    script.look(0, &name(FILE), 3, 255 * 1024 + 3 * 128);
-}
-
-fn fewest_blocks(script: &mut Script) {
-    script.world(&empty_image(2), [9, 9, 9]);
-    script.check(1);
-    script.call(0, 46, file()).gives(255, 1);
-    script.world(&empty_image(3), [9, 9, 9]);
-    script.check(0);
-    script.call(0, 22, shared()).ok();
-    script.call(0, 34, shared()).ok();
-    script.call(0, 34, shared().record(8)).gives(2, 0);
-    script.call(0, 46, shared()).fill(0xEE).ok();
-    script.world(&[], [9, 9, 9]);
-    script.check(1);
-    script.call(0, 46, file()).gives(255, 1);
-}
-
 fn last_record(script: &mut Script) {
-    script.world(&empty_image(4), [64, 9, 64]);
+    let size = script.size();
+    script.world(&script.empty(4), [64, 9, 64]);
     let last = shared().record(262_143);
     script.call(0, 22, shared()).ok();
     script.call(0, 34, last).fill(0x66).ok();
-    script.image_has(32 + 12, &[31, 0, 63, 128]);
-    script.image_has(32 + 31, &[2]);
+    script.image_has(32 + 12, &[31, 0, 63]);
+    script.entry_has(1, 128, &[(script.kind.numbers_per_entry() - 1, 2)]);
+    script.record_has(2, size - 1, 0x66);
     script.call(0, 33, last).ok();
     script.call(0, 42, last).ok();
     script.call(0, 42, last).count(2).gives(6, 0);
     script.call(0, 43, last).count(2).gives(6, 0);
-    script.call(0, 42, shared().record(262_136)).count(8).ok();
-    script.call(0, 42, shared().record(262_135)).count(9).gives(1, 0);
+    let first_of_block = 262_144 - size;
+    script
+        .call(0, 42, shared().record(first_of_block))
+        .count(size)
+        .ok();
+    let before_it = shared().record(first_of_block - 1);
+    script.call(0, 42, before_it).count(2).gives(1, 0);
     for function in [33, 34, 40, 41, 42, 43] {
         script.call(0, function, shared().record(262_144)).gives(6, 0);
         script.call(0, function, shared().with(35, 255)).gives(6, 0);
@@ -504,21 +544,27 @@ fn last_record(script: &mut Script) {
 }
 
 fn whole_numbers(script: &mut Script) {
-    script.world(&one_file(6), [9, 9, 9]);
+    script.world(&one_file(script.kind, 6), [9, 9, 9]);
+    let kind = script.kind.number();
     for beyond in [256, 65_536, 1 << 24, 1 << 31] {
         script.call(0, 15 + beyond, file()).gives(255, 13);
         script.call(beyond, 15, file()).gives(255, 13);
         script.call(0, 15, file()).count(1 + beyond).gives(255, 13);
+        script.call(0, 15, file()).kind(kind + beyond).gives(255, 13);
         script.starts([5 + beyond, 5, 5], &[0; 16], false);
         script.starts([5, 5 + beyond, 5], &[0; 16], false);
         script.starts([5, 5, 5 + beyond], &[0; 16], false);
+        script.starts_told(kind + beyond, [5, 5, 5], &[0; 16], false);
         script.look(beyond, &name(FILE), 0, 0);
+        script.look_told(kind + beyond, 0, &name(FILE), 0, 0);
+        script.check_told(kind + beyond, 1);
     }
     script.look(0, &name(FILE), 262_144, 0);
     script.look(0, &name(FILE), 1 << 24, 0);
     for function in 0..256 {
         if !FUNCTIONS.contains(&function) {
             script.call(0, function, file()).gives(255, 13);
+            script.call(0, function, file()).kind(2).gives(255, 13);
         }
     }
     for count in [0, 17, 255] {
@@ -530,7 +576,7 @@ fn whole_numbers(script: &mut Script) {
 }
 
 fn start_edges(script: &mut Script) {
-    script.world(&empty_image(3), [9, 9, 9]);
+    script.world(&script.empty(3), [9, 9, 9]);
     for number in [0, 1, 64, 65] {
         let accepted = (1..=64).contains(&number);
         script.starts([number, 9, 9], &[0; 16], accepted);
@@ -551,8 +597,9 @@ fn start_edges(script: &mut Script) {
 
 fn common_refusals(script: &mut Script) {
     let wrong_drive = file().with(0, 2);
+    let two_files = two_files(script.kind);
     for function in FUNCTIONS {
-        script.world(&two_files(), [9, 9, 9]);
+        script.world(&two_files, [9, 9, 9]);
         let spare = [function == 46, function == 143].contains(&true);
         match spare {
             true => script.call(0, function, wrong_drive).ok(),
@@ -571,9 +618,14 @@ fn common_refusals(script: &mut Script) {
         script.call(0, function, wrong_drive).count(16).gives(255, 1);
         script.stage.serve(Step::Image { length: 5, fill: 0 });
         script.call(0, function, wrong_drive).gives(255, 1);
+        let other_kind = script.kind.other();
+        let length = other_kind.fewest_blocks() * other_kind.block();
+        script.stage.serve(Step::Image { length, fill: 0xE5 });
+        script.call(0, function, wrong_drive).gives(255, 1);
         script.call(16, function, wrong_drive).gives(255, 13);
         script.call(0, function, wrong_drive).count(0).gives(255, 13);
         script.call(0, function, wrong_drive).count(17).gives(255, 13);
+        script.call(0, function, wrong_drive).kind(2).gives(255, 13);
         for (fcb, dma) in [
             (35, 2_048),
             (37, 2_048),
@@ -599,16 +651,16 @@ fn common_refusals(script: &mut Script) {
 
 /// Several files, users and holders, so that every rule can be broken.
 fn rich_world(script: &mut Script) {
-    let entries = [
-        Entry::named(FILE).count(16).block(0, 2).block(1, 3),
-        Entry::named(OTHER).block(0, 4),
-        Entry::named("QUIET"),
-        Entry::of(15, name(FILE), 0).block(0, 5),
-        Entry::named(OTHER).extent(5).block(3, 6),
-    ];
+    let book = script.empty(9).with(&[
+        (Entry::named(FILE).count(16), &[(0, 2), (1, 3)]),
+        (Entry::named(OTHER), &[(0, 4)]),
+        (Entry::named("QUIET"), &[]),
+        (Entry::of(15, name(FILE), 0), &[(0, 5)]),
+        (Entry::named(OTHER).extent(5), &[(3, 6)]),
+    ]);
     let mut users = [0; 16];
     users[9] = 15;
-    script.world_of(&image_with(9, &entries), [12, 3, 3], users);
+    script.world_of(&book, [12, 3, 3], users);
     let items = [
         lock_item(1, name(FILE), 7),
         open_item(2, name(FILE), 1),
@@ -632,45 +684,67 @@ fn rich_world(script: &mut Script) {
     script.call(0, 46, file()).ok();
 }
 
+/// The halves in which a drive of this kind has entries.
+fn halves(kind: Kind, rule: ImageRule) -> &'static [Half] {
+    match (kind, rule) {
+        (Kind::First, _) | (_, ImageRule::Length) => &[Half::Lower],
+        (Kind::Second, _) => &[Half::Lower, Half::Upper],
+    }
+}
+
 fn damaged_images(script: &mut Script) {
     rich_world(script);
     let image = script.stage.image().to_vec();
     for rule in ImageRule::ALL {
-        let damaged = match rule {
-            ImageRule::Length => Some(image[..image.len() - 1].to_vec()),
-            _ => break_directory(rule, &image, script.random).map(|mut directory| {
-                directory.extend(&image[2048..]);
-                directory
-            }),
-        };
-        let Some(damaged) = damaged else {
-            script.complain(&format!("{rule:?} cannot be broken"));
-            continue;
-        };
-        script.stage.coverage.note_image_rule(rule);
-        script.stage.damaged();
-        script.stage.set_image(&damaged, 0xE5);
-        script.check(if rule == ImageRule::Length { 1 } else { 2 });
-        script.look(0, &name(FILE), 0, 0);
-        for function in FUNCTIONS {
-            script.call(1, function, file()).gives(255, 1);
+        for half in halves(script.kind, rule) {
+            damaged_image(script, &image, rule, *half);
         }
-        script.stage.set_image(&image, 0xE5);
-        script.stage.repaired();
     }
     script.call(0, 46, file()).ok();
+}
+
+/// The image's beginning with this rule broken, by an entry of this half.
+fn break_in_half(script: &mut Script, image: &[u8], rule: ImageRule, half: Half) -> Option<Vec<u8>> {
+    const TRIES: usize = 200;
+    let kind = script.kind;
+    let mut damages = (0..TRIES).filter_map(|_| break_directory(rule, kind, image, script.random));
+    damages.find(|damaged| half_damaged(&image[..damaged.len()], damaged) == half)
+}
+
+fn damaged_image(script: &mut Script, image: &[u8], rule: ImageRule, half: Half) {
+    let damaged = match rule {
+        ImageRule::Length => Some(image[..image.len() - 1].to_vec()),
+        _ => break_in_half(script, image, rule, half).map(|mut directory| {
+            directory.extend(&image[directory.len()..]);
+            directory
+        }),
+    };
+    let Some(damaged) = damaged else {
+        script.complain(&format!("{rule:?} cannot be broken"));
+        return;
+    };
+    script.stage.coverage.note_image_rule(script.kind, rule, half);
+    script.stage.damaged();
+    script.stage.set_image(&damaged, 0xE5);
+    script.check(if rule == ImageRule::Length { 1 } else { 2 });
+    script.look(0, &name(FILE), 0, 0);
+    for function in FUNCTIONS {
+        script.call(1, function, file()).gives(255, 1);
+    }
+    script.stage.set_image(image, 0xE5);
+    script.stage.repaired();
 }
 
 fn damaged_lists(script: &mut Script) {
     rich_world(script);
     let (list, image) = (script.stage.list().to_vec(), script.stage.image().to_vec());
     for rule in ListRule::ALL {
-        let damaged = (0..20).find_map(|_| break_list(rule, &list, &image, script.random));
+        let damaged = (0..20).find_map(|_| break_list(rule, script.kind, &list, &image, script.random));
         let Some(damaged) = damaged else {
             script.complain(&format!("{rule:?} cannot be broken"));
             continue;
         };
-        script.stage.coverage.note_list_rule(rule);
+        script.stage.coverage.note_list_rule(script.kind, rule);
         script.stage.damaged();
         script.stage.set_list(&damaged);
         for function in FUNCTIONS {
@@ -683,7 +757,8 @@ fn damaged_lists(script: &mut Script) {
 }
 
 fn rows_of_open(script: &mut Script) {
-    script.world(&two_files(), [4, 2, 2]);
+    let two_files = two_files(script.kind);
+    script.world(&two_files, [4, 2, 2]);
     for bad in ILLEGAL {
         script.call(0, 15, Fcb::named(bad)).gives(255, 9);
     }
@@ -698,7 +773,7 @@ fn rows_of_open(script: &mut Script) {
     script.call(3, 15, other().unlocked().read_only()).ok();
     script.call(4, 15, other().unlocked()).gives(255, 5);
     script.call(4, 15, other().read_only()).gives(255, 11);
-    script.world(&two_files(), [4, 1, 2]);
+    script.world(&two_files, [4, 1, 2]);
     script.call(0, 15, file()).ok();
     script.call(1, 15, file()).gives(255, 5);
     script.call(0, 15, other()).gives(255, 10);
@@ -707,7 +782,7 @@ fn rows_of_open(script: &mut Script) {
 }
 
 fn rows_of_make_and_close(script: &mut Script) {
-    script.world(&two_files(), [3, 1, 1]);
+    script.world(&two_files(script.kind), [3, 1, 1]);
     for bad in ILLEGAL {
         script.call(0, 22, Fcb::named(bad)).gives(255, 9);
         script.call(0, 16, Fcb::named(bad)).gives(255, 6);
@@ -729,21 +804,22 @@ fn rows_of_make_and_close(script: &mut Script) {
     script.list_has(0, open_item(0, name("NEW"), 0));
     script.list_has(1, [0; 20]);
     script.list_has(2, [0; 20]);
-    script.world(&full_directory(6), [1, 1, 1]);
+    script.world(&one_file(script.kind, 6).crowded(None), [1, 1, 1]);
     script.call(0, 22, Fcb::named("NEW")).gives(255, 0);
     script.call(0, 15, file()).ok();
     script.call(1, 22, Fcb::named("NEW")).gives(255, 11);
 }
 
 fn rows_of_delete(script: &mut Script) {
-    let entries = [
-        Entry::named(FILE).read_only(),
-        Entry::named(OTHER).attribute(1),
-        Entry::named(OTHER).extent(9).block(0, 2).read_only(),
-        Entry::named("THIRD"),
-        Entry::of(1, name(OTHER), 0),
-    ];
-    script.world(&image_with(6, &entries), [9, 9, 9]);
+    let book = script.empty(6).with(&[
+        (Entry::named(FILE).read_only(), &[]),
+        (Entry::named(OTHER).attribute(1), &[]),
+        (Entry::named(OTHER).extent(9).read_only(), &[(0, 2)]),
+        (Entry::named("THIRD"), &[]),
+        (Entry::of(1, name(OTHER), 0), &[]),
+    ]);
+    let size = script.size();
+    script.world(&book, [9, 9, 9]);
     for bad in ILLEGAL {
         script.call(0, 19, Fcb::named(bad)).gives(255, 9);
     }
@@ -755,22 +831,24 @@ fn rows_of_delete(script: &mut Script) {
     script.call(0, 15, file()).ok();
     script.call(1, 19, file()).gives(255, 5);
     script.call(0, 16, other()).ok();
+    script.call(0, 46, other()).tells(3 * size);
     script.call(1, 19, other()).ok();
+    script.call(0, 46, other()).tells(4 * size);
     script.call(1, 19, other()).gives(255, 0);
     script.call(1, 19, Fcb::named("THIRD")).ok();
     script.image_has(128, &[1]);
 }
 
 fn rows_of_rename(script: &mut Script) {
-    let entries = [
-        Entry::named(FILE).read_only(),
-        Entry::named(OTHER).attribute(1).with(13, 5),
-        Entry::named(OTHER).extent(9).block(0, 2).read_only(),
-        Entry::named("THIRD"),
-        Entry::of(1, name("FOURTH"), 0),
-    ];
+    let book = script.empty(6).with(&[
+        (Entry::named(FILE).read_only(), &[]),
+        (Entry::named(OTHER).attribute(1).with(13, 5), &[]),
+        (Entry::named(OTHER).extent(9).read_only(), &[(0, 2)]),
+        (Entry::named("THIRD"), &[]),
+        (Entry::of(1, name("FOURTH"), 0), &[]),
+    ]);
     let to = |fcb: Fcb, text: &str| fcb.new_name(name(text));
-    script.world(&image_with(6, &entries), [9, 9, 9]);
+    script.world(&book, [9, 9, 9]);
     for bad in ILLEGAL {
         script.call(0, 23, to(Fcb::named(bad), "NEW")).gives(255, 9);
         script.call(0, 23, to(Fcb::named("NONE"), bad)).gives(255, 9);
@@ -789,7 +867,8 @@ fn rows_of_rename(script: &mut Script) {
 }
 
 fn rows_of_read(script: &mut Script) {
-    script.world(&one_file(6), [64, 9, 9]);
+    let size = script.size();
+    script.world(&one_file(script.kind, 6), [64, 9, 9]);
     script.call(0, 33, shared().record(262_144)).gives(10, 0);
     script.call(0, 33, Fcb::named("")).gives(10, 0);
     script.call(1, 15, shared()).ok();
@@ -799,17 +878,18 @@ fn rows_of_read(script: &mut Script) {
     for record in [128, 4_095, 4_224, 262_143] {
         script.call(0, 33, shared().record(record)).gives(4, 0);
     }
-    for record in [8, 15, 24, 127, 4_104] {
+    for record in [size, 2 * size - 1, 3 * size, 127, 4_096 + size] {
         script.call(0, 33, shared().record(record)).gives(1, 0);
     }
-    for record in [0, 7, 16, 23, 4_096, 4_103] {
+    for record in [0, size - 1, 2 * size, 3 * size - 1, 4_096, 4_095 + size] {
         script.call(0, 33, shared().record(record)).fill(0xCC).ok();
     }
 }
 
 fn rows_of_writing(script: &mut Script) {
-    let mut read_only = one_file(6);
-    read_only[9] |= 128;
+    let (kind, size) = (script.kind, script.size());
+    let mut read_only = one_file(kind, 6);
+    read_only.image[9] |= 128;
     for function in [34, 40, 41] {
         let wild = shared().record(262_144);
         script.world(&read_only, [9, 9, 9]);
@@ -818,7 +898,7 @@ fn rows_of_writing(script: &mut Script) {
         script.call(0, 15, shared()).ok();
         script.call(0, function, wild).gives(255, 3);
         script.call(0, function, shared()).count(16).gives(255, 3);
-        script.world(&one_file(6), [64, 9, 9]);
+        script.world(&one_file(kind, 6), [64, 9, 9]);
         script.call(0, 15, file().read_only()).ok();
         script.call(0, function, wild).gives(255, 3);
         script.call(0, function, shared()).count(16).gives(255, 3);
@@ -832,16 +912,16 @@ fn rows_of_writing(script: &mut Script) {
         script.call(1, function, shared().record(7)).fill(0xE5).ok();
     }
     script.call(0, 41, shared().record(128)).gives(4, 0);
-    script.call(0, 41, shared().record(8)).gives(1, 0);
+    script.call(0, 41, shared().record(size)).gives(1, 0);
     script
-        .call(0, 41, shared().record(16))
+        .call(0, 41, shared().record(2 * size))
         .records(0xE4, 1)
         .gives(7, 0);
     for function in [34, 40] {
-        script.world(&one_file(8), [9, 9, 9]);
+        script.world(&one_file(kind, 8), [9, 9, 9]);
         script.call(0, 15, file()).ok();
         script.call(0, function, file().record(3)).fill(9).ok();
-        script.call(0, function, file().record(15)).fill(8).ok();
+        script.call(0, function, file().record(2 * size - 1)).fill(8).ok();
         script.call(0, function, file().record(129)).fill(7).ok();
         script.call(0, function, file().record(4_095)).fill(6).ok();
     }
@@ -852,68 +932,66 @@ fn byte_of(record: u32) -> u8 {
     (record % 101) as u8
 }
 
-/// Where the records of `way` lie: sixteen before record 48, sixteen before the end of extent 0,
-/// sixteen before the end of module 0 and the last sixteen that there can be. Behind each of them
-/// something is missing: a block, an extent, an extent of the next module, a record number.
-const WAY: [(u32, [usize; 2], [u8; 2]); 4] = [
-    (0, [4, 5], [2, 3]),
-    (0, [14, 15], [4, 5]),
-    (31, [14, 15], [6, 7]),
-    (2_047, [14, 15], [8, 9]),
-];
-const WAY_BLOCKS: usize = 10;
-
+/// Before each of these ends `way` has sixteen records. There something is missing: a block, an
+/// extent, an extent of the next module, a record number.
 const NO_BLOCK: u32 = 48;
 const NO_EXTENT: u32 = 128;
 const NO_MODULE: u32 = 4_096;
 const NO_RECORD: u32 = 262_144;
+const ENDS: [u32; 4] = [NO_BLOCK, NO_EXTENT, NO_MODULE, NO_RECORD];
 
-fn way(blocks: usize) -> Vec<u8> {
-    let extent_0 = Entry::named(FILE)
-        .block(4, 2)
-        .block(5, 3)
-        .block(14, 4)
-        .block(15, 5);
-    let extent_31 = Entry::named(FILE).extent(31).block(14, 6).block(15, 7);
-    let last = Entry::named(FILE).extent(2_047).block(14, 8).block(15, 9);
-    let mut image = image_with(blocks, &[extent_0, extent_31, last]);
-    for (record, at) in way_records() {
-        image[at..at + 128].fill(byte_of(record));
-    }
-    image
+/// The blocks of `way`, from 2 on: the first record of each.
+fn way_firsts(kind: Kind) -> Vec<u32> {
+    let size = kind.records_per_block();
+    ENDS.into_iter()
+        .flat_map(|end| (end - MOST_RECORDS..end).step_by(size as usize))
+        .collect()
 }
 
-/// Each record of `way` and where it lies.
-fn way_records() -> impl Iterator<Item = (u32, usize)> {
-    WAY.into_iter().flat_map(|(extent, indices, blocks)| {
-        (0..16u32).map(move |i| {
-            let half = (i / 8) as usize;
-            let record = 128 * extent + 8 * indices[half] as u32 + i % 8;
-            (record, 1024 * usize::from(blocks[half]) + 128 * (i % 8) as usize)
-        })
-    })
+/// How many blocks a drive needs for `way` alone, the directory's two among them.
+fn way_blocks(kind: Kind) -> usize {
+    2 + way_firsts(kind).len()
 }
 
-/// Where the record of `way` lies; it must be one.
-fn way_at(record: u32) -> usize {
-    way_records()
-        .find(|(is, _)| *is == record)
-        .map_or(0, |(_, at)| at)
+/// The map of an extent of `way`.
+fn way_map(kind: Kind, extent: u32) -> Vec<(usize, u16)> {
+    let size = kind.records_per_block();
+    (2..)
+        .zip(way_firsts(kind))
+        .filter(|(_, first)| first / 128 == extent)
+        .map(|(block, first)| ((first % 128 / size) as usize, block))
+        .collect()
 }
 
-/// The image with no empty entry.
-fn without_entries(mut image: Vec<u8>) -> Vec<u8> {
-    for slot in 0..64 {
-        if image[32 * slot] == 0xE5 {
-            crate::build::put_entry(&mut image, slot, Entry::of(9, name("FILLER"), slot as u32));
+fn way(kind: Kind, blocks: usize) -> Book {
+    let extents = [0, 31, 2_047];
+    let maps = extents.map(|extent| way_map(kind, extent));
+    let entry = |number: usize| Entry::named(FILE).extent(extents[number]);
+    let mut book = Book::of(kind, blocks).with(&[
+        (entry(0), &maps[0][..]),
+        (entry(1), &maps[1][..]),
+        (entry(2), &maps[2][..]),
+    ]);
+    for end in ENDS {
+        for record in end - MOST_RECORDS..end {
+            let at = way_at(&book, kind, record);
+            book.image[at..at + 128].fill(byte_of(record));
         }
     }
-    crate::build::put_entry(&mut image, 63, Entry::of(9, name("FILLER"), 0));
-    image
+    book
+}
+
+/// Where a record of `way` lies.
+fn way_at(book: &Book, kind: Kind, record: u32) -> usize {
+    let size = kind.records_per_block();
+    let number = way_firsts(kind)
+        .iter()
+        .position(|first| (*first..first + size).contains(&record));
+    book.record_at(2 + number.unwrap_or(0) as u16, record % size)
 }
 
 fn reads_that_stop(script: &mut Script) {
-    script.world(&way(WAY_BLOCKS), [9, 9, 9]);
+    script.world(&way(script.kind, way_blocks(script.kind)), [9, 9, 9]);
     script.call(0, 15, shared()).ok();
     script.call(1, 15, shared()).ok();
     script.call(1, 42, shared().record(120)).id(1, 0).count(5).ok();
@@ -941,11 +1019,12 @@ fn reads_that_stop(script: &mut Script) {
 }
 
 fn writes_that_stop(script: &mut Script) {
-    let no_block = way(WAY_BLOCKS);
-    let no_entry = without_entries(way(WAY_BLOCKS + 1));
-    let neither = without_entries(way(WAY_BLOCKS));
+    let blocks = way_blocks(script.kind);
+    let no_block = way(script.kind, blocks);
+    let no_entry = way(script.kind, blocks + 1).crowded(None);
+    let neither = way(script.kind, blocks).crowded(None);
     for function in [34, 40] {
-        for (image, end, code) in [
+        for (book, end, code) in [
             (&no_block, NO_BLOCK, 2),
             (&no_block, NO_EXTENT, 2),
             (&no_block, NO_MODULE, 2),
@@ -955,7 +1034,7 @@ fn writes_that_stop(script: &mut Script) {
             (&neither, NO_EXTENT, 5),
             (&neither, NO_MODULE, 5),
         ] {
-            stops(script, function, image, end, code);
+            stops(script, function, book, end, code);
         }
         // Another's lock on the last record that has a block; the fifteen before it are free.
         for done in 0..MOST_RECORDS {
@@ -969,22 +1048,21 @@ fn writes_that_stop(script: &mut Script) {
 }
 
 /// Runs towards `end`, each on a fresh image, of which 0 to 15 records are done.
-fn stops(script: &mut Script, function: u32, image: &[u8], end: u32, code: u8) {
+fn stops(script: &mut Script, function: u32, book: &Book, end: u32, code: u8) {
     for done in 0..MOST_RECORDS {
-        script.world(image, [9, 9, 9]);
+        script.world(book, [9, 9, 9]);
         script.call(0, 15, shared()).ok();
         stop_after(script, function, end, code, done);
     }
 }
 
 fn stop_after(script: &mut Script, function: u32, end: u32, code: u8, done: u32) {
-    let before = script.stage.image().to_vec();
+    let mut wanted = script.stage.image().to_vec();
     let first = end - done;
     let call = script.call(0, function, shared().record(first));
     call.count(16).rising(0xC0).gives(code, 16 * done as u8);
-    let mut wanted = before;
     for record in first..end {
-        let at = way_at(record);
+        let at = way_at(&script.book, script.kind, record);
         wanted[at..at + 128].fill(0xC0 + (record - first) as u8);
     }
     if done > 0 {
@@ -1009,29 +1087,32 @@ fn raise_way_counts(image: &mut [u8], last: u32) {
 
 /// Records behind the refused one could be done, were they asked for alone.
 fn nothing_behind_a_refusal(script: &mut Script) {
-    let mut image = one_file(5);
-    image[2048..].fill(0x11);
+    let size = script.size();
+    let book = one_file(script.kind, 5).filled(2, 0x11).filled(3, 0x11);
     for function in [34, 40] {
-        script.world(&image, [9, 9, 9]);
+        script.world(&book, [9, 9, 9]);
         script.call(0, 15, shared()).ok();
         script.call(1, 15, shared()).ok();
-        let call = script.call(0, 33, shared().record(4)).count(16).rising(0xC0);
+        let last_four = shared().record(size - 4);
+        let call = script.call(0, 33, last_four).count(16).rising(0xC0);
         call.reads(1, 16 * 4, &[0x11; 4]);
-        let call = script.call(0, function, shared().record(4)).count(16);
+        let call = script.call(0, function, last_four).count(16);
         call.rising(0x40).gives(2, 16 * 4);
-        script.image_has(2048 + 7 * 128, &[0x43; 128]);
-        script.image_has(3072, &[0x11; 1024]);
+        script.record_has(2, size - 1, 0x43);
+        for place in 0..size {
+            script.record_has(3, place, 0x11);
+        }
         script
-            .call(0, function, shared().record(16))
+            .call(0, function, shared().record(2 * size))
             .count(8)
             .fill(0x11)
             .ok();
         script.call(1, 42, shared().record(3)).id(1, 0).ok();
         let call = script.call(0, function, shared()).count(8);
         call.rising(0x60).gives(8, 16 * 3);
-        script.image_has(2048 + 2 * 128, &[0x62; 128]);
-        script.image_has(2048 + 3 * 128, &[0x11; 128]);
-        script.image_has(2048 + 4 * 128, &[0x40; 128]);
+        script.record_has(2, 2, 0x62);
+        script.record_has(2, 3, 0x11);
+        script.record_has(2, size - 4, 0x40);
         script
             .call(0, function, shared().record(4))
             .count(4)
@@ -1041,96 +1122,116 @@ fn nothing_behind_a_refusal(script: &mut Script) {
 }
 
 fn last_block_of_a_run(script: &mut Script) {
+    let size = script.size();
     for (function, rest) in [(34, 0xE5), (40, 0)] {
-        // Blocks 2 and 3 are free. Records 5 to 7 take the one, 8 to 15 the other; 16 gets none.
-        script.world(&empty_image(4), [9, 9, 9]);
+        // Block 2 alone is free. The last five records of the first block get it; the next none.
+        script.world(&script.empty(3), [9, 9, 9]);
         script.call(0, 22, shared()).ok();
-        let call = script.call(0, function, shared().record(5));
-        call.count(16).rising(0x40).gives(2, 16 * 11);
-        script.image_has(15, &[16, 2, 3, 0]);
-        script.image_has(2048, &[rest; 5 * 128]);
-        for (i, byte) in (5..16).zip(0x40..) {
-            script.image_has(2048 + 128 * i, &[byte; 128]);
+        let call = script.call(0, function, shared().record(size - 5));
+        call.count(16).rising(0x40).gives(2, 16 * 5);
+        script.entry_has(0, size as u8, &[(0, 2)]);
+        for place in 0..size - 5 {
+            script.record_has(2, place, rest);
+        }
+        for (place, byte) in (size - 5..size).zip(0x40..) {
+            script.record_has(2, place, byte);
         }
         // At the end of an extent the next one would need an entry, and that is free.
-        script.world(&empty_image(3), [9, 9, 9]);
+        script.world(&script.empty(3), [9, 9, 9]);
         script.call(0, 22, shared()).ok();
         let call = script.call(0, function, shared().record(122));
         call.count(16).rising(0x40).gives(2, 16 * 6);
-        script.image_has(15, &[128]);
-        script.image_has(31, &[2]);
+        script.entry_has(0, 128, &[(script.kind.numbers_per_entry() - 1, 2)]);
         script.image_has(32, &[0xE5; 32]);
-        script.call(0, 46, shared()).ok();
-        script.call(0, function, shared().record(120)).count(8).ok();
+        script.call(0, 46, shared()).tells(0);
+        let whole_block = shared().record(128 - size);
+        script.call(0, function, whole_block).count(size).ok();
     }
 }
 
 fn last_entry_of_a_run(script: &mut Script) {
+    let (kind, size) = (script.kind, script.size());
+    let taken = way_blocks(kind) as u16;
     for function in [34, 40] {
         // Extent 1 takes the last empty entry; for extent 2 there is none.
-        let mut image = without_entries(way(WAY_BLOCKS + 4));
-        image[32 * 5] = 0xE5;
-        script.world(&image, [9, 9, 9]);
+        script.world(&way(kind, usize::from(taken) + 4).crowded(Some(5)), [9, 9, 9]);
         script.call(0, 15, shared()).ok();
         let call = script.call(0, function, shared().record(250));
         call.count(16).rising(0x40).gives(5, 16 * 6);
-        script.image_has(32 * 5 + 12, &[1, 0, 0, 128]);
-        script.image_has(32 * 5 + 31, &[10]);
-        script.image_has(1024 * 10 + 128 * 2, &[0x40; 128]);
-        script.image_has(1024 * 10 + 128 * 7, &[0x45; 128]);
-        script.call(0, 46, shared()).ok();
+        script.image_has(32 * 5 + 12, &[1, 0, 0]);
+        script.entry_has(5, 128, &[(kind.numbers_per_entry() - 1, taken)]);
+        script.record_has(taken, 250 % size, 0x40);
+        script.record_has(taken, size - 1, 0x45);
+        script.call(0, 46, shared()).tells(3 * size);
         // A run over two extents that are both missing takes an entry and a block for each.
-        script.world(&empty_image(9), [9, 9, 9]);
+        script.world(&script.empty(9), [9, 9, 9]);
         script.call(0, 22, shared()).ok();
         script
             .call(0, function, shared().record(4_090))
             .count(16)
             .rising(0x40)
             .ok();
-        script.image_has(32 + 12, &[31, 0, 0, 128]);
-        script.image_has(32 + 31, &[2]);
-        script.image_has(64 + 12, &[0, 0, 1, 10, 3, 4, 0]);
-        script.image_has(2048 + 7 * 128, &[0x45; 128]);
-        script.image_has(3072, &[0x46; 128]);
-        script.image_has(4096 + 128, &[0x4F; 128]);
+        script.image_has(32 + 12, &[31, 0, 0]);
+        script.entry_has(1, 128, &[(kind.numbers_per_entry() - 1, 2)]);
+        script.image_has(64 + 12, &[0, 0, 1]);
+        // The ten records from 4,096 on need two blocks of eight or one of sixteen.
+        let map: &[(usize, u16)] = match kind {
+            Kind::First => &[(0, 3), (1, 4)],
+            Kind::Second => &[(0, 3)],
+        };
+        script.entry_has(2, 10, map);
+        script.record_has(2, size - 1, 0x45);
+        script.record_has(3, 0, 0x46);
+        script.record_has(3 + 9 / size as u16, 9 % size, 0x4F);
     }
 }
 
 fn zero_fill_of_a_run(script: &mut Script) {
+    let (kind, size) = (script.kind, script.size());
+    let there = way_blocks(kind) as u16;
+    let taken = there + 1;
     for (function, rest) in [(34, 0xE5), (40, 0)] {
-        // Block 10 is there with records 16 to 23, block 11 is taken for 24 to 31.
-        let mut image = way(WAY_BLOCKS + 2);
-        image[18] = 10;
-        script.world(&image, [9, 9, 9]);
+        // One block is there with the first records, another is taken for those after them.
+        let book = way(kind, usize::from(there) + 2);
+        let mut map = vec![(0, there)];
+        map.extend(way_map(kind, 0));
+        script.world(&book.with(&[(Entry::named(FILE), &map[..])]), [9, 9, 9]);
         script.call(0, 15, shared()).ok();
         script
-            .call(0, function, shared().record(19))
+            .call(0, function, shared().record(size - 5))
             .count(9)
             .rising(0x40)
             .ok();
-        script.image_has(15, &[28]);
-        script.image_has(16, &[0, 0, 10, 11, 2, 3]);
-        script.image_has(1024 * 10, &[0xE5; 3 * 128]);
-        for (i, byte) in (3..12).zip(0x40..) {
-            script.image_has(1024 * 10 + 128 * i, &[byte; 128]);
+        map.push((1, taken));
+        script.entry_has(0, size as u8 + 4, &map);
+        for place in 0..size - 5 {
+            script.record_has(there, place, 0xE5);
         }
-        script.image_has(1024 * 11 + 4 * 128, &[rest; 4 * 128]);
+        for (place, byte) in (size - 5..size).zip(0x40..) {
+            script.record_has(there, place, byte);
+        }
+        for (place, byte) in (0..4).zip(0x45..) {
+            script.record_has(taken, place, byte);
+        }
+        for place in 4..size {
+            script.record_has(taken, place, rest);
+        }
         // What an earlier call took is not cleared either.
         script
-            .call(0, function, shared().record(26))
+            .call(0, function, shared().record(size + 2))
             .count(3)
             .rising(0x60)
             .ok();
-        for (i, byte) in [0x45, 0x46, 0x60, 0x61, 0x62, rest].into_iter().enumerate() {
-            script.image_has(1024 * 11 + 128 * i, &[byte; 128]);
+        for (place, byte) in (0..).zip([0x45, 0x46, 0x60, 0x61, 0x62, rest]) {
+            script.record_has(taken, place, byte);
         }
     }
 }
 
 fn runs_over_ends(script: &mut Script) {
     for function in [34, 40] {
-        for start in [0, 3, 120, 121, 4_081, 4_089, 262_128] {
-            script.world(&empty_image(9), [9, 9, 9]);
+        for start in [0, 3, 113, 120, 121, 4_081, 4_089, 262_128] {
+            script.world(&script.empty(9), [9, 9, 9]);
             script.call(0, 22, shared()).ok();
             for count in 1..=MOST_RECORDS {
                 let first = shared().record(start);
@@ -1145,9 +1246,8 @@ fn runs_over_ends(script: &mut Script) {
 }
 
 fn one_record_only(script: &mut Script) {
-    let mut image = one_file(6);
-    image[2048..3072].fill(0x11);
-    script.world(&image, [64, 9, 9]);
+    let size = script.size();
+    script.world(&one_file(script.kind, 6).filled(2, 0x11), [64, 9, 9]);
     script.call(0, 15, shared()).count(16).ok();
     script.call(1, 15, shared()).count(16).ok();
     script
@@ -1155,14 +1255,15 @@ fn one_record_only(script: &mut Script) {
         .records(0x11, 0x22)
         .count(16)
         .ok();
-    script.image_has(2048 + 2 * 128, &[0x22; 128]);
-    script.image_has(2048 + 3 * 128, &[0x11; 128]);
+    script.record_has(2, 2, 0x22);
+    script.record_has(2, 3, 0x11);
     script.call(0, 41, shared().record(7)).count(16).gives(7, 0);
     script.call(0, 41, shared().record(262_143)).count(16).gives(4, 0);
     // The whole run of a 42 is refused, and no bit tells of the records before.
-    script.call(1, 42, shared().record(5)).id(1, 0).ok();
-    script.call(0, 42, shared()).count(8).gives(8, 0);
-    script.call(0, 42, shared()).count(9).gives(1, 0);
+    script.call(1, 42, shared().record(size - 3)).id(1, 0).ok();
+    let last_eight = shared().record(size - 8);
+    script.call(0, 42, last_eight).count(8).gives(8, 0);
+    script.call(0, 42, last_eight).count(9).gives(1, 0);
     script.call(0, 42, shared().record(262_140)).count(16).gives(6, 0);
     script.call(0, 43, shared().record(262_140)).count(16).gives(6, 0);
     script.list_has(3, [0; 20]);
@@ -1170,11 +1271,12 @@ fn one_record_only(script: &mut Script) {
         // One record has no bits, whatever it meets.
         script.call(0, function, shared().record(262_144)).gives(6, 0);
     }
-    script.call(0, 46, shared()).count(16).fill(0xAB).ok();
+    script.call(0, 46, shared()).count(16).fill(0xAB).tells(size);
 }
 
 fn rows_of_locking(script: &mut Script) {
-    script.world(&one_file(6), [6, 2, 3]);
+    let size = script.size();
+    script.world(&one_file(script.kind, 6), [6, 2, 3]);
     script.call(0, 42, shared().record(262_144)).gives(10, 0);
     script.call(0, 43, shared().record(262_144)).gives(10, 0);
     script.call(0, 15, shared()).ok();
@@ -1190,31 +1292,24 @@ fn rows_of_locking(script: &mut Script) {
     script.call(0, 42, shared().record(262_144)).gives(6, 0);
     script.call(0, 42, shared().record(262_143)).count(2).gives(6, 0);
     script.call(0, 42, shared().record(262_128)).count(16).gives(4, 0);
-    script.call(0, 42, shared().record(8)).gives(1, 0);
+    script.call(0, 42, shared().record(size)).gives(1, 0);
     script.call(0, 42, shared().record(120)).count(16).gives(1, 0);
     script.call(0, 42, shared().record(4_090)).count(16).gives(4, 0);
-    script.call(1, 42, shared().record(6)).id(1, 0).ok();
-    script.call(0, 42, shared().record(5)).count(4).gives(1, 0);
-    script.call(0, 42, shared()).count(8).gives(8, 0);
+    script.call(1, 42, shared().record(size - 2)).id(1, 0).ok();
+    script.call(0, 42, shared().record(size - 3)).count(4).gives(1, 0);
+    script.call(0, 42, shared().record(size - 8)).count(8).gives(8, 0);
     script.call(0, 42, shared()).count(4).gives(12, 0);
     script.call(0, 42, shared()).count(2).ok();
     script.call(0, 42, shared().record(1)).count(1).ok();
-    script
-        .call(1, 42, shared().record(16))
-        .id(1, 0)
-        .count(2)
-        .gives(14, 0);
-    script
-        .call(1, 42, shared().record(16))
-        .id(1, 0)
-        .count(3)
-        .gives(12, 0);
+    let third_block = shared().record(2 * size);
+    script.call(1, 42, third_block).id(1, 0).count(2).gives(14, 0);
+    script.call(1, 42, third_block).id(1, 0).count(3).gives(12, 0);
     script.call(0, 43, shared().record(1)).count(16).ok();
     script.call(0, 42, shared()).count(2).ok();
     script.call(0, 43, shared()).count(2).ok();
     script.call(0, 43, shared()).count(16).ok();
     script.call(0, 43, shared().record(100_000)).count(16).ok();
-    script.list_has(2, lock_item(1, name(FILE), 6));
+    script.list_has(2, lock_item(1, name(FILE), size - 2));
     script.call(0, 42, shared().record(4)).count(2).ok();
     script.list_has(3, lock_item(0, name(FILE), 4));
     script.list_has(4, lock_item(0, name(FILE), 5));
@@ -1223,8 +1318,9 @@ fn rows_of_locking(script: &mut Script) {
 }
 
 fn free_space_and_terminate(script: &mut Script) {
-    script.world(&one_file(6), [9, 9, 9]);
-    script.call(7, 46, Fcb([255; 36])).fill(0xAB).ok();
+    let size = script.size();
+    script.world(&one_file(script.kind, 6), [9, 9, 9]);
+    script.call(7, 46, Fcb([255; 36])).fill(0xAB).tells(size);
     script.call(7, 143, Fcb([255; 36])).fill(0xAB).ok();
     script.call(7, 15, shared()).ok();
     script.call(8, 15, shared()).ok();
@@ -1233,28 +1329,33 @@ fn free_space_and_terminate(script: &mut Script) {
     script.call(7, 143, Fcb([255; 36])).fill(0xAB).ok();
     script.list_has(1, open_item(8, name(FILE), 1));
     script.list_has(5, lock_item(8, name(FILE), 3));
-    script.call(8, 34, shared().record(8)).ok();
-    script.call(8, 46, Fcb([2; 36])).fill(0xAB).ok();
+    script.call(8, 34, shared().record(size)).ok();
+    script.call(8, 46, Fcb([2; 36])).fill(0xAB).tells(0);
 }
 
 fn look(script: &mut Script) {
-    script.world(&one_file(6), [9, 9, 9]);
+    let (kind, size) = (script.kind.number(), script.size());
+    let book = one_file(script.kind, 6);
+    script.world(&book, [9, 9, 9]);
     let file = name(FILE);
     let high = file.map(|byte| byte | 128);
     for (record, wanted) in [
-        (0, 2048),
-        (7, 2048 + 7 * 128),
-        (8, 0),
-        (16, 3072),
+        (0, book.record_at(2, 0)),
+        (size - 1, book.record_at(2, size - 1)),
+        (size, 0),
+        (2 * size, book.record_at(3, 0)),
         (127, 0),
         (128, 0),
-        (4_096, 4096),
-        (4_103, 4096 + 7 * 128),
+        (4_096, book.record_at(4, 0)),
+        (4_095 + size, book.record_at(4, size - 1)),
         (262_143, 0),
         (u32::MAX, 0),
     ] {
         script.look(0, &file, record, wanted);
         script.look(0, &high, record, wanted);
+        for told in [1 - kind, 2, 255, 256 + kind, u32::MAX] {
+            script.look_told(told, 0, &file, record, 0);
+        }
         script.look(15, &file, record, 0);
         script.look(16, &file, record, 0);
         script.look(0, &file[..10], record, 0);

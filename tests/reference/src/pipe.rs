@@ -171,8 +171,9 @@ fn apply(changes: &Changes, to: &mut [u8]) {
 }
 
 impl Engine for Pipe {
-    fn start(&mut self, numbers: [u32; 3], users: &mut [u8], list: &mut [u8]) -> u32 {
+    fn start(&mut self, kind: u32, numbers: [u32; 3], users: &mut [u8], list: &mut [u8]) -> u32 {
         let step = Step::Start {
+            kind,
             numbers,
             users: users.to_vec(),
         };
@@ -182,14 +183,15 @@ impl Engine for Pipe {
         reply.answer
     }
 
-    fn check(&mut self, image: &mut [u8]) -> u32 {
-        let reply = self.single(None, Some(image), Step::Check);
+    fn check(&mut self, kind: u32, image: &mut [u8]) -> u32 {
+        let reply = self.single(None, Some(image), Step::Check { kind });
         apply(&reply.changes[3], image);
         reply.answer
     }
 
-    fn look(&mut self, user: u32, name: &mut [u8], record: u32, image: &mut [u8]) -> u32 {
+    fn look(&mut self, kind: u32, user: u32, name: &mut [u8], record: u32, image: &mut [u8]) -> u32 {
         let step = Step::Look {
+            kind,
             user,
             name: name.to_vec(),
             record,

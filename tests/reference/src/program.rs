@@ -1,6 +1,7 @@
 //! The program `mpmcalls` as a function of DISK.IMG and standard input.
 
 use crate::calls::{DMA_LENGTH, FCB_LENGTH};
+use crate::kind::Kind;
 use crate::locks::LIST_LENGTH;
 use std::fmt::Write;
 
@@ -11,6 +12,11 @@ pub const START_LENGTH: usize = 21;
 pub const CALL_LENGTH: usize = 5 + FCB_LENGTH + DMA_LENGTH;
 
 struct BadRecord(usize);
+
+/// The program has drives of the first kind only.
+fn first_kind() -> u32 {
+    Kind::First.number()
+}
 
 /// Standard output, and DISK.OUT if it is written. `disk` is None where DISK.IMG is unreadable.
 pub fn mpmcalls(disk: Option<&[u8]>, input: &[u8]) -> (Vec<u8>, Option<Vec<u8>>) {
@@ -54,7 +60,14 @@ fn started(input: &[u8]) -> Option<([u8; LIST_LENGTH], &[u8])> {
     }
     let mut list = [0; LIST_LENGTH];
     let [capacity, open_limit, lock_limit] = [2, 3, 4].map(|at| u32::from(record[at]));
-    let answer = crate::start(capacity, open_limit, lock_limit, &record[5..], &mut list);
+    let answer = crate::start(
+        first_kind(),
+        capacity,
+        open_limit,
+        lock_limit,
+        &record[5..],
+        &mut list,
+    );
     (answer == 0).then_some((list, &input[START_LENGTH..]))
 }
 
@@ -62,5 +75,14 @@ fn one_call(record: &[u8], list: &mut [u8], image: &mut [u8]) -> u32 {
     let [function, process, count] = [2, 3, 4].map(|at| u32::from(record[at]));
     let (fcb, dma) = record[5..].split_at(FCB_LENGTH);
     let (mut fcb, mut dma) = (fcb.to_vec(), dma.to_vec());
-    crate::call(function, process, count, &mut fcb, &mut dma, list, image)
+    crate::call(
+        first_kind(),
+        function,
+        process,
+        count,
+        &mut fcb,
+        &mut dma,
+        list,
+        image,
+    )
 }

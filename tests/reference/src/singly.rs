@@ -3,7 +3,7 @@
 //! lent one that is their record's.
 
 use crate::calls::{Buffers, Numbers, DMA_LENGTH, FCB_LENGTH, MOST_RECORDS, RUN_FUNCTIONS};
-use crate::drive::RECORD;
+use crate::kind::RECORD;
 
 /// A plain side tells no records done: the high four bits of H are clear.
 const WITHOUT_DONE: u32 = 0x0FFF;

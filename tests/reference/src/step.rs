@@ -1,9 +1,10 @@
 //! What is asked of an engine, step by step, and what it replies.
 
 use crate::calls::Numbers;
+use std::ops::Range;
 
 /// The longest buffers that a step may set; the pipe's other end has areas of these sizes.
-pub const MAX_IMAGE: usize = 258 * 1024;
+pub const MAX_IMAGE: usize = 4_098 * 2_048;
 pub const MAX_LIST: usize = 4096;
 pub const MAX_DMA: usize = 4096;
 
@@ -28,6 +29,7 @@ pub enum Step {
         bytes: Vec<u8>,
     },
     Start {
+        kind: u32,
         numbers: [u32; 3],
         users: Vec<u8>,
     },
@@ -36,19 +38,24 @@ pub enum Step {
         fcb: Vec<u8>,
         dma: Vec<u8>,
     },
-    Check,
+    Check {
+        kind: u32,
+    },
     Look {
+        kind: u32,
         user: u32,
         name: Vec<u8>,
         record: u32,
     },
+    /// Compares the whole image with what it was after the last steps, however long it is.
+    Whole,
 }
 
 impl Step {
     pub fn is_answered(&self) -> bool {
         matches!(
             self,
-            Step::Start { .. } | Step::Call { .. } | Step::Check | Step::Look { .. }
+            Step::Start { .. } | Step::Call { .. } | Step::Check { .. } | Step::Look { .. } | Step::Whole
         )
     }
 }
@@ -63,9 +70,10 @@ pub struct Change {
 /// The changes of one buffer; None if they are more than any right call makes.
 pub type Changes = Option<Vec<Change>>;
 
-/// A 40 of sixteen records can change three blocks and two entries, every second byte of them.
-pub const MAX_CHANGES: usize = 2048;
-pub const MAX_CHANGED_BYTES: usize = 4096;
+/// A 40 of sixteen records can change two blocks of 2,048 bytes and two entries, every second byte
+/// of them.
+pub const MAX_CHANGES: usize = 4096;
+pub const MAX_CHANGED_BYTES: usize = 8192;
 
 /// The buffers of a reply, in order. Start's users and Look's name stand in the FCB's place.
 pub const BUFFERS: [&str; 4] = ["FCB", "DMA", "list", "image"];
@@ -91,17 +99,28 @@ pub struct Reply {
 
 /// The longest runs of differing bytes.
 pub fn changes(before: &[u8], after: &[u8]) -> Changes {
+    let whole = 0..before.len();
+    changes_in(std::slice::from_ref(&whole), before, after)
+}
+
+/// The longest runs of differing bytes in these parts, which are in rising order.
+pub fn changes_in(parts: &[Range<usize>], before: &[u8], after: &[u8]) -> Changes {
     let mut found: Vec<Change> = Vec::new();
     let mut changed_bytes = 0;
     const STRIDE: usize = 256;
-    let strides = before.chunks(STRIDE).zip(after.chunks(STRIDE));
-    for (number, (old, new)) in strides.enumerate().filter(|(_, (old, new))| old != new) {
-        for (offset, (_, &byte)) in old.iter().zip(new).enumerate().filter(|(_, (a, b))| a != b) {
-            changed_bytes += 1;
-            extend(&mut found, STRIDE * number + offset, byte);
-        }
-        if found.len() > MAX_CHANGES || changed_bytes > MAX_CHANGED_BYTES {
-            return None;
+    for part in parts {
+        let strides = before[part.clone()]
+            .chunks(STRIDE)
+            .zip(after[part.clone()].chunks(STRIDE));
+        for (number, (old, new)) in strides.enumerate().filter(|(_, (old, new))| old != new) {
+            let at = part.start + STRIDE * number;
+            for (offset, (_, &byte)) in old.iter().zip(new).enumerate().filter(|(_, (a, b))| a != b) {
+                changed_bytes += 1;
+                extend(&mut found, at + offset, byte);
+            }
+            if found.len() > MAX_CHANGES || changed_bytes > MAX_CHANGED_BYTES {
+                return None;
+            }
         }
     }
     Some(found)
@@ -147,9 +166,24 @@ pub fn set_list(bytes: &[u8]) -> Vec<Step> {
 /// The parts of the bytes that are not all filling.
 fn patches(bytes: &[u8], fill: u8) -> impl Iterator<Item = (usize, Vec<u8>)> + '_ {
     const PART: usize = 1024;
+    let filling = [fill; PART];
     (0..)
         .step_by(PART)
         .zip(bytes.chunks(PART))
-        .filter(move |(_, part)| part.iter().any(|&byte| byte != fill))
+        .filter(move |(_, part)| **part != filling[..part.len()])
         .map(|(at, part)| (at, part.to_vec()))
+}
+
+/// The steps that put the image's old bytes back where they are others now.
+pub fn put_back(old: &[u8], now: &[u8]) -> Vec<Step> {
+    const PART: usize = 128;
+    (0..)
+        .step_by(PART)
+        .zip(old.chunks(PART).zip(now.chunks(PART)))
+        .filter(|(_, (old, now))| old != now)
+        .map(|(at, (old, _))| Step::PatchImage {
+            at,
+            bytes: old.to_vec(),
+        })
+        .collect()
 }

@@ -3,8 +3,10 @@
 
 use crate::calls::{Buffers, Numbers};
 use crate::engine::Engine;
+use crate::parts::parts;
 use crate::singly::plain_answer;
-use crate::step::{changes, Apart, Changes, Reply, Step, ANSWER_APART};
+use crate::step::{changes, changes_in, Apart, Changes, Reply, Step, ANSWER_APART};
+use std::ops::Range;
 
 const GUARD: usize = 64;
 const GUARD_BYTES: [u8; GUARD] = guard_bytes();
@@ -84,9 +86,9 @@ impl Lasting {
         }
     }
 
-    /// What changed since the step began; from here on it counts as before.
-    fn settle(&mut self) -> Changes {
-        let changes = changes(&self.before, self.now.data());
+    /// What changed in these parts since the step began; from here on it counts as before.
+    fn settle(&mut self, parts: &[Range<usize>]) -> Changes {
+        let changes = changes_in(parts, &self.before, self.now.data());
         match &changes {
             None => self.settle_all(),
             Some(changes) => {
@@ -104,13 +106,24 @@ impl Lasting {
         self.plain.data_mut().copy_from_slice(self.now.data());
     }
 
-    /// True if the plain side has left other bytes; it goes on from the engine's.
-    fn rejoin(&mut self) -> bool {
-        let apart = self.plain.data() != self.now.data();
-        if apart {
-            self.plain.data_mut().copy_from_slice(self.now.data());
+    /// True if the plain side has left other bytes in these parts; it goes on from the engine's.
+    fn rejoin(&mut self, parts: &[Range<usize>]) -> bool {
+        let mut is_apart = false;
+        for part in parts {
+            let (plain, now) = (
+                &mut self.plain.data_mut()[part.clone()],
+                &self.now.data()[part.clone()],
+            );
+            if plain != now {
+                plain.copy_from_slice(now);
+                is_apart = true;
+            }
         }
-        apart
+        is_apart
+    }
+
+    fn all(&self) -> Range<usize> {
+        0..self.before.len()
     }
 }
 
@@ -119,6 +132,17 @@ struct Plain {
     answer: u32,
     fcb: Guarded,
     dma: Guarded,
+}
+
+impl Plain {
+    /// Where nothing was asked.
+    fn silent() -> Plain {
+        Plain {
+            answer: 0,
+            fcb: Guarded::new(&[]),
+            dma: Guarded::new(&[]),
+        }
+    }
 }
 
 pub struct Table {
@@ -153,7 +177,7 @@ impl Table {
             Step::PatchList { at, bytes } => self.list.patch(*at, bytes),
             Step::Start { users, .. } => return Some(self.ask(engine, step, users, &[])),
             Step::Call { fcb, dma, .. } => return Some(self.ask(engine, step, fcb, dma)),
-            Step::Check => return Some(self.ask(engine, step, &[], &[])),
+            Step::Check { .. } | Step::Whole => return Some(self.ask(engine, step, &[], &[])),
             Step::Look { name, .. } => return Some(self.ask(engine, step, name, &[])),
         }
         None
@@ -166,16 +190,19 @@ impl Table {
         let guarded = [&first_now, &second_now, &self.list.now, &self.image.now];
         let mut broken_guards = broken(guarded);
         let mut apart = None;
+        let whole_list = self.list.all();
+        let list_parts = std::slice::from_ref(&whole_list);
+        let image_parts = parts(step, &self.image.before, self.image.now.data());
         if let Some(plain) = plain {
             broken_guards |= broken([&plain.fcb, &plain.dma, &self.list.plain, &self.image.plain]) << 4;
             let (fcb_now, dma_now) = (first_now.data(), second_now.data());
-            let parts = [
+            let differ = [
                 plain.fcb.data() != fcb_now,
                 plain.dma.data() != dma_now,
-                self.list.rejoin(),
-                self.image.rejoin(),
+                self.list.rejoin(list_parts),
+                self.image.rejoin(&image_parts),
             ];
-            apart = told_apart(parts, plain.answer, wanted_of_plain_side(step, answer));
+            apart = told_apart(differ, plain.answer, wanted_of_plain_side(step, answer));
         }
         Reply {
             answer,
@@ -184,16 +211,19 @@ impl Table {
             changes: [
                 changes(first, first_now.data()),
                 changes(second, second_now.data()),
-                self.list.settle(),
-                self.image.settle(),
+                self.list.settle(list_parts),
+                self.image.settle(&image_parts),
             ],
         }
     }
 
-    /// The same call on the plain side's buffers; None if there is no such call.
+    /// The same call on the plain side's buffers; None if there is no such call. Where the whole
+    /// image is compared, that of the plain side is too.
     fn ask_plain_side<E: Engine + ?Sized>(&mut self, engine: &mut E, step: &Step) -> Option<Plain> {
-        let Step::Call { numbers, fcb, dma } = step else {
-            return None;
+        let (numbers, fcb, dma) = match step {
+            Step::Call { numbers, fcb, dma } => (numbers, fcb, dma),
+            Step::Whole => return Some(Plain::silent()),
+            _ => return None,
         };
         let (mut fcb, mut dma) = (Guarded::new(fcb), Guarded::new(dma));
         let buffers = Buffers {
@@ -216,7 +246,7 @@ impl Table {
         let list = self.list.now.data_mut();
         let image = self.image.now.data_mut();
         match step {
-            Step::Start { numbers, .. } => engine.start(*numbers, first, list),
+            Step::Start { kind, numbers, .. } => engine.start(*kind, *numbers, first, list),
             Step::Call { numbers, .. } => engine.call(
                 *numbers,
                 Buffers {
@@ -226,8 +256,10 @@ impl Table {
                     image,
                 },
             ),
-            Step::Check => engine.check(image),
-            Step::Look { user, record, .. } => engine.look(*user, first, *record, image),
+            Step::Check { kind } => engine.check(*kind, image),
+            Step::Look {
+                kind, user, record, ..
+            } => engine.look(*kind, *user, first, *record, image),
             _ => 0,
         }
     }

@@ -4,12 +4,13 @@
 //! Step:   'I' length(4) fill(1)              the image gets this length
 //!         'i' at(4) n(2) bytes               a part of it gets these bytes
 //!         'L', 'l'                           the same for the list
-//!         'S' capacity(4) open limit(4) lock limit(4) n(2) users
-//!         'C' function(4) process(4) count(4) n(2) FCB, DMA
-//!         'K'                                check the image
-//!         'V' user(4) record(4) n(2) name    look
+//!         'S' kind(4) capacity(4) open limit(4) lock limit(4) n(2) users
+//!         'C' kind(4) function(4) process(4) count(4) n(2) FCB, DMA
+//!         'K' kind(4)                        check the image
+//!         'V' kind(4) user(4) record(4) n(2) name    look
+//!         'W'                                compare the whole image
 //! DMA:    length(2) fill(1) n(2) bytes       the bytes, and behind them the fill byte
-//! Reply, to S, C, K and V:
+//! Reply, to S, C, K, V and W (whose answer is 0):
 //!         'A' broken guards(1) answer(4) apart(1), where apart is not 0 the plain side's
 //!         answer(4), then for users or FCB or name, DMA, list and image:
 //!         n(2), and n times at(4) n(2) bytes; n of 65,535 means too many to tell.
@@ -70,20 +71,33 @@ pub fn put_step(step: &Step, out: &mut Vec<u8>) {
         Step::List { length, fill } => put_length(b'L', *length, *fill, out),
         Step::PatchImage { at, bytes } => put_patch(b'i', *at, bytes, out),
         Step::PatchList { at, bytes } => put_patch(b'l', *at, bytes, out),
-        Step::Start { numbers, users } => {
-            put_numbers(b'S', numbers, out);
+        Step::Start { kind, numbers, users } => {
+            let [capacity, open_limit, lock_limit] = *numbers;
+            put_numbers(b'S', &[*kind, capacity, open_limit, lock_limit], out);
             put_bytes(users, out);
         }
         Step::Call { numbers, fcb, dma } => {
-            put_numbers(b'C', &[numbers.function, numbers.process, numbers.count], out);
+            let Numbers {
+                kind,
+                function,
+                process,
+                count,
+            } = *numbers;
+            put_numbers(b'C', &[kind, function, process, count], out);
             put_bytes(fcb, out);
             put_dma(dma, out);
         }
-        Step::Check => out.push(b'K'),
-        Step::Look { user, name, record } => {
-            put_numbers(b'V', &[*user, *record], out);
+        Step::Check { kind } => put_numbers(b'K', &[*kind], out),
+        Step::Look {
+            kind,
+            user,
+            name,
+            record,
+        } => {
+            put_numbers(b'V', &[*kind, *user, *record], out);
             put_bytes(name, out);
         }
+        Step::Whole => out.push(b'W'),
     }
 }
 
@@ -188,11 +202,13 @@ pub fn get_step(from: &mut impl Read) -> io::Result<Option<Step>> {
             bytes: get_bytes(from)?,
         },
         b'S' => Step::Start {
+            kind: get_u32(from)?,
             numbers: [get_u32(from)?, get_u32(from)?, get_u32(from)?],
             users: get_bytes(from)?,
         },
         b'C' => Step::Call {
             numbers: Numbers {
+                kind: get_u32(from)?,
                 function: get_u32(from)?,
                 process: get_u32(from)?,
                 count: get_u32(from)?,
@@ -200,8 +216,10 @@ pub fn get_step(from: &mut impl Read) -> io::Result<Option<Step>> {
             fcb: get_bytes(from)?,
             dma: get_dma(from)?,
         },
-        b'K' => Step::Check,
+        b'K' => Step::Check { kind: get_u32(from)? },
+        b'W' => Step::Whole,
         b'V' => Step::Look {
+            kind: get_u32(from)?,
             user: get_u32(from)?,
             record: get_u32(from)?,
             name: get_bytes(from)?,

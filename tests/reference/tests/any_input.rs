@@ -3,7 +3,8 @@
 mod common;
 
 use common::{split, KNOWN, OK};
-use reference::build::{empty_image, image_with, Entry};
+use reference::build::{empty_image, image_of, image_with, Entry};
+use reference::kind::Kind;
 
 /// A small generator of numbers, so that each run sees the same.
 struct Numbers(u64);
@@ -22,6 +23,15 @@ impl Numbers {
         (0..length).map(|_| self.next() as u8).collect()
     }
 
+    /// Mostly one that there is.
+    fn kind(&mut self) -> u32 {
+        match self.below(8) {
+            0 => self.next(),
+            1..4 => 1,
+            _ => 0,
+        }
+    }
+
     fn length(&mut self, right: usize) -> usize {
         match self.below(6) {
             0 => self.below(3 * right as u32) as usize,
@@ -36,10 +46,12 @@ fn any_call_answers() {
     let mut numbers = Numbers(1);
     for _ in 0..20_000 {
         let image_length = [0, 17, 2048, 3072, 4096][numbers.below(5) as usize];
-        let mut image = match numbers.below(4) {
-            0 => numbers.bytes(image_length),
-            1 => empty_image(4),
-            2 => image_with(4, &[Entry::named("A").block(0, 2)]),
+        let mut image = match numbers.below(32) {
+            0..8 => numbers.bytes(image_length),
+            8..16 => empty_image(4),
+            16 => image_of(Kind::Second, 257, &[Entry::named("A").wide_block(0, 256)]),
+            17 => [numbers.bytes(4096), vec![0; 255 * 2048]].concat(),
+            18..24 => image_with(4, &[Entry::named("A").block(0, 2)]),
             _ => vec![0; image_length],
         };
         let list_length = numbers.length(1299);
@@ -48,7 +60,7 @@ fn any_call_answers() {
             _ => vec![0; list_length],
         };
         if numbers.below(2) == 0 {
-            reference::start(9, 8, 7, &[0; 16], &mut list);
+            reference::start(numbers.below(2), 9, 8, 7, &[0; 16], &mut list);
         }
         let (fcb_length, dma_length) = (numbers.length(36), numbers.length(2048));
         let mut fcb = numbers.bytes(fcb_length);
@@ -63,8 +75,9 @@ fn any_call_answers() {
         let process = numbers.below(18);
         let count = numbers.below(19);
         let before = (fcb.clone(), dma.clone(), list.clone(), image.clone());
+        let kind = numbers.kind();
         let word = reference::call(
-            function, process, count, &mut fcb, &mut dma, &mut list, &mut image,
+            kind, function, process, count, &mut fcb, &mut dma, &mut list, &mut image,
         );
         let (a, h) = split(word);
         let records_done = [33, 34, 40].contains(&function) && h >= 16;
@@ -73,8 +86,8 @@ fn any_call_answers() {
         }
         let length = numbers.below(13) as usize;
         let name = numbers.bytes(length);
-        reference::look(numbers.below(20), &name, numbers.next(), &before.3);
-        assert!(reference::check(&before.3) < 3);
+        reference::look(kind, numbers.below(20), &name, numbers.next(), &before.3);
+        assert!(reference::check(kind, &before.3) < 3);
     }
 }
 

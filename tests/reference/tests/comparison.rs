@@ -5,6 +5,7 @@ use reference::comparison::{describe, keep_case, on_reference, read_case, Compar
 use reference::engine::{Engine, Reference};
 use reference::faults::block_of;
 use reference::generate::Generator;
+use reference::kind::Kind;
 use reference::pipe::Pipe;
 use reference::step::{changes, Apart, Step, ANSWER_APART};
 use reference::wire::{get_reply, get_step, put_reply, put_step};
@@ -32,16 +33,16 @@ type Fault = fn(&mut Done);
 struct Faulty(Fault);
 
 impl Engine for Faulty {
-    fn start(&mut self, numbers: [u32; 3], users: &mut [u8], list: &mut [u8]) -> u32 {
-        Reference::default().start(numbers, users, list)
+    fn start(&mut self, kind: u32, numbers: [u32; 3], users: &mut [u8], list: &mut [u8]) -> u32 {
+        Reference::default().start(kind, numbers, users, list)
     }
 
-    fn check(&mut self, image: &mut [u8]) -> u32 {
-        Reference::default().check(image)
+    fn check(&mut self, kind: u32, image: &mut [u8]) -> u32 {
+        Reference::default().check(kind, image)
     }
 
-    fn look(&mut self, user: u32, name: &mut [u8], record: u32, image: &mut [u8]) -> u32 {
-        Reference::default().look(user, name, record, image)
+    fn look(&mut self, kind: u32, user: u32, name: &mut [u8], record: u32, image: &mut [u8]) -> u32 {
+        Reference::default().look(kind, user, name, record, image)
     }
 
     fn call(&mut self, numbers: Numbers, buffers: Buffers) -> u32 {
@@ -53,16 +54,16 @@ impl Engine for Faulty {
 struct FaultyPlainSide(Fault);
 
 impl Engine for FaultyPlainSide {
-    fn start(&mut self, numbers: [u32; 3], users: &mut [u8], list: &mut [u8]) -> u32 {
-        Reference::default().start(numbers, users, list)
+    fn start(&mut self, kind: u32, numbers: [u32; 3], users: &mut [u8], list: &mut [u8]) -> u32 {
+        Reference::default().start(kind, numbers, users, list)
     }
 
-    fn check(&mut self, image: &mut [u8]) -> u32 {
-        Reference::default().check(image)
+    fn check(&mut self, kind: u32, image: &mut [u8]) -> u32 {
+        Reference::default().check(kind, image)
     }
 
-    fn look(&mut self, user: u32, name: &mut [u8], record: u32, image: &mut [u8]) -> u32 {
-        Reference::default().look(user, name, record, image)
+    fn look(&mut self, kind: u32, user: u32, name: &mut [u8], record: u32, image: &mut [u8]) -> u32 {
+        Reference::default().look(kind, user, name, record, image)
     }
 
     fn call(&mut self, numbers: Numbers, buffers: Buffers) -> u32 {
@@ -101,6 +102,7 @@ fn with_fault(fault: Fault, numbers: Numbers, buffers: Buffers, call: fn(&mut Le
 impl Lent {
     fn call(&mut self, numbers: Numbers) -> u32 {
         reference::call(
+            numbers.kind,
             numbers.function,
             numbers.process,
             numbers.count,
@@ -113,6 +115,7 @@ impl Lent {
 
     fn call_singly(&mut self, numbers: Numbers) -> u32 {
         reference::call_singly(
+            numbers.kind,
             numbers.function,
             numbers.process,
             numbers.count,
@@ -134,9 +137,13 @@ impl Lent {
         fcb[33..].copy_from_slice(&record.to_le_bytes()[..3]);
         dma.copy_within(at..at + 128, 0);
         let Numbers {
-            function, process, ..
+            kind,
+            function,
+            process,
+            ..
         } = numbers;
         let answer = reference::call(
+            kind,
             function,
             process,
             1,
@@ -149,10 +156,10 @@ impl Lent {
         answer
     }
 
-    /// The block of a record of the call's file, 0 if it has none.
-    fn block(&self, numbers: Numbers, record: u32) -> u8 {
+    /// The block of a record of the call's file on a drive of the first kind, 0 if it has none.
+    fn block(&self, numbers: Numbers, record: u32) -> u16 {
         let user = self.list[3 + numbers.process as usize];
-        block_of(user, &self.fcb[1..12], record, &self.image)
+        block_of(Kind::First, user, &self.fcb[1..12], record, &self.image)
     }
 }
 
@@ -444,7 +451,7 @@ fn puts_the_bytes_of_the_next_record(done: &mut Done) {
 }
 
 fn clears_what_an_earlier_record_took(done: &mut Done) {
-    if !done.is_run() || done.numbers.function != 40 {
+    if !done.is_run() || done.numbers.function != 40 || done.numbers.kind != 0 {
         return;
     }
     let first = done.before.first_record();
@@ -610,9 +617,11 @@ const FAULTS: [Fault; 44] = [
     takes_the_old_dma,
 ];
 
+/// These faults are written for drives of the first kind; tests/kinds.rs has those of the second.
 #[test]
 fn the_named_cases_see_every_fault() {
-    let cases = Generator::new(3).named();
+    let mut cases = Generator::new(3).named();
+    cases.retain(|(case, _)| case.ends_with("kind 0"));
     for (number, fault) in FAULTS.into_iter().enumerate() {
         let mut engine = Faulty(fault);
         let mut comparison = Comparison::new(&mut engine);
@@ -624,7 +633,7 @@ fn the_named_cases_see_every_fault() {
 #[test]
 fn chance_sees_every_fault() {
     let mut generator = Generator::new(4);
-    let sessions: Vec<_> = (0..400).map(|_| generator.session()).collect();
+    let sessions: Vec<_> = (0..400).map(|_| generator.session_of(Kind::First)).collect();
     for (number, fault) in FAULTS.into_iter().enumerate() {
         let mut engine = Faulty(fault);
         let mut comparison = Comparison::new(&mut engine);
@@ -695,7 +704,8 @@ const FAULTS_OF_PLAIN_SIDES: [(Fault, u8, &str); 6] = [
 
 #[test]
 fn a_plain_side_that_does_otherwise_is_seen() {
-    let cases = Generator::new(9).named();
+    let mut cases = Generator::new(9).named();
+    cases.retain(|(case, _)| case.ends_with("kind 0"));
     for (fault, parts, name) in FAULTS_OF_PLAIN_SIDES {
         let mut engine = FaultyPlainSide(fault);
         let mut comparison = Comparison::new(&mut engine);
@@ -729,8 +739,10 @@ fn a_plain_side_without_fault_agrees() {
     for (case, made) in generator.named() {
         assert!(comparison.run(&made).is_none(), "{case}");
     }
-    for _ in 0..20 {
-        assert!(comparison.run(&generator.session()).is_none());
+    for kind in Kind::ALL {
+        for _ in 0..10 {
+            assert!(comparison.run(&generator.session_of(kind)).is_none());
+        }
     }
 }
 
@@ -738,20 +750,20 @@ fn a_plain_side_without_fault_agrees() {
 struct Scribbler;
 
 impl Engine for Scribbler {
-    fn start(&mut self, numbers: [u32; 3], users: &mut [u8], list: &mut [u8]) -> u32 {
-        Reference::default().start(numbers, users, list)
+    fn start(&mut self, kind: u32, numbers: [u32; 3], users: &mut [u8], list: &mut [u8]) -> u32 {
+        Reference::default().start(kind, numbers, users, list)
     }
 
-    fn check(&mut self, image: &mut [u8]) -> u32 {
-        let answer = Reference::default().check(image);
+    fn check(&mut self, kind: u32, image: &mut [u8]) -> u32 {
+        let answer = Reference::default().check(kind, image);
         if let Some(byte) = image.last_mut() {
             *byte ^= 1;
         }
         answer
     }
 
-    fn look(&mut self, user: u32, name: &mut [u8], record: u32, image: &mut [u8]) -> u32 {
-        Reference::default().look(user, name, record, image)
+    fn look(&mut self, kind: u32, user: u32, name: &mut [u8], record: u32, image: &mut [u8]) -> u32 {
+        Reference::default().look(kind, user, name, record, image)
     }
 
     fn call(&mut self, numbers: Numbers, buffers: Buffers) -> u32 {
@@ -766,7 +778,7 @@ fn a_check_that_writes_is_seen() {
             length: 3072,
             fill: 0xE5,
         },
-        Step::Check,
+        Step::Check { kind: 0 },
     ];
     let made = on_reference(steps);
     let difference = Comparison::new(&mut Scribbler).run(&made);
@@ -779,7 +791,7 @@ fn a_kept_case_can_be_replayed() {
     let mut generator = Generator::new(6);
     let mut engine = Faulty(refusal_writes);
     let mut comparison = Comparison::new(&mut engine);
-    let (made, difference) = std::iter::repeat_with(|| generator.session())
+    let (made, difference) = std::iter::repeat_with(|| generator.session_of(Kind::First))
         .find_map(|made| comparison.run(&made).map(|difference| (made, difference)))
         .unwrap();
     keep_case(&folder, &made, &difference).unwrap();
@@ -823,6 +835,7 @@ fn a_dma_survives_the_wire() {
     for dma in dmas {
         let step = Step::Call {
             numbers: Numbers {
+                kind: 1,
                 function: 33,
                 process: 1,
                 count: 16,
@@ -840,7 +853,7 @@ fn a_dma_survives_the_wire() {
 fn a_dma_that_makes_no_sense_is_refused() {
     let call = |length: u16, told: u16| {
         let mut bytes = vec![b'C'];
-        bytes.extend([0; 12]);
+        bytes.extend([0; 16]);
         bytes.extend([0, 0]);
         bytes.extend(length.to_le_bytes());
         bytes.push(0);
@@ -860,7 +873,7 @@ fn a_plain_side_apart_survives_the_wire() {
             length: 3072,
             fill: 0xE5,
         },
-        Step::Check,
+        Step::Check { kind: 0 },
     ]);
     let mut reply = made[1].reply.clone().unwrap();
     reply.apart = Some(Apart {
@@ -887,7 +900,7 @@ fn changes_are_the_longest_runs() {
         .map(|change| (change.at, change.bytes.len()))
         .collect();
     assert_eq!(found, [(0, 1), (254, 4), (599, 1)]);
-    assert_eq!(changes(&[0; 4097], &[1; 4097]), None);
+    assert_eq!(changes(&[0; 8193], &[1; 8193]), None);
 }
 
 fn pipe_to_reference() -> Pipe {
@@ -911,13 +924,14 @@ fn a_pipe_to_the_reference_agrees() {
 fn the_pipe_serves_the_four_functions_one_by_one() {
     let mut pipe = pipe_to_reference();
     let (mut list, mut image) = (vec![0xAA; 1299], vec![0xE5; 4096]);
-    assert_eq!(pipe.start([3, 2, 2], &mut [0; 16], &mut list), 0);
+    assert_eq!(pipe.start(0, [3, 2, 2], &mut [0; 16], &mut list), 0);
     assert_eq!(list[..3], [3, 2, 2]);
-    assert_eq!(pipe.check(&mut image), 0);
+    assert_eq!(pipe.check(0, &mut image), 0);
     let mut fcb = reference::build::Fcb::named("X").unlocked().0.to_vec();
     let mut dma = vec![9; 2048];
     for function in [22, 34] {
         let numbers = Numbers {
+            kind: 0,
             function,
             process: 1,
             count: 1,
@@ -932,7 +946,7 @@ fn the_pipe_serves_the_four_functions_one_by_one() {
     }
     assert_eq!(image[2048..2048 + 128], [9; 128]);
     let mut name = reference::build::name("X");
-    assert_eq!(pipe.look(0, &mut name, 0, &mut image), 2048);
+    assert_eq!(pipe.look(0, 0, &mut name, 0, &mut image), 2048);
 }
 
 #[test]
@@ -942,7 +956,7 @@ fn a_pipe_that_ends_is_a_difference() {
             length: 3072,
             fill: 0xE5,
         },
-        Step::Check,
+        Step::Check { kind: 0 },
     ]);
     for command in ["true", "no-such-program-anywhere"] {
         let mut pipe = Pipe::new(vec![command.to_string()]);

@@ -18,7 +18,7 @@ fn the_last_record() {
     assert_eq!(world.entry(1), entry);
     assert_eq!(world.record_at(2, 7), [0x55; 128]);
     assert_eq!(world.record_at(2, 6), [0xE5; 128]);
-    let at = reference::look(0, &name("LAST.DAT"), 262_143, &world.image);
+    let at = reference::look(0, 0, &name("LAST.DAT"), 262_143, &world.image);
     assert_eq!(at, Some(2 * 1024 + 7 * 128));
     assert_eq!(world.ask(0, 42, file.record(262_143)).go(), OK);
     assert_eq!(world.ask(0, 42, file.record(262_143)).count(2).go(), (6, 0));
@@ -43,7 +43,7 @@ fn byte_35_of_4() {
 #[test]
 fn blocks() {
     for (blocks, wanted) in [(2, 1), (3, 0), (256, 0), (257, 1)] {
-        assert_eq!(reference::check(&empty_image(blocks)), wanted);
+        assert_eq!(reference::check(0, &empty_image(blocks)), wanted);
         let answer = World::empty(blocks).ask(0, 46, Fcb([0; 36])).go();
         assert_eq!(answer == OK, wanted == 0, "{blocks} blocks");
         assert!(answer == OK || answer == (255, 1));
@@ -141,7 +141,7 @@ fn start_list_length() {
 
 fn assert_start(numbers: [u32; 3], users: &[u8], length: usize, passes: bool) {
     let mut list = vec![0xAA; length];
-    let word = reference::start(numbers[0], numbers[1], numbers[2], users, &mut list);
+    let word = reference::start(0, numbers[0], numbers[1], numbers[2], users, &mut list);
     if !passes {
         assert_eq!(split(word), (255, 13), "{numbers:?}");
         assert_eq!(list, vec![0xAA; length]);
@@ -218,7 +218,7 @@ fn look() {
         ],
     );
     let file = name("F");
-    let find = |user: u32, record: u32| reference::look(user, &file, record, &image);
+    let find = |user: u32, record: u32| reference::look(0, user, &file, record, &image);
     assert_eq!(find(0, 8), Some(3072));
     assert_eq!(find(0, 15), Some(3072 + 7 * 128));
     assert_eq!(find(0, 7), None);
@@ -234,10 +234,13 @@ fn look() {
     assert_eq!(find(256, 8), None);
 
     let high = file.map(|byte| byte | 128);
-    assert_eq!(reference::look(0, &high, 8, &image), Some(3072));
-    assert_eq!(reference::look(0, &file[..10], 8, &image), None);
-    assert_eq!(reference::look(0, &[&file[..], b" "].concat(), 8, &image), None);
-    assert_eq!(reference::look(0, &[], 8, &image), None);
-    assert_eq!(reference::look(0, &name(" F"), 8, &image), None);
-    assert_eq!(reference::look(0, &name("F"), 8, &image[..4095]), None);
+    assert_eq!(reference::look(0, 0, &high, 8, &image), Some(3072));
+    assert_eq!(reference::look(0, 0, &file[..10], 8, &image), None);
+    assert_eq!(
+        reference::look(0, 0, &[&file[..], b" "].concat(), 8, &image),
+        None
+    );
+    assert_eq!(reference::look(0, 0, &[], 8, &image), None);
+    assert_eq!(reference::look(0, 0, &name(" F"), 8, &image), None);
+    assert_eq!(reference::look(0, 0, &name("F"), 8, &image[..4095]), None);
 }

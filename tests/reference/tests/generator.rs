@@ -17,7 +17,7 @@ fn the_named_cases_reach_everything() {
 #[test]
 fn chance_alone_reaches_everything() {
     let mut generator = Generator::new(20_261);
-    while generator.coverage().calls() < 200_000 {
+    while generator.coverage().calls() < 400_000 {
         generator.session();
     }
     assert_eq!(generator.faults(), &[] as &[String]);
@@ -58,11 +58,41 @@ fn a_pair_that_may_not_be_is_told() {
         (43, 6, 16, "run passes the last record"),
         (46, 0, 16, "space"),
     ] {
+        for kind in [0, 1] {
+            let mut coverage = generator.coverage().clone();
+            coverage.note_call(kind, function, word(a, h), why);
+            let told = format!("not allowed: kind {kind}, function {function}, {a}/{h}, {why}");
+            assert_eq!(coverage.complaints(), [told]);
+        }
+    }
+}
+
+#[test]
+fn what_may_not_be_of_an_unknown_kind_is_told() {
+    let mut generator = Generator::new(0);
+    generator.named();
+    for (function, a, h, why) in [
+        (46, 0, 0, "space"),
+        (15, 255, 1, "image of wrong length"),
+        (33, 255, 13, "count above 16"),
+    ] {
         let mut coverage = generator.coverage().clone();
-        coverage.note_call(function, word(a, h), why);
-        let told = format!("not allowed: function {function}, {a}/{h}, {why}");
+        coverage.note_call(u32::MAX, function, word(a, h), why);
+        let told = format!("not allowed: unknown kind, function {function}, {a}/{h}, {why}");
         assert_eq!(coverage.complaints(), [told]);
     }
+    let mut coverage = generator.coverage().clone();
+    coverage.note_start(2, 0);
+    coverage.note_check(2, 0);
+    coverage.note_look(2, 5000);
+    assert_eq!(
+        coverage.complaints(),
+        [
+            "not allowed: Start (None, 0)",
+            "not allowed: image check (None, 0)",
+            "not allowed: Look (None, true)"
+        ]
+    );
 }
 
 #[test]
@@ -79,15 +109,22 @@ fn every_number_of_records_done_is_wanted() {
             (40, 5, "no empty entry"),
             (40, 2, "no free block"),
         ] {
-            let told = format!("not reached: function {function}, {a}/{h}, {why}");
-            assert!(missing.contains(&told), "{told}");
+            for kind in [0, 1] {
+                let told = format!("not reached: kind {kind}, function {function}, {a}/{h}, {why}");
+                assert!(missing.contains(&told), "{told}");
+            }
         }
     }
     for told in [
-        "not reached: run of records (33, 16)",
-        "not reached: run of records (40, 1)",
-        "not reached: span of a run (34, Modules)",
-        "not reached: last taken by a run (40, Entry)",
+        "not reached: run of records (First, 33, 16)",
+        "not reached: run of records (Second, 40, 1)",
+        "not reached: span of a run (Second, 34, Modules)",
+        "not reached: last taken by a run (First, 40, Entry)",
+        "not reached: block of a record (41, From1024)",
+        "not reached: drive of a size (Second, 4096)",
+        "not reached: image rule (Second, BlockTwice, Upper)",
+        "not reached: unknown kind, function 46, 255/13, unknown kind",
+        "not reached: kind 1, function 143, 255/1, image of the other kind's length",
     ] {
         assert!(missing.iter().any(|one| one == told), "{told}");
     }

@@ -3,8 +3,11 @@
 mod common;
 
 use common::World;
-use reference::build::{empty_image, item_at, lock_item, name, open_item, put_item, Entry, Fcb};
+use reference::build::{
+    empty_image, empty_image_of, item_at, lock_item, name, open_item, put_item, Entry, Fcb,
+};
 use reference::history::{groups_with_block, History, Noted};
+use reference::kind::Kind;
 
 const NUMBERS: [u32; 3] = [5, 2, 3];
 
@@ -22,11 +25,16 @@ struct Run {
 
 impl Run {
     fn new(image: Vec<u8>) -> Run {
-        let history = History::new(NUMBERS, [0; 16], groups_with_block(&image));
-        Run {
-            world: World::with_users(image, NUMBERS, [0; 16]),
-            history,
-        }
+        Run::of(Kind::First, image)
+    }
+
+    fn of(kind: Kind, image: Vec<u8>) -> Run {
+        let history = History::new(kind, NUMBERS, [0; 16], groups_with_block(kind, &image));
+        let world = World {
+            kind: kind.number(),
+            ..World::with_users(image, NUMBERS, [0; 16])
+        };
+        Run { world, history }
     }
 
     fn step(&mut self, step: Step) -> Result<(), String> {
@@ -170,6 +178,38 @@ fn a_keeper_that_forgets_the_records_done_is_seen() {
 #[test]
 fn a_keeper_that_takes_the_first_record_for_the_run_is_seen() {
     assert!(noted_as(1, 0).unwrap_err().contains("does not count it"));
+}
+
+#[test]
+fn groups_of_the_second_kind_have_sixteen_records() {
+    let mut run = Run::of(Kind::Second, empty_image_of(Kind::Second, 260));
+    let figure = |run: &mut Run| {
+        run.step(Step(1, 46, orders(0), 1, 0)).unwrap();
+        u32::from_le_bytes([run.world.dma[0], run.world.dma[1], run.world.dma[2], 0])
+    };
+    run.step(Step(1, 22, orders(0), 1, 0)).unwrap();
+    assert_eq!(figure(&mut run), 16 * 258);
+    // Records 5 to 20 are in the groups 0 and 1, 4,094 to 4,097 in 255 and 256.
+    run.step(Step(1, 34, orders(5), 16, 0)).unwrap();
+    assert_eq!(figure(&mut run), 16 * 256);
+    run.step(Step(1, 40, orders(4094), 4, 0)).unwrap();
+    assert_eq!(figure(&mut run), 16 * 254);
+    run.step(Step(1, 34, orders(8), 8, 0)).unwrap();
+    assert_eq!(figure(&mut run), 16 * 254);
+}
+
+#[test]
+fn a_keeper_of_the_wrong_kind_is_seen() {
+    let mut run = Run::of(Kind::Second, empty_image_of(Kind::Second, 260));
+    run.step(Step(1, 22, orders(0), 1, 0)).unwrap();
+    run.history = History::new(Kind::First, NUMBERS, [0; 16], Default::default());
+    assert!(run.step(Step(1, 34, orders(8), 1, 0)).is_err());
+    let mut dma = [0; 2048];
+    dma[..2].copy_from_slice(&(8u16 * 258).to_le_bytes());
+    let run = Run::of(Kind::Second, empty_image_of(Kind::Second, 260));
+    assert!(run.history.check_free_space(&dma, &run.world.image).is_err());
+    dma[..2].copy_from_slice(&(16u16 * 258).to_le_bytes());
+    run.history.check_free_space(&dma, &run.world.image).unwrap();
 }
 
 #[test]

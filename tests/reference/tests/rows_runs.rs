@@ -414,6 +414,7 @@ fn assert_same_singly(world: &World, function: u32, fcb: Fcb, count: u32) {
     singly.fcb = fcb.0.to_vec();
     singly.dma = rising_after(&[]);
     let answer = reference::call_singly(
+        world.kind,
         function,
         0,
         count,
@@ -455,7 +456,7 @@ fn single_calls_stop_at_the_first_refusal() {
     world.must(0, 22, file());
     let (mut fcb, mut dma) = (file().record(5).0, rising_after(&[]));
     let World { list, image, .. } = &mut world;
-    let answer = reference::call_singly(34, 0, 16, &mut fcb, &mut dma, list, image);
+    let answer = reference::call_singly(0, 34, 0, 16, &mut fcb, &mut dma, list, image);
     assert_eq!(answer, 2);
     assert_eq!(image[2048 + 5 * 128..2048 + 6 * 128], [0x80; 128]);
     assert_eq!(image[2048 + 7 * 128..], [0x82; 128]);

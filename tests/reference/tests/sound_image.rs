@@ -5,13 +5,14 @@ mod common;
 use common::{World, KNOWN};
 use reference::build::{empty_image, image_with, name, Entry, Fcb};
 use reference::faults::{image_faults, ImageRule};
+use reference::kind::Kind;
 use std::collections::BTreeSet;
 
 fn assert_broken(rule: ImageRule, image: Vec<u8>) {
-    assert_eq!(image_faults(&image), BTreeSet::from([rule]));
+    assert_eq!(image_faults(Kind::First, &image), BTreeSet::from([rule]));
     let wanted = if rule == ImageRule::Length { 1 } else { 2 };
-    assert_eq!(reference::check(&image), wanted, "{rule:?}");
-    assert_eq!(reference::look(0, &name("GOOD"), 0, &image), None);
+    assert_eq!(reference::check(0, &image), wanted, "{rule:?}");
+    assert_eq!(reference::look(0, 0, &name("GOOD"), 0, &image), None);
     for function in KNOWN {
         // Drive 9 and an unsound list come later in the order, so neither may be seen.
         let mut world = World::new(image.clone());
@@ -22,8 +23,8 @@ fn assert_broken(rule: ImageRule, image: Vec<u8>) {
 }
 
 fn assert_sound(image: Vec<u8>) {
-    assert_eq!(image_faults(&image), BTreeSet::new());
-    assert_eq!(reference::check(&image), 0);
+    assert_eq!(image_faults(Kind::First, &image), BTreeSet::new());
+    assert_eq!(reference::check(0, &image), 0);
     let mut world = World::new(image);
     assert_eq!(world.ask(0, 46, Fcb([255; 36])).go(), (0, 0));
 }
@@ -53,8 +54,8 @@ fn length() {
 
 #[test]
 fn length_comes_before_the_directory() {
-    assert_eq!(reference::check(&vec![0x77; 2048]), 1);
-    assert_eq!(reference::check(&vec![0x77; 3072]), 2);
+    assert_eq!(reference::check(0, &vec![0x77; 2048]), 1);
+    assert_eq!(reference::check(0, &vec![0x77; 3072]), 2);
 }
 
 #[test]

@@ -5,6 +5,7 @@ mod common;
 use common::{World, KNOWN, OK};
 use reference::build::{image_with, lock_item, name, open_item, place_start, put_item, Entry, Fcb};
 use reference::faults::{list_faults, ListRule};
+use reference::kind::Kind;
 use std::collections::BTreeSet;
 
 const SHARED: &str = "SHARED.DAT";
@@ -74,12 +75,15 @@ fn assert_unsound(mut world: World) {
 
 fn assert_broken(rules: &[ListRule], world: World) {
     let wanted: BTreeSet<ListRule> = rules.iter().copied().collect();
-    assert_eq!(list_faults(&world.list, &world.image), wanted);
+    assert_eq!(list_faults(Kind::First, &world.list, &world.image), wanted);
     assert_unsound(world);
 }
 
 fn assert_sound(mut world: World) {
-    assert_eq!(list_faults(&world.list, &world.image), BTreeSet::new());
+    assert_eq!(
+        list_faults(Kind::First, &world.list, &world.image),
+        BTreeSet::new()
+    );
     assert_eq!(world.ask(15, 46, Fcb([255; 36])).go(), OK);
 }
 

@@ -1,14 +1,21 @@
 -- `engine::mpm_call` meets its contract.
 use borrow.Author.Needs.{needs}
-use Rattle.engine.specs.Calls.{callBy}
+use Rattle.engine.proofs.Told.{call-known, call-other}
 use Rattle.engine.proofs.mpm_call.Statement.{statement}
 use Rattle.engine.proofs.mpm_call.Tie as tie
 
 pub mpm-call-spec : {M : Type 1} → statement M
-unfolding callBy
 mpm-call-spec =
     tie.close
     (tie.spec
+    -- told-kind-requires
+    (λ c κs. search needs)
+    -- enum-known-told
+    (λ c. search needs)
+    -- enum-told
+    (λ c. search needs)
+    -- returns
+    (λ c. search (call-known, call-other))
     -- answer-requires
     (λ c κs. search needs)
     -- same-length
@@ -19,5 +26,5 @@ mpm-call-spec =
     (λ c. search needs)
     -- same-length-4
     (λ c. search needs)
-    -- returns
-    (λ c. search needs))
+    -- returns-2
+    (λ c. search (call-known, call-other)))

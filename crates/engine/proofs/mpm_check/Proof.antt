@@ -1,4 +1,6 @@
+-- `engine::mpm_check` meets its contract.
 use borrow.Author.Needs.{needs}
+use Rattle.engine.proofs.Told.{check-known, check-other}
 use Rattle.engine.proofs.mpm_check.Statement.{statement}
 use Rattle.engine.proofs.mpm_check.Tie as tie
 
@@ -6,9 +8,17 @@ pub mpm-check-spec : {M : Type 1} → statement M
 mpm-check-spec =
     tie.close
     (tie.spec
+    -- told-kind-requires
+    (λ c κs. search needs)
+    -- enum-known-told
+    (λ c. search needs)
+    -- enum-told
+    (λ c. search needs)
+    -- returns
+    (λ c. search (check-known, check-other))
     -- image-check-requires
     (λ c κs. search needs)
     -- image-number-requires
     (λ c κs. search needs)
-    -- returns
-    (λ c. cc))
+    -- returns-2
+    (λ c. search (check-known, check-other)))

@@ -1,5 +1,7 @@
+-- `engine::mpm_look` meets its contract.
 use borrow.Author.Needs.{needs}
 use Rattle.engine.proofs.Passing.{look-small}
+use Rattle.engine.proofs.Told.{look-known, look-other}
 use Rattle.engine.proofs.mpm_look.Statement.{statement}
 use Rattle.engine.proofs.mpm_look.Tie as tie
 
@@ -7,9 +9,17 @@ pub mpm-look-spec : {M : Type 1} → statement M
 mpm-look-spec =
     tie.close
     (tie.spec
+    -- told-kind-requires
+    (λ c κs. search needs)
+    -- enum-known-told
+    (λ c. search needs)
+    -- enum-told
+    (λ c. search needs)
+    -- returns
+    (λ c. search (look-known, look-other))
     -- look-at-requires
     (λ c κs. search needs)
     -- cast-result
     (λ c. let h = look-small _ _ _ _ _ _ (c .look-at .ensures) in search needs)
-    -- returns
-    (λ c. search needs))
+    -- returns-2
+    (λ c. search (look-known, look-other)))

@@ -25,6 +25,7 @@ unsafe fn lent_mut<'a>(bytes: *mut u8, length: usize) -> &'a mut [u8] {
 #[no_mangle]
 #[allow(clippy::too_many_arguments)]
 pub unsafe extern "C" fn mpm_call(
+    kind: u32,
     function: u32,
     process: u32,
     count: u32,
@@ -38,6 +39,7 @@ pub unsafe extern "C" fn mpm_call(
     image_len: usize,
 ) -> u32 {
     reference::call(
+        kind,
         function,
         process,
         count,
@@ -53,6 +55,7 @@ pub unsafe extern "C" fn mpm_call(
 #[no_mangle]
 #[allow(clippy::too_many_arguments)]
 pub unsafe extern "C" fn mpm_singly(
+    kind: u32,
     function: u32,
     process: u32,
     count: u32,
@@ -66,6 +69,7 @@ pub unsafe extern "C" fn mpm_singly(
     image_len: usize,
 ) -> u32 {
     reference::call_singly(
+        kind,
         function,
         process,
         count,
@@ -80,6 +84,7 @@ pub unsafe extern "C" fn mpm_singly(
 /// The two buffers must be good for their lengths and separate.
 #[no_mangle]
 pub unsafe extern "C" fn mpm_start(
+    kind: u32,
     capacity: u32,
     open_limit: u32,
     lock_limit: u32,
@@ -89,6 +94,7 @@ pub unsafe extern "C" fn mpm_start(
     list_len: usize,
 ) -> u32 {
     reference::start(
+        kind,
         capacity,
         open_limit,
         lock_limit,
@@ -100,14 +106,15 @@ pub unsafe extern "C" fn mpm_start(
 /// # Safety
 /// The image must be good for its length.
 #[no_mangle]
-pub unsafe extern "C" fn mpm_check(image: *const u8, image_len: usize) -> u32 {
-    reference::check(lent(image, image_len))
+pub unsafe extern "C" fn mpm_check(kind: u32, image: *const u8, image_len: usize) -> u32 {
+    reference::check(kind, lent(image, image_len))
 }
 
 /// # Safety
 /// The two buffers must be good for their lengths.
 #[no_mangle]
 pub unsafe extern "C" fn mpm_look(
+    kind: u32,
     user: u32,
     name: *const u8,
     name_len: usize,
@@ -115,6 +122,6 @@ pub unsafe extern "C" fn mpm_look(
     image: *const u8,
     image_len: usize,
 ) -> u32 {
-    let found = reference::look(user, lent(name, name_len), record, lent(image, image_len));
+    let found = reference::look(kind, user, lent(name, name_len), record, lent(image, image_len));
     found.map_or(0, |at| at as u32)
 }

@@ -4,6 +4,8 @@ use reference::comparison::{describe, keep_case, on_reference, read_case, Compar
 use reference::coverage::Coverage;
 use reference::engine::{Engine, Reference};
 use reference::generate::Generator;
+use reference::kind::Kind;
+use reference::named;
 use reference::pipe::Pipe;
 use reference::stage::Made;
 use reference::step::Step;
@@ -126,9 +128,10 @@ fn compare(options: &Options, engine: &mut dyn Engine) -> ExitCode {
     let mut generator = Generator::new(options.seed);
     let mut comparison = Comparison::new(engine);
     let began = Instant::now();
-    for (case, made) in generator.named() {
+    for case in named::cases() {
+        let made = generator.named_case(&case);
         if let Some(difference) = comparison.run(&made) {
-            return report_difference(options, case, &made, &difference);
+            return report_difference(options, &case.title(), &made, &difference);
         }
     }
     let mut reported = began;
@@ -224,19 +227,21 @@ fn replay(folder: &Path, engine: &mut dyn Engine) -> ExitCode {
     verdict
 }
 
-/// Times the reference alone, on steps made beforehand.
+/// Times the reference alone, on steps made beforehand, for each kind of drive.
 fn measure_speed(seed: u64) -> ExitCode {
-    let mut generator = Generator::new(seed);
-    let made: Vec<Made> = (0..1_000).flat_map(|_| generator.session()).collect();
-    let calls = made
-        .iter()
-        .filter(|made| matches!(made.step, Step::Call { .. }))
-        .count();
-    let (mut table, mut reference) = (Table::default(), Reference::default());
-    let began = Instant::now();
-    for Made { step, .. } in &made {
-        table.serve(&mut reference, step);
+    for kind in Kind::ALL {
+        let mut generator = Generator::new(seed);
+        let made: Vec<Made> = (0..300).flat_map(|_| generator.session_of(kind)).collect();
+        let calls = made
+            .iter()
+            .filter(|made| matches!(made.step, Step::Call { .. }))
+            .count();
+        let (mut table, mut reference) = (Table::default(), Reference::default());
+        let began = Instant::now();
+        for Made { step, .. } in &made {
+            table.serve(&mut reference, step);
+        }
+        println!("kind {}: {}", kind.number(), progress(calls as u64, began));
     }
-    println!("{}", progress(calls as u64, began));
     ExitCode::SUCCESS
 }

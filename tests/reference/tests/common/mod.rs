@@ -11,6 +11,8 @@ pub const KNOWN: [u32; 13] = [15, 16, 19, 22, 23, 33, 34, 40, 41, 42, 43, 46, 14
 
 #[derive(Clone, PartialEq, Eq)]
 pub struct World {
+    /// The kind of drive that its calls are told.
+    pub kind: u32,
     pub image: Vec<u8>,
     pub list: Vec<u8>,
     pub fcb: Vec<u8>,
@@ -41,11 +43,20 @@ impl World {
         World::with_users(image, [capacity, open_limit, lock_limit], [0; 16])
     }
 
+    /// On a drive of the second kind.
+    pub fn large(image: Vec<u8>) -> World {
+        World {
+            kind: 1,
+            ..World::new(image)
+        }
+    }
+
     pub fn with_users(image: Vec<u8>, numbers: [u32; 3], users: [u8; 16]) -> World {
         let mut list = vec![0xAA; 1299];
-        let answer = reference::start(numbers[0], numbers[1], numbers[2], &users, &mut list);
+        let answer = reference::start(0, numbers[0], numbers[1], numbers[2], &users, &mut list);
         assert_eq!(answer, 0);
         World {
+            kind: 0,
             image,
             list,
             fcb: Vec::new(),
@@ -135,6 +146,7 @@ impl Call<'_> {
         world.dma = dma;
         let before = world.clone();
         let word = reference::call(
+            world.kind,
             function,
             process,
             count,

@@ -1,7 +1,59 @@
+#!/usr/bin/env bash
+# expected.sh [small|large]: what the story has to print on a drive of that kind (small). What depends on the kind is
+# worked out here from its block's records and its number of blocks, and by nothing of story.c.
+set -euo pipefail
+goods=(apples plums salt tea nails soap rope)
+case ${1:-small} in
+small) records=8 blocks=16 ;;
+large) records=16 blocks=257 ;;
+*)
+    echo "use: expected.sh [small|large]" >&2
+    exit 2
+    ;;
+esac
+taken=$(((24 + records - 1) / records)) # blocks, by the 24 lines of the morning
+free=$((records * (blocks - 2 - taken)))
+new=$((records * taken))        # the first line in a new block
+pair=$((new + records - 2))     # the first of four lines, two in this block and two in the next
+last=$((new + 2 * records - 1)) # the last line with a block
+screen=$((last - 11))           # the first of sixteen lines, twelve with a block
+
+row() { # NUMBER WHO CALL WORDS ANSWER NAME
+    printf '%4u  %-7s  %4s  %-45s  %-6s  %s\n' "$@"
+}
+
+# The blocks are taken in rising order, so a file's records stand one behind the other.
+shown() { # LINE [CLERK]: without a clerk, a line that was only cleared
+    local text='(zeros)'
+    if [ $# -eq 2 ]; then
+        text=$(printf 'line %2u: %u crates of %s, clerk %u' "$1" $((4 + $1 % 5 + 10 * $2)) "${goods[$1 % 7]}" "$2")
+    fi
+    printf '%6u  %9u  %s\n' "$1" $((128 * (2 * records + $1))) "$text"
+}
+
+shown_lines() {
+    shown 0 1
+    shown 1 3
+    shown 3 3
+    shown 4 2
+    shown 5 2
+    for line in 6 7 8 11; do shown "$line" 1; done
+    shown 12 2
+    shown 23 2
+    shown "$new" 2
+    shown $((new + 1))
+    shown $((pair - 1))
+    for line in 0 1 2 3; do shown $((pair + line)) 3; done
+    shown $((pair + 4))
+    shown "$last"
+    printf '%6u  %9u  %s\n' $((last + 1)) 0 'nothing to show'
+}
+
+cat <<TEXT
 An order book that clerks share. A/H is the engine's answer.
 
 step  who      call  what                                           A/H     name
-   1  host        -  makes ORDERS.IMG, 16 empty blocks; checks it   0       MPM_SOUND
+$(row 1 host - "makes ORDERS.IMG, $blocks empty blocks; checks it" 0 MPM_SOUND)
    2  host        -  starts a list: 12 places, 2 opens, 10 locks    0/0     MPM_OK
    3  office     22  makes ORDERS.DAT                               0/0     MPM_OK, File ID 0
    4  office     16  closes it                                      0/0     MPM_OK
@@ -9,7 +61,7 @@ step  who      call  what                                           A/H     name
    6  clerk 2    15  opens it unlocked                              0/0     MPM_OK, File ID 1
    7  clerk 1    40  writes lines 0 to 11                           0/0     MPM_OK, 12 lines done
    8  clerk 2    40  writes lines 12 to 23                          0/0     MPM_OK, 12 lines done
-   9  clerk 2    46  asks for the free space                        0/0     MPM_OK, 88 records free
+   9  clerk 2    46  asks for the free space                        0/0     MPM_OK, $((free)) records free
   10  clerk 1    42  locks lines 0 to 9                             0/0     MPM_OK
 
 The lock list before the death
@@ -66,15 +118,15 @@ step  who      call  what                                           A/H     name
   20  clerk 2    42  locks lines 4 to 6                             0/0     MPM_OK
   21  clerk 2    34  writes line 4                                  0/0     MPM_OK
   22  clerk 2    41  writes line 5 if it is still as it was         0/0     MPM_OK
-  23  clerk 2    40  writes line 24, in a new block                 0/0     MPM_OK
-  24  clerk 2    46  asks for the free space                        0/0     MPM_OK, 80 records free
+$(row 23 'clerk 2' 40 "writes line $new, in a new block" 0/0 MPM_OK)
+  24  clerk 2    46  asks for the free space                        0/0     MPM_OK, $((free - records)) records free
   25  clerk 3    15  opens it unlocked                              0/0     MPM_OK, File ID 4
   26  clerk 3    33  reads lines 0 to 15, a screen                  0/0     MPM_OK, 16 lines done
   27  clerk 3    34  writes lines 1 to 8: clerk 2 holds 4           8/48    MPM_LOCKED, 3 lines done
   28  clerk 3    33  reads lines 0 to 15 again                      0/0     MPM_OK, 16 lines done
-  29  clerk 3    40  writes lines 30 to 33, two in a new block      0/0     MPM_OK, 4 lines done
-  30  clerk 3    33  reads lines 28 to 43: none are past 39         1/192   MPM_NO_BLOCK, 12 lines done
-  31  clerk 3    46  asks for the free space                        0/0     MPM_OK, 72 records free
+$(row 29 'clerk 3' 40 "writes lines $pair to $((pair + 3)), two in a new block" 0/0 'MPM_OK, 4 lines done')
+$(row 30 'clerk 3' 33 "reads lines $screen to $((screen + 15)): none are past $last" 1/192 'MPM_NO_BLOCK, 12 lines done')
+  31  clerk 3    46  asks for the free space                        0/0     MPM_OK, $((free - 2 * records)) records free
 
 The lock list while clerks 2 and 3 go on
   place  item  process  file          mode       record
@@ -96,26 +148,7 @@ The lock list in the evening
 
 What Look shows of ORDERS.DAT
   line  begins at  text
-     0       2048  line  0: 14 crates of apples, clerk 1
-     1       2176  line  1: 35 crates of plums, clerk 3
-     3       2432  line  3: 37 crates of tea, clerk 3
-     4       2560  line  4: 28 crates of nails, clerk 2
-     5       2688  line  5: 24 crates of soap, clerk 2
-     6       2816  line  6: 15 crates of rope, clerk 1
-     7       2944  line  7: 16 crates of apples, clerk 1
-     8       3072  line  8: 17 crates of plums, clerk 1
-    11       3456  line 11: 15 crates of nails, clerk 1
-    12       3584  line 12: 26 crates of soap, clerk 2
-    23       4992  line 23: 27 crates of salt, clerk 2
-    24       5120  line 24: 28 crates of tea, clerk 2
-    25       5248  (zeros)
-    29       5760  (zeros)
-    30       5888  line 30: 34 crates of salt, clerk 3
-    31       6016  line 31: 35 crates of tea, clerk 3
-    32       6144  line 32: 36 crates of nails, clerk 3
-    33       6272  line 33: 37 crates of soap, clerk 3
-    34       6400  (zeros)
-    39       7040  (zeros)
-    40          0  nothing to show
+$(shown_lines)
 
 All 35 steps went as expected.
+TEXT

@@ -1,0 +1,59 @@
+/* The engine of an archive, with the parameters of today's mpm.h whatever version its own was: NAME_call, NAME_singly
+   and NAME_check over NAME_own_call and so on, which the archive's mpm_call and so on are renamed to. NAME and VERSION,
+   the number in the archive's own mpm.h, are given when it is compiled.
+   Until version 2 there was one kind of drive, and nobody was told which. */
+#include <stddef.h>
+#include <stdint.h>
+
+#if VERSION < 2 || VERSION > 3
+#error "only engines of the versions 2 and 3 can be called"
+#endif
+
+#define JOINED(name, what) name##_##what
+#define OF(name, what) JOINED(name, what)
+#define OWN(what) OF(NAME, own_##what)
+#define OUTER(what) OF(NAME, what)
+
+#if VERSION < 3
+enum { KINDS = 1 };
+#define KIND_TYPE
+#define KIND
+#else
+enum { KINDS = 2 };
+#define KIND_TYPE uint32_t,
+#define KIND kind,
+#endif
+
+typedef uint32_t own_call(KIND_TYPE uint32_t, uint32_t, uint32_t, uint8_t *, size_t, uint8_t *, size_t, uint8_t *,
+                          size_t, uint8_t *, size_t);
+typedef uint32_t own_check(KIND_TYPE const uint8_t *, size_t);
+typedef uint32_t outer_call(uint32_t, uint32_t, uint32_t, uint32_t, uint8_t *, size_t, uint8_t *, size_t, uint8_t *,
+                            size_t, uint8_t *, size_t);
+typedef uint32_t outer_check(uint32_t, const uint8_t *, size_t);
+
+extern own_call OWN(call), OWN(singly);
+extern own_check OWN(check);
+extern outer_call OUTER(call), OUTER(singly);
+extern outer_check OUTER(check);
+uint32_t OUTER(kinds)(void);
+
+/* How many kinds of drive the engine knows. It is asked for no other. */
+uint32_t OUTER(kinds)(void) { return KINDS; }
+
+uint32_t OUTER(call)(uint32_t kind, uint32_t function, uint32_t process, uint32_t count, uint8_t *fcb, size_t fcb_len,
+                     uint8_t *dma, size_t dma_len, uint8_t *list, size_t list_len, uint8_t *image, size_t image_len) {
+    (void)kind;
+    return OWN(call)(KIND function, process, count, fcb, fcb_len, dma, dma_len, list, list_len, image, image_len);
+}
+
+uint32_t OUTER(singly)(uint32_t kind, uint32_t function, uint32_t process, uint32_t count, uint8_t *fcb,
+                       size_t fcb_len, uint8_t *dma, size_t dma_len, uint8_t *list, size_t list_len, uint8_t *image,
+                       size_t image_len) {
+    (void)kind;
+    return OWN(singly)(KIND function, process, count, fcb, fcb_len, dma, dma_len, list, list_len, image, image_len);
+}
+
+uint32_t OUTER(check)(uint32_t kind, const uint8_t *image, size_t image_len) {
+    (void)kind;
+    return OWN(check)(KIND image, image_len);
+}
