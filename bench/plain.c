@@ -467,28 +467,28 @@ static uint32_t open_new(struct job *j, size_t e, uint8_t mode) {
 
 static uint32_t open_file(struct job *j) {
     uint8_t mode = j->fcb[6] >= 128 ? READ_ONLY : j->fcb[5] >= 128 ? UNLOCKED : LOCKED;
-    if (!legal_name(j->fcb + 1)) return MPM_BAD_NAME;
+    if (!legal_name(j->fcb + 1)) return MPM_ERR_BAD_NAME;
     size_t e = entry_of(&j->drive, &j->file, 0);
-    if (e == ENTRIES) return MPM_NOT_FOUND;
+    if (e == ENTRIES) return MPM_ERR_NOT_FOUND;
     size_t o = own_open(j);
     if (o < PLACES) {
-        if (j->locks.items[o].mode != mode) return MPM_IN_USE;
+        if (j->locks.items[o].mode != mode) return MPM_ERR_IN_USE;
         set_fcb(j, e, mode, o);
         return MPM_OK;
     }
-    if (any_against(j, mode)) return MPM_IN_USE;
-    if (kinds_by(j, OPEN) >= j->locks.open_limit) return MPM_OPEN_LIMIT;
-    if (free_place(&j->locks) >= j->locks.capacity) return MPM_OPEN_LIST_FULL;
+    if (any_against(j, mode)) return MPM_ERR_IN_USE;
+    if (kinds_by(j, OPEN) >= j->locks.open_limit) return MPM_ERR_OPEN_LIMIT;
+    if (free_place(&j->locks) >= j->locks.capacity) return MPM_ERR_OPEN_LIST_FULL;
     return open_new(j, e, mode);
 }
 
 static uint32_t make_file(struct job *j) {
-    if (!legal_name(j->fcb + 1)) return MPM_BAD_NAME;
-    if (entry_of(&j->drive, &j->file, 0) < ENTRIES) return MPM_EXISTS;
-    if (kinds_by(j, OPEN) >= j->locks.open_limit) return MPM_OPEN_LIMIT;
-    if (free_place(&j->locks) >= j->locks.capacity) return MPM_OPEN_LIST_FULL;
+    if (!legal_name(j->fcb + 1)) return MPM_ERR_BAD_NAME;
+    if (entry_of(&j->drive, &j->file, 0) < ENTRIES) return MPM_ERR_EXISTS;
+    if (kinds_by(j, OPEN) >= j->locks.open_limit) return MPM_ERR_OPEN_LIMIT;
+    if (free_place(&j->locks) >= j->locks.capacity) return MPM_ERR_OPEN_LIST_FULL;
     size_t e = free_entry(&j->drive);
-    if (e == ENTRIES) return MPM_NOT_FOUND;
+    if (e == ENTRIES) return MPM_ERR_NO_EMPTY_ENTRY;
     uint8_t *entry = entry_at(&j->drive, e);
     memset(entry, 0, ENTRY);
     entry[0] = j->file.user;
@@ -497,7 +497,7 @@ static uint32_t make_file(struct job *j) {
 }
 
 static uint32_t close_file(struct job *j) {
-    if (own_open(j) == PLACES) return MPM_CLOSE_NOT_OPEN;
+    if (own_open(j) == PLACES) return MPM_ERR_CLOSE_NOT_OPEN;
     for (size_t i = 0; i < PLACES; i++) {
         struct item *it = &j->locks.items[i];
         if (it->kind != EMPTY && it->process == j->process && same_name(it->name, j->file.name)) take_away(it);
@@ -507,11 +507,11 @@ static uint32_t close_file(struct job *j) {
 }
 
 static uint32_t delete_file(struct job *j) {
-    if (!legal_name(j->fcb + 1)) return MPM_BAD_NAME;
+    if (!legal_name(j->fcb + 1)) return MPM_ERR_BAD_NAME;
     size_t e = entry_of(&j->drive, &j->file, 0);
-    if (e == ENTRIES) return MPM_NOT_FOUND;
-    if (any_open(&j->locks, &j->file)) return MPM_IN_USE;
-    if (entry_at(&j->drive, e)[9] >= 128) return MPM_READ_ONLY;
+    if (e == ENTRIES) return MPM_ERR_NOT_FOUND;
+    if (any_open(&j->locks, &j->file)) return MPM_ERR_IN_USE;
+    if (entry_at(&j->drive, e)[9] >= 128) return MPM_ERR_READ_ONLY;
     for (e = 0; e < ENTRIES; e++)
         if (is_of(entry_at(&j->drive, e), &j->file)) entry_at(&j->drive, e)[0] = MPM_EMPTY;
     return MPM_OK;
@@ -522,13 +522,13 @@ static void rename_entry(uint8_t *entry, const uint8_t *name) {
 }
 
 static uint32_t rename_file(struct job *j) {
-    if (!legal_name(j->fcb + 1) || !legal_name(j->fcb + 17)) return MPM_BAD_NAME;
+    if (!legal_name(j->fcb + 1) || !legal_name(j->fcb + 17)) return MPM_ERR_BAD_NAME;
     struct file new = file_from(j->file.user, j->fcb + 17);
     size_t e = entry_of(&j->drive, &j->file, 0);
-    if (e == ENTRIES) return MPM_NOT_FOUND;
-    if (any_open(&j->locks, &j->file)) return MPM_IN_USE;
-    if (entry_at(&j->drive, e)[9] >= 128) return MPM_READ_ONLY;
-    if (entry_of(&j->drive, &new, 0) < ENTRIES) return MPM_EXISTS;
+    if (e == ENTRIES) return MPM_ERR_NOT_FOUND;
+    if (any_open(&j->locks, &j->file)) return MPM_ERR_IN_USE;
+    if (entry_at(&j->drive, e)[9] >= 128) return MPM_ERR_READ_ONLY;
+    if (entry_of(&j->drive, &new, 0) < ENTRIES) return MPM_ERR_EXISTS;
     for (e = 0; e < ENTRIES; e++)
         if (is_of(entry_at(&j->drive, e), &j->file)) rename_entry(entry_at(&j->drive, e), new.name);
     return MPM_OK;
@@ -552,17 +552,17 @@ static size_t entry_in_run(const struct job *j, uint32_t record, uint32_t k, siz
 }
 
 static uint32_t read_at(const struct job *j, size_t e, uint32_t record, uint8_t *to) {
-    if (record > LAST_RECORD) return MPM_PAST_END;
-    if (e == ENTRIES) return MPM_NO_EXTENT;
+    if (record > LAST_RECORD) return MPM_ERR_PAST_END;
+    if (e == ENTRIES) return MPM_ERR_NO_EXTENT;
     size_t block = block_in(&j->drive, e, record);
-    if (block == 0) return MPM_NO_BLOCK;
+    if (block == 0) return MPM_ERR_NO_BLOCK;
     memcpy(to, record_at(j, block, record), MPM_RECORD_LEN);
     return MPM_OK;
 }
 
 static uint32_t read_records(struct job *j) {
     uint32_t record = record_of(j);
-    if (own_open(j) == PLACES) return MPM_NOT_OPEN;
+    if (own_open(j) == PLACES) return MPM_ERR_NOT_OPEN;
     size_t e = ENTRIES;
     for (uint32_t k = 0; k < j->count; k++) {
         e = entry_in_run(j, record, k, e);
@@ -575,8 +575,8 @@ static uint32_t read_records(struct job *j) {
 /* The refusals that 34, 40 and 41 share and that do not depend on the record. */
 static uint32_t may_write(const struct job *j, size_t first) {
     size_t o = own_open(j);
-    if (o == PLACES) return MPM_NOT_OPEN;
-    return entry_at(&j->drive, first)[9] >= 128 || j->locks.items[o].mode == READ_ONLY ? MPM_READ_ONLY : MPM_OK;
+    if (o == PLACES) return MPM_ERR_NOT_OPEN;
+    return entry_at(&j->drive, first)[9] >= 128 || j->locks.items[o].mode == READ_ONLY ? MPM_ERR_READ_ONLY : MPM_OK;
 }
 
 static void raise_count(uint8_t *entry, uint32_t record) {
@@ -610,8 +610,8 @@ static void fill_spot(const struct job *j, const struct spot *w, size_t first, u
 static uint32_t write_at(const struct job *j, size_t first, size_t *e, uint32_t record, const uint8_t *from,
                          bool zeros) {
     struct spot w = spot_at(&j->drive, *e, record);
-    if (w.entry == ENTRIES) return MPM_DIRECTORY_FULL;
-    if (w.block == j->drive.blocks) return MPM_DISK_FULL;
+    if (w.entry == ENTRIES) return MPM_ERR_DIRECTORY_FULL;
+    if (w.block == j->drive.blocks) return MPM_ERR_DISK_FULL;
     fill_spot(j, &w, first, record, zeros);
     memcpy(record_at(j, w.block, record), from, MPM_RECORD_LEN);
     *e = w.entry;
@@ -626,8 +626,8 @@ static uint32_t write_records(struct job *j, bool zeros) {
     uint32_t locked = locked_in_run(j, record);
     size_t e = ENTRIES;
     for (uint32_t k = 0; k < j->count; k++) {
-        if (record + k > LAST_RECORD) return stopped(MPM_PAST_END, k);
-        if (locked >> k & 1u) return stopped(MPM_LOCKED, k);
+        if (record + k > LAST_RECORD) return stopped(MPM_ERR_PAST_END, k);
+        if (locked >> k & 1u) return stopped(MPM_ERR_LOCKED, k);
         e = entry_in_run(j, record, k, e);
         refused = write_at(j, first, &e, record + k, j->dma + MPM_DMA_AT(k), zeros);
         if (refused != MPM_OK) return stopped(refused, k);
@@ -639,13 +639,13 @@ static uint32_t test_write(struct job *j) {
     uint32_t record = record_of(j);
     uint32_t refused = may_write(j, entry_of(&j->drive, &j->file, 0));
     if (refused != MPM_OK) return refused;
-    if (record > LAST_RECORD) return MPM_PAST_END;
-    if (locked_by_other(j, record)) return MPM_LOCKED;
+    if (record > LAST_RECORD) return MPM_ERR_PAST_END;
+    if (locked_by_other(j, record)) return MPM_ERR_LOCKED;
     size_t e = entry_of(&j->drive, &j->file, record / 128);
-    if (e == ENTRIES) return MPM_NO_EXTENT;
+    if (e == ENTRIES) return MPM_ERR_NO_EXTENT;
     size_t block = block_in(&j->drive, e, record);
-    if (block == 0) return MPM_NO_BLOCK;
-    if (memcmp(j->dma, record_at(j, block, record), MPM_RECORD_LEN) != 0) return MPM_DIFFERS;
+    if (block == 0) return MPM_ERR_NO_BLOCK;
+    if (memcmp(j->dma, record_at(j, block, record), MPM_RECORD_LEN) != 0) return MPM_ERR_DIFFERS;
     raise_count(entry_at(&j->drive, e), record);
     memcpy(record_at(j, block, record), j->dma + MPM_DMA_NEW, MPM_RECORD_LEN);
     return MPM_OK;
@@ -664,29 +664,29 @@ static uint32_t free_space(struct job *j) {
 static uint32_t lacking(const struct job *j, uint32_t record) {
     for (uint32_t k = 0; k < j->count; k++) {
         size_t e = entry_of(&j->drive, &j->file, (record + k) / 128);
-        if (e == ENTRIES) return MPM_NO_EXTENT;
-        if (block_in(&j->drive, e, record + k) == 0) return MPM_NO_BLOCK;
+        if (e == ENTRIES) return MPM_ERR_NO_EXTENT;
+        if (block_in(&j->drive, e, record + k) == 0) return MPM_ERR_NO_BLOCK;
     }
     return MPM_OK;
 }
 
 static uint32_t not_to_take(const struct job *j, uint32_t record) {
     for (uint32_t k = 0; k < j->count; k++)
-        if (locked_by_other(j, record + k)) return MPM_LOCKED;
-    if (kinds_by(j, LOCK) + j->count > j->locks.lock_limit) return MPM_LOCK_LIMIT;
+        if (locked_by_other(j, record + k)) return MPM_ERR_LOCKED;
+    if (kinds_by(j, LOCK) + j->count > j->locks.lock_limit) return MPM_ERR_LOCK_LIMIT;
     size_t fresh = 0;
     for (uint32_t k = 0; k < j->count; k++) fresh += !held(j, record + k);
-    return free_places(&j->locks) < fresh ? MPM_LOCK_LIST_FULL : MPM_OK;
+    return free_places(&j->locks) < fresh ? MPM_ERR_LOCK_LIST_FULL : MPM_OK;
 }
 
 /* The refusals that 42 and 43 share; *done where the mode has no locks. */
 static uint32_t may_lock(const struct job *j, uint32_t record, bool *done) {
     size_t o = own_open(j);
-    if (o == PLACES) return MPM_NOT_OPEN;
+    if (o == PLACES) return MPM_ERR_NOT_OPEN;
     *done = j->locks.items[o].mode != UNLOCKED;
     if (*done) return MPM_OK;
-    if (j->dma[0] != o || j->dma[1] != 0) return MPM_BAD_FILE_ID;
-    return record + j->count - 1 > LAST_RECORD ? MPM_PAST_END : MPM_OK;
+    if (j->dma[0] != o || j->dma[1] != 0) return MPM_ERR_BAD_FILE_ID;
+    return record + j->count - 1 > LAST_RECORD ? MPM_ERR_PAST_END : MPM_OK;
 }
 
 static uint32_t lock_records(struct job *j) {
@@ -729,52 +729,52 @@ static uint32_t terminate(struct job *j) {
 
 static bool is_known(uint32_t function) {
     switch (function) {
-    case MPM_OPEN:
-    case MPM_CLOSE:
-    case MPM_DELETE:
-    case MPM_MAKE:
-    case MPM_RENAME:
-    case MPM_READ:
-    case MPM_WRITE:
-    case MPM_WRITE_ZEROS:
-    case MPM_TEST_WRITE:
-    case MPM_LOCK:
-    case MPM_UNLOCK:
-    case MPM_FREE_SPACE:
-    case MPM_TERMINATE:
+    case MPM_FN_OPEN:
+    case MPM_FN_CLOSE:
+    case MPM_FN_DELETE:
+    case MPM_FN_MAKE:
+    case MPM_FN_RENAME:
+    case MPM_FN_READ:
+    case MPM_FN_WRITE:
+    case MPM_FN_WRITE_ZEROS:
+    case MPM_FN_TEST_WRITE:
+    case MPM_FN_LOCK:
+    case MPM_FN_UNLOCK:
+    case MPM_FN_FREE_SPACE:
+    case MPM_FN_TERMINATE:
         return true;
     default:
         return false;
     }
 }
 
-static bool reads_drive(uint32_t function) { return function != MPM_FREE_SPACE && function != MPM_TERMINATE; }
+static bool reads_drive(uint32_t function) { return function != MPM_FN_FREE_SPACE && function != MPM_FN_TERMINATE; }
 
 static uint32_t serve(uint32_t function, struct job *j) {
     switch (function) {
-    case MPM_OPEN:
+    case MPM_FN_OPEN:
         return open_file(j);
-    case MPM_CLOSE:
+    case MPM_FN_CLOSE:
         return close_file(j);
-    case MPM_DELETE:
+    case MPM_FN_DELETE:
         return delete_file(j);
-    case MPM_MAKE:
+    case MPM_FN_MAKE:
         return make_file(j);
-    case MPM_RENAME:
+    case MPM_FN_RENAME:
         return rename_file(j);
-    case MPM_READ:
+    case MPM_FN_READ:
         return read_records(j);
-    case MPM_WRITE:
+    case MPM_FN_WRITE:
         return write_records(j, false);
-    case MPM_WRITE_ZEROS:
+    case MPM_FN_WRITE_ZEROS:
         return write_records(j, true);
-    case MPM_TEST_WRITE:
+    case MPM_FN_TEST_WRITE:
         return test_write(j);
-    case MPM_LOCK:
+    case MPM_FN_LOCK:
         return lock_records(j);
-    case MPM_UNLOCK:
+    case MPM_FN_UNLOCK:
         return unlock_records(j);
-    case MPM_FREE_SPACE:
+    case MPM_FN_FREE_SPACE:
         return free_space(j);
     default:
         return terminate(j);
@@ -786,15 +786,15 @@ static uint32_t serve(uint32_t function, struct job *j) {
 
 uint32_t CALL(KIND)(uint32_t function, uint32_t process, uint32_t count, uint8_t *fcb, size_t fcb_len, uint8_t *dma,
                     size_t dma_len, uint8_t *list, size_t list_len, uint8_t *image, size_t image_len) {
-    if (!is_known(function) || process > 15 || count < 1 || count > 16) return MPM_BAD_CALL;
-    if (fcb_len != MPM_FCB_LEN || dma_len != MPM_DMA_LEN || list_len != MPM_LIST_LEN) return MPM_BAD_CALL;
+    if (!is_known(function) || process > 15 || count < 1 || count > 16) return MPM_ERR_BAD_CALL;
+    if (fcb_len != MPM_FCB_LEN || dma_len != MPM_DMA_LEN || list_len != MPM_LIST_LEN) return MPM_ERR_BAD_CALL;
     struct job j;
     j.drive = (struct drive){image, image_len / BLOCK};
-    if (!good_length(image_len) || !sound_directory(&j.drive)) return MPM_BAD_IMAGE;
-    if (!all_zero(list)) return MPM_BAD_LIST;
+    if (!good_length(image_len) || !sound_directory(&j.drive)) return MPM_ERR_BAD_IMAGE;
+    if (!all_zero(list)) return MPM_ERR_BAD_LIST;
     unpack(&j.locks, list);
-    if (!sound_locks(&j.drive, &j.locks)) return MPM_BAD_LIST;
-    if (fcb[0] > 1 && reads_drive(function)) return MPM_BAD_DRIVE;
+    if (!sound_locks(&j.drive, &j.locks)) return MPM_ERR_BAD_LIST;
+    if (fcb[0] > 1 && reads_drive(function)) return MPM_ERR_BAD_DRIVE;
     j.process = (uint8_t)process;
     j.count = count;
     j.fcb = fcb;

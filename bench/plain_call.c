@@ -12,6 +12,6 @@ uint32_t plain_call(uint32_t kind, uint32_t function, uint32_t process, uint32_t
     case MPM_KIND_LARGE:
         return plain_call_LARGE(function, process, count, fcb, fcb_len, dma, dma_len, list, list_len, image, image_len);
     default:
-        return MPM_BAD_CALL;
+        return MPM_ERR_BAD_CALL;
     }
 }

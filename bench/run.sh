@@ -86,9 +86,10 @@ code_size() { size "$1" | awk 'NR > 1 { sum += $1 } END { print sum }'; }
 
 # What a reader has to know of the run, and the sizes.
 describe() {
-    echo "Run on $(nproc) cores of $(processor), Linux $(uname -m), with $("$own/toolchain/bin/clang" --version | head -n 1)"
-    echo "and $(rustc --version), $(date -u +%Y-%m-%d)."
-    echo "Code of the archive that ships: $(code_size "$archive") bytes; built for this processor: $(code_size "$native")."
+    echo "Run on $(nproc) cores of $(processor), Linux $(uname -m), with" \
+        "$("$own/toolchain/bin/clang" --version | head -n 1) and $(rustc --version), $(date -u +%Y-%m-%d). Code of the" \
+        "archive that ships: $(code_size "$archive") bytes; built for this processor: $(code_size "$native")." |
+        fold -s -w 120 | sed 's/ *$//'
     echo
 }
 

@@ -44,36 +44,45 @@ struct rule {
     } changes[CHANGES];
 };
 
-#define NO_FCB MPM_OK, MPM_BAD_CALL, MPM_BAD_IMAGE, MPM_BAD_LIST
-#define ALL NO_FCB, MPM_BAD_DRIVE
+#define NO_FCB MPM_OK, MPM_ERR_BAD_CALL, MPM_ERR_BAD_IMAGE, MPM_ERR_BAD_LIST
+#define ALL NO_FCB, MPM_ERR_BAD_DRIVE
 #define AFTER(answer) (AFTER_SOME + (answer))
-#define NO_RECORD MPM_NO_EXTENT, MPM_NO_BLOCK
-#define READ ALL, MPM_NOT_OPEN, MPM_PAST_END, NO_RECORD, AFTER(MPM_PAST_END), AFTER(MPM_NO_EXTENT), AFTER(MPM_NO_BLOCK)
-#define WRITE ALL, MPM_NOT_OPEN, MPM_READ_ONLY, MPM_PAST_END, MPM_LOCKED
+#define NO_RECORD MPM_ERR_NO_EXTENT, MPM_ERR_NO_BLOCK
+#define READ                                                                                                           \
+    ALL, MPM_ERR_NOT_OPEN, MPM_ERR_PAST_END, NO_RECORD, AFTER(MPM_ERR_PAST_END), AFTER(MPM_ERR_NO_EXTENT),             \
+        AFTER(MPM_ERR_NO_BLOCK)
+#define WRITE ALL, MPM_ERR_NOT_OPEN, MPM_ERR_READ_ONLY, MPM_ERR_PAST_END, MPM_ERR_LOCKED
 #define FILL                                                                                                           \
-    WRITE, MPM_DIRECTORY_FULL, MPM_DISK_FULL, AFTER(MPM_PAST_END), AFTER(MPM_LOCKED), AFTER(MPM_DIRECTORY_FULL),       \
-        AFTER(MPM_DISK_FULL)
+    WRITE, MPM_ERR_DIRECTORY_FULL, MPM_ERR_DISK_FULL, AFTER(MPM_ERR_PAST_END), AFTER(MPM_ERR_LOCKED),                  \
+        AFTER(MPM_ERR_DIRECTORY_FULL), AFTER(MPM_ERR_DISK_FULL)
 #define PLACES {LIST, MPM_LIST_PLACES, MPM_LIST_LEN}
 #define OPENED {FCB, 12, 32}, {FCB, MPM_FCB_RECORD, MPM_FCB_LEN}, PLACES
 #define DIRECTORY {IMAGE, 0, DIRECTORY_END}
 #define DRIVE {IMAGE, 0, MPM_LARGE_MAX_BLOCKS * MPM_LARGE_BLOCK_LEN}
 
 static const struct rule rules[] = {
-    {MPM_OPEN, {ALL, MPM_BAD_NAME, MPM_NOT_FOUND, MPM_IN_USE, MPM_OPEN_LIMIT, MPM_OPEN_LIST_FULL}, {OPENED}},
-    {MPM_CLOSE, {ALL, MPM_CLOSE_NOT_OPEN}, {PLACES}},
-    {MPM_DELETE, {ALL, MPM_BAD_NAME, MPM_NOT_FOUND, MPM_IN_USE, MPM_READ_ONLY}, {DIRECTORY}},
-    {MPM_MAKE, {ALL, MPM_BAD_NAME, MPM_EXISTS, MPM_OPEN_LIMIT, MPM_OPEN_LIST_FULL, MPM_NOT_FOUND}, {OPENED, DIRECTORY}},
-    {MPM_RENAME, {ALL, MPM_BAD_NAME, MPM_NOT_FOUND, MPM_IN_USE, MPM_READ_ONLY, MPM_EXISTS}, {DIRECTORY}},
-    {MPM_READ, {READ}, {{DMA, 0, MPM_DMA_LEN}}},
-    {MPM_WRITE, {FILL}, {DRIVE}},
-    {MPM_WRITE_ZEROS, {FILL}, {DRIVE}},
-    {MPM_TEST_WRITE, {WRITE, NO_RECORD, MPM_DIFFERS}, {DRIVE}},
-    {MPM_LOCK,
-     {ALL, MPM_NOT_OPEN, MPM_BAD_FILE_ID, MPM_PAST_END, NO_RECORD, MPM_LOCKED, MPM_LOCK_LIMIT, MPM_LOCK_LIST_FULL},
+    {MPM_FN_OPEN,
+     {ALL, MPM_ERR_BAD_NAME, MPM_ERR_NOT_FOUND, MPM_ERR_IN_USE, MPM_ERR_OPEN_LIMIT, MPM_ERR_OPEN_LIST_FULL},
+     {OPENED}},
+    {MPM_FN_CLOSE, {ALL, MPM_ERR_CLOSE_NOT_OPEN}, {PLACES}},
+    {MPM_FN_DELETE, {ALL, MPM_ERR_BAD_NAME, MPM_ERR_NOT_FOUND, MPM_ERR_IN_USE, MPM_ERR_READ_ONLY}, {DIRECTORY}},
+    {MPM_FN_MAKE,
+     {ALL, MPM_ERR_BAD_NAME, MPM_ERR_EXISTS, MPM_ERR_OPEN_LIMIT, MPM_ERR_OPEN_LIST_FULL, MPM_ERR_NO_EMPTY_ENTRY},
+     {OPENED, DIRECTORY}},
+    {MPM_FN_RENAME,
+     {ALL, MPM_ERR_BAD_NAME, MPM_ERR_NOT_FOUND, MPM_ERR_IN_USE, MPM_ERR_READ_ONLY, MPM_ERR_EXISTS},
+     {DIRECTORY}},
+    {MPM_FN_READ, {READ}, {{DMA, 0, MPM_DMA_LEN}}},
+    {MPM_FN_WRITE, {FILL}, {DRIVE}},
+    {MPM_FN_WRITE_ZEROS, {FILL}, {DRIVE}},
+    {MPM_FN_TEST_WRITE, {WRITE, NO_RECORD, MPM_ERR_DIFFERS}, {DRIVE}},
+    {MPM_FN_LOCK,
+     {ALL, MPM_ERR_NOT_OPEN, MPM_ERR_BAD_FILE_ID, MPM_ERR_PAST_END, NO_RECORD, MPM_ERR_LOCKED, MPM_ERR_LOCK_LIMIT,
+      MPM_ERR_LOCK_LIST_FULL},
      {PLACES}},
-    {MPM_UNLOCK, {ALL, MPM_NOT_OPEN, MPM_BAD_FILE_ID, MPM_PAST_END}, {PLACES}},
-    {MPM_FREE_SPACE, {NO_FCB}, {{DMA, MPM_DMA_FREE, 3}}},
-    {MPM_TERMINATE, {NO_FCB}, {PLACES}},
+    {MPM_FN_UNLOCK, {ALL, MPM_ERR_NOT_OPEN, MPM_ERR_BAD_FILE_ID, MPM_ERR_PAST_END}, {PLACES}},
+    {MPM_FN_FREE_SPACE, {NO_FCB}, {{DMA, MPM_DMA_FREE, 3}}},
+    {MPM_FN_TERMINATE, {NO_FCB}, {PLACES}},
 };
 
 enum { RULES = sizeof rules / sizeof rules[0] };
@@ -85,7 +94,7 @@ static const struct rule *rule_of(uint32_t function) {
 }
 
 static bool goes_by_records(uint32_t function) {
-    return function == MPM_READ || function == MPM_WRITE || function == MPM_WRITE_ZEROS;
+    return function == MPM_FN_READ || function == MPM_FN_WRITE || function == MPM_FN_WRITE_ZEROS;
 }
 
 /* How many records were done; 1 for an accepted call of another function. */
@@ -105,7 +114,7 @@ static size_t end_of(size_t to, uint32_t kind) {
 
 static bool may_change(const struct call *c, int buffer, size_t i) {
     const struct rule *rule = rule_of(c->function);
-    if (c->function == MPM_READ && i >= MPM_DMA_AT(done_by(c))) return false;
+    if (c->function == MPM_FN_READ && i >= MPM_DMA_AT(done_by(c))) return false;
     for (size_t k = 0; k < CHANGES; k++)
         if (rule->changes[k].buffer == buffer && i >= rule->changes[k].from &&
             i < end_of(rule->changes[k].to, c->kind))
@@ -236,7 +245,7 @@ static bool bad_call(const struct call *c, const struct state *s) {
 static void check_answer(const struct call *c, const struct state *before) {
     const struct rule *rule = rule_of(c->function);
     bool bad = bad_call(c, before);
-    want((c->answer == MPM_BAD_CALL) == bad, c, bad ? "255/13 is due" : "255/13 is not due");
+    want((c->answer == MPM_ERR_BAD_CALL) == bad, c, bad ? "255/13 is due" : "255/13 is not due");
     if (rule == NULL) return;
     size_t k = 0;
     while (k < ANSWERS && rule->answers[k] != ruled(c)) k++;
@@ -251,16 +260,17 @@ static uint32_t other_kind(uint32_t kind) { return kind == MPM_KIND_SMALL ? MPM_
 static uint32_t check_kind(const struct call *c, uint32_t kind, const struct buffer *image) {
     bool whole = mpm_blocks(kind, image->length) != 0;
     uint32_t check = mpm_check(kind, image->bytes, image->length);
-    want(whole ? check == MPM_SOUND || check == MPM_UNSOUND : check == MPM_WRONG_LENGTH, c, "the image check is wrong");
+    bool judged = check == MPM_CHECK_SOUND || check == MPM_CHECK_UNSOUND;
+    want(whole ? judged : check == MPM_CHECK_WRONG_LENGTH, c, "the image check is wrong");
     return check;
 }
 
 static void check_image(const struct call *c, const struct state *before) {
     const struct buffer *image = &before->of[IMAGE];
     uint32_t check = check_kind(c, c->kind, image), other = check_kind(c, other_kind(c->kind), image);
-    want(check == MPM_WRONG_LENGTH || other == MPM_WRONG_LENGTH, c, "an image is one of both kinds");
-    if (c->answer == MPM_BAD_CALL) return;
-    want((c->answer == MPM_BAD_IMAGE) == (check != MPM_SOUND), c, "the image check says otherwise");
+    want(check == MPM_CHECK_WRONG_LENGTH || other == MPM_CHECK_WRONG_LENGTH, c, "an image is one of both kinds");
+    if (c->answer == MPM_ERR_BAD_CALL) return;
+    want((c->answer == MPM_ERR_BAD_IMAGE) == (check != MPM_CHECK_SOUND), c, "the image check says otherwise");
 }
 
 /* At most so many bytes as a record has: most of a long image is the same. */
@@ -283,10 +293,10 @@ static void check_changes(const struct call *c, const struct state *before, cons
 }
 
 static void check_sound(const struct call *c, struct state *copy, const struct state *after) {
-    const struct call free_space = {c->kind, MPM_FREE_SPACE, 0, 1, 0};
+    const struct call free_space = {c->kind, MPM_FN_FREE_SPACE, 0, 1, 0};
     const struct buffer *image = &after->of[IMAGE];
     copy_into(copy, after);
-    want(mpm_check(c->kind, image->bytes, image->length) == MPM_SOUND, c, "the image is not sound afterwards");
+    want(mpm_check(c->kind, image->bytes, image->length) == MPM_CHECK_SOUND, c, "the image is not sound afterwards");
     want(run(mpm_call, &free_space, copy) == MPM_OK, c, "the list is not sound afterwards");
 }
 
@@ -309,10 +319,10 @@ static uint32_t look(const struct call *c, const struct state *s, uint32_t i) {
 /* Look has to show what the call has read or written. */
 static void check_look(const struct call *c, const struct state *after) {
     look(c, after, 0);
-    if (!goes_by_records(c->function) && c->function != MPM_TEST_WRITE) return;
+    if (!goes_by_records(c->function) && c->function != MPM_FN_TEST_WRITE) return;
     for (uint32_t i = 0; i < done_by(c); i++) {
         uint32_t at = look(c, after, i);
-        size_t from = c->function == MPM_TEST_WRITE ? MPM_DMA_NEW : MPM_DMA_AT(i);
+        size_t from = c->function == MPM_FN_TEST_WRITE ? MPM_DMA_NEW : MPM_DMA_AT(i);
         want(at != 0 && memcmp(after->of[DMA].bytes + from, after->of[IMAGE].bytes + at, MPM_RECORD_LEN) == 0, c,
              "Look shows another record");
     }
@@ -332,7 +342,7 @@ static void check_start(const struct call *c, const struct state *s) {
     if (good) memcpy(due.bytes + MPM_LIST_USERS, users.bytes, users.length);
     uint32_t answer =
         mpm_start(c->kind, numbers[0], numbers[1], numbers[2], users.bytes, users.length, list.bytes, list.length);
-    want(answer == (good ? MPM_OK : MPM_BAD_CALL) && same_bytes(&list, &due), c, "Start does otherwise");
+    want(answer == (good ? MPM_OK : MPM_ERR_BAD_CALL) && same_bytes(&list, &due), c, "Start does otherwise");
     free(list.memory);
     free(due.memory);
 }

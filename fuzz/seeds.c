@@ -108,39 +108,39 @@ static uint32_t put_full_entries(uint32_t kind, uint32_t end) {
 static void two_clerks(uint32_t kind) {
     set_drive(kind, fewest(kind, 4));
     LIMITS("\003\002\002");
-    call(1, MPM_MAKE, A_UNLOCKED, 0, 1, 0);
-    call(2, MPM_OPEN, A_UNLOCKED, 0, 1, 0);
-    call(1, MPM_WRITE, A, 0, 1, 0);
-    call(1, MPM_LOCK, A, 0, 1, 0);
-    call(2, MPM_WRITE, A, 0, 1, 1);
-    call(2, MPM_WRITE_ZEROS, A, 8, 1, 1);
-    call(2, MPM_LOCK, A, 8, 1, 1);
-    call(2, MPM_WRITE, A, 16, 1, 1);
-    call(1, MPM_FREE_SPACE, A, 0, 1, 0);
-    call(1, MPM_LOCK, A, 0, 1, 0);
-    call(1, MPM_LOCK, A, 0, 2, 0);
-    call(1, MPM_TERMINATE, A, 0, 1, 0);
-    call(2, MPM_LOCK, A, 8, 1, 1);
-    call(2, MPM_DELETE, A, 0, 1, 1);
+    call(1, MPM_FN_MAKE, A_UNLOCKED, 0, 1, 0);
+    call(2, MPM_FN_OPEN, A_UNLOCKED, 0, 1, 0);
+    call(1, MPM_FN_WRITE, A, 0, 1, 0);
+    call(1, MPM_FN_LOCK, A, 0, 1, 0);
+    call(2, MPM_FN_WRITE, A, 0, 1, 1);
+    call(2, MPM_FN_WRITE_ZEROS, A, 8, 1, 1);
+    call(2, MPM_FN_LOCK, A, 8, 1, 1);
+    call(2, MPM_FN_WRITE, A, 16, 1, 1);
+    call(1, MPM_FN_FREE_SPACE, A, 0, 1, 0);
+    call(1, MPM_FN_LOCK, A, 0, 1, 0);
+    call(1, MPM_FN_LOCK, A, 0, 2, 0);
+    call(1, MPM_FN_TERMINATE, A, 0, 1, 0);
+    call(2, MPM_FN_LOCK, A, 8, 1, 1);
+    call(2, MPM_FN_DELETE, A, 0, 1, 1);
     save();
 }
 
 static void all_functions(uint32_t kind) {
     set_drive(kind, fewest(kind, 4));
-    call(0, MPM_MAKE, A, 0, 1, 0);
-    call(0, MPM_WRITE_ZEROS, A, 262143, 1, 0);
-    call(0, MPM_READ, A, 262143, 1, 0);
-    call(0, MPM_TEST_WRITE, A, 262143, 1, 0)[1] = KEEP_DMA;
-    call(0, MPM_LOCK, A, 0, 1, 0);
-    call(0, MPM_CLOSE, A, 0, 1, 0);
-    call(0, MPM_OPEN, A_UNLOCKED, 0, 1, 0);
-    call(0, MPM_LOCK, A, 262143, 1, 0);
-    call(0, MPM_UNLOCK, A, 262143, 1, 0);
-    call(0, MPM_CLOSE, A, 0, 1, 0);
-    call(0, MPM_OPEN, A_READ_ONLY, 0, 1, 0);
-    call(0, MPM_TERMINATE, A, 0, 1, 0);
-    call(0, MPM_RENAME, A, 0, 1, 0);
-    call(0, MPM_DELETE, B, 0, 1, 0);
+    call(0, MPM_FN_MAKE, A, 0, 1, 0);
+    call(0, MPM_FN_WRITE_ZEROS, A, 262143, 1, 0);
+    call(0, MPM_FN_READ, A, 262143, 1, 0);
+    call(0, MPM_FN_TEST_WRITE, A, 262143, 1, 0)[1] = KEEP_DMA;
+    call(0, MPM_FN_LOCK, A, 0, 1, 0);
+    call(0, MPM_FN_CLOSE, A, 0, 1, 0);
+    call(0, MPM_FN_OPEN, A_UNLOCKED, 0, 1, 0);
+    call(0, MPM_FN_LOCK, A, 262143, 1, 0);
+    call(0, MPM_FN_UNLOCK, A, 262143, 1, 0);
+    call(0, MPM_FN_CLOSE, A, 0, 1, 0);
+    call(0, MPM_FN_OPEN, A_READ_ONLY, 0, 1, 0);
+    call(0, MPM_FN_TERMINATE, A, 0, 1, 0);
+    call(0, MPM_FN_RENAME, A, 0, 1, 0);
+    call(0, MPM_FN_DELETE, B, 0, 1, 0);
     save();
 }
 
@@ -162,19 +162,19 @@ static void put_files_in_use(uint32_t kind) {
 
 static void files_in_use(uint32_t kind) {
     put_files_in_use(kind);
-    call(1, MPM_LOCK, A, 0, 4, 5);
-    call(3, MPM_LOCK, A, 7, 1, 1);
-    call(3, MPM_UNLOCK, A, 3, 16, 1);
-    call(3, MPM_READ, A, 130, 1, 1);
-    call(1, MPM_WRITE_ZEROS, A, 130, 1, 5);
-    call(3, MPM_DELETE, B, 0, 1, 0);
-    call(3, MPM_RENAME, B, 0, 1, 0);
-    call(3, MPM_OPEN, B, 0, 1, 0);
-    call(3, MPM_WRITE, B, 0, 1, 0);
-    call(3, MPM_WRITE_ZEROS, B, 0, 2, 0);
-    call(3, MPM_TEST_WRITE, B, 0, 1, 0);
-    call(3, MPM_CLOSE, A, 0, 1, 0);
-    call(4, MPM_TEST_WRITE, A, 0, 1, 6);
+    call(1, MPM_FN_LOCK, A, 0, 4, 5);
+    call(3, MPM_FN_LOCK, A, 7, 1, 1);
+    call(3, MPM_FN_UNLOCK, A, 3, 16, 1);
+    call(3, MPM_FN_READ, A, 130, 1, 1);
+    call(1, MPM_FN_WRITE_ZEROS, A, 130, 1, 5);
+    call(3, MPM_FN_DELETE, B, 0, 1, 0);
+    call(3, MPM_FN_RENAME, B, 0, 1, 0);
+    call(3, MPM_FN_OPEN, B, 0, 1, 0);
+    call(3, MPM_FN_WRITE, B, 0, 1, 0);
+    call(3, MPM_FN_WRITE_ZEROS, B, 0, 2, 0);
+    call(3, MPM_FN_TEST_WRITE, B, 0, 1, 0);
+    call(3, MPM_FN_CLOSE, A, 0, 1, 0);
+    call(4, MPM_FN_TEST_WRITE, A, 0, 1, 6);
     save();
 }
 
@@ -189,7 +189,7 @@ static void broken_bytes(uint32_t kind) {
             } else {
                 patch(LIST, at - MPM_ENTRY_LEN, 1, 1, NOTHING_RISES, values + i, 1);
             }
-            call(0, MPM_FREE_SPACE, A, 0, 1, 0);
+            call(0, MPM_FN_FREE_SPACE, A, 0, 1, 0);
             save();
         }
 }
@@ -204,27 +204,27 @@ static void run(uint32_t process, uint32_t function, uint32_t record, uint32_t c
 /* Into new blocks and a new extent, to another's lock, to a missing block and extent, and over the last record. */
 static void runs(uint32_t kind) {
     set_drive(kind, fewest(kind, 16));
-    call(1, MPM_MAKE, A_UNLOCKED, 0, 1, 0);
-    call(2, MPM_OPEN, A_UNLOCKED, 0, 1, 0);
+    call(1, MPM_FN_MAKE, A_UNLOCKED, 0, 1, 0);
+    call(2, MPM_FN_OPEN, A_UNLOCKED, 0, 1, 0);
     fill_dma();
-    run(1, MPM_WRITE_ZEROS, 122, 16);
-    run(1, MPM_WRITE, 0, 16);
-    run(2, MPM_READ, 0, 16);
-    run(2, MPM_READ, 8, 16);
-    run(1, MPM_READ, 124, 16);
-    call(1, MPM_LOCK, A, 4, 3, 0);
+    run(1, MPM_FN_WRITE_ZEROS, 122, 16);
+    run(1, MPM_FN_WRITE, 0, 16);
+    run(2, MPM_FN_READ, 0, 16);
+    run(2, MPM_FN_READ, 8, 16);
+    run(1, MPM_FN_READ, 124, 16);
+    call(1, MPM_FN_LOCK, A, 4, 3, 0);
     fill_dma();
-    run(2, MPM_WRITE, 1, 16);
-    run(2, MPM_WRITE_ZEROS, 2, 8);
-    run(2, MPM_WRITE_ZEROS, 4, 2);
-    run(2, MPM_TEST_WRITE, 5, 1);
-    run(1, MPM_WRITE, 1, 8);
-    run(1, MPM_WRITE_ZEROS, 248, 8);
-    run(2, MPM_READ, 250, 16);
-    run(1, MPM_WRITE, 262136, 16);
-    run(1, MPM_WRITE_ZEROS, 262140, 16);
-    run(2, MPM_READ, 262140, 16);
-    run(2, MPM_READ, 262144, 2);
+    run(2, MPM_FN_WRITE, 1, 16);
+    run(2, MPM_FN_WRITE_ZEROS, 2, 8);
+    run(2, MPM_FN_WRITE_ZEROS, 4, 2);
+    run(2, MPM_FN_TEST_WRITE, 5, 1);
+    run(1, MPM_FN_WRITE, 1, 8);
+    run(1, MPM_FN_WRITE_ZEROS, 248, 8);
+    run(2, MPM_FN_READ, 250, 16);
+    run(1, MPM_FN_WRITE, 262136, 16);
+    run(1, MPM_FN_WRITE_ZEROS, 262140, 16);
+    run(2, MPM_FN_READ, 262140, 16);
+    run(2, MPM_FN_READ, 262144, 2);
     save();
 }
 
@@ -250,23 +250,23 @@ static void run_to_last_block(uint32_t kind, uint32_t function) {
     set_drive(kind, blocks);
     fill_dma();
     uint32_t extent = put_full_entries(kind, blocks - 1);
-    call(0, MPM_OPEN, A, 0, 1, 0);
+    call(0, MPM_FN_OPEN, A, 0, 1, 0);
     run(0, function, MPM_EXTENT_RECORDS * extent + 4, 16);
     run(0, function, MPM_EXTENT_RECORDS * extent + 60, 16);
-    call(0, MPM_FREE_SPACE, A, 0, 1, 0);
+    call(0, MPM_FN_FREE_SPACE, A, 0, 1, 0);
     save();
 }
 
 /* To the last free block and to the last empty entry. */
 static void full_runs(uint32_t kind) {
-    run_to_last_block(kind, MPM_WRITE);
-    run_to_last_block(kind, MPM_WRITE_ZEROS);
+    run_to_last_block(kind, MPM_FN_WRITE);
+    run_to_last_block(kind, MPM_FN_WRITE_ZEROS);
     set_drive(kind, fewest(kind, 16));
     fill_dma();
     fill_directory(kind);
-    call(0, MPM_OPEN, A, 0, 1, 0);
-    run(0, MPM_WRITE, 124, 16);
-    run(0, MPM_WRITE_ZEROS, 125, 16);
+    call(0, MPM_FN_OPEN, A, 0, 1, 0);
+    run(0, MPM_FN_WRITE, 124, 16);
+    run(0, MPM_FN_WRITE_ZEROS, 125, 16);
     save();
 }
 
@@ -283,14 +283,14 @@ static void all_full(uint32_t kind) {
     ENTRY(mpm_entries(kind) - 1, 1, "\000" B);
     ITEM(0, 1, "OF\000" A "\001");
     ITEM(1, 63, "LR\000" A "\001");
-    call(0, MPM_LOCK, A, 63, 1, 0);
-    call(0, MPM_OPEN, B, 0, 1, 0);
-    call(1, MPM_OPEN, B, 0, 1, 0);
-    call(0, MPM_UNLOCK, A, 15, 16, 0);
-    call(0, MPM_WRITE, A, 128 * 200, 1, 0);
-    call(0, MPM_WRITE_ZEROS, A, 128 * 200, 1, 0);
-    call(1, MPM_MAKE, C, 0, 1, 0);
-    call(0, MPM_LOCK, A, 15, 16, 0);
+    call(0, MPM_FN_LOCK, A, 63, 1, 0);
+    call(0, MPM_FN_OPEN, B, 0, 1, 0);
+    call(1, MPM_FN_OPEN, B, 0, 1, 0);
+    call(0, MPM_FN_UNLOCK, A, 15, 16, 0);
+    call(0, MPM_FN_WRITE, A, 128 * 200, 1, 0);
+    call(0, MPM_FN_WRITE_ZEROS, A, 128 * 200, 1, 0);
+    call(1, MPM_FN_MAKE, C, 0, 1, 0);
+    call(0, MPM_FN_LOCK, A, 15, 16, 0);
     save();
 }
 
@@ -299,18 +299,18 @@ static void sizes(void) {
     static const uint32_t small[] = {2, 3, 256, 257}, large[] = {256, 257, 258, 1027, 4096, 4097};
     for (size_t i = 0; i < sizeof small / sizeof small[0]; i++) {
         set_drive(MPM_KIND_SMALL, small[i]);
-        call(0, MPM_FREE_SPACE, A, 0, 1, 0);
-        call(0, MPM_FREE_SPACE, A, 0, 1, 0)[1] = OTHER_KIND;
+        call(0, MPM_FN_FREE_SPACE, A, 0, 1, 0);
+        call(0, MPM_FN_FREE_SPACE, A, 0, 1, 0)[1] = OTHER_KIND;
     }
     save();
     for (size_t i = 0; i < sizeof large / sizeof large[0]; i++) {
         set_drive(MPM_KIND_LARGE, large[i]);
-        call(0, MPM_FREE_SPACE, A, 0, 1, 0);
-        call(0, MPM_FREE_SPACE, A, 0, 1, 0)[1] = OTHER_KIND;
+        call(0, MPM_FN_FREE_SPACE, A, 0, 1, 0);
+        call(0, MPM_FN_FREE_SPACE, A, 0, 1, 0)[1] = OTHER_KIND;
         save();
     }
     set_drive(MPM_KIND_LARGE, MPM_LARGE_MIN_BLOCKS / 2);
-    call(0, MPM_FREE_SPACE, A, 0, 1, 0)[1] = OTHER_KIND;
+    call(0, MPM_FN_FREE_SPACE, A, 0, 1, 0)[1] = OTHER_KIND;
     save();
 }
 
@@ -320,12 +320,12 @@ static void unknown_kinds(void) {
     for (uint32_t kind = 0; kind < MPM_KINDS; kind++) {
         put_files_in_use(kind);
         for (size_t i = 0; i < sizeof unknown / sizeof unknown[0]; i++) {
-            uint8_t *told = call(3, MPM_OPEN, B, 0, 1, 0);
+            uint8_t *told = call(3, MPM_FN_OPEN, B, 0, 1, 0);
             told[1] = WILD_KIND;
             put_number(told + 2, 2, unknown[i]);
         }
-        call(3, MPM_OPEN, B, 0, 1, 0)[1] = OTHER_KIND;
-        call(3, MPM_OPEN, B, 0, 1, 0);
+        call(3, MPM_FN_OPEN, B, 0, 1, 0)[1] = OTHER_KIND;
+        call(3, MPM_FN_OPEN, B, 0, 1, 0);
         save();
     }
 }
@@ -335,13 +335,13 @@ static void high_free_block(uint32_t blocks) {
     set_drive(MPM_KIND_LARGE, blocks);
     fill_dma();
     uint32_t extent = put_full_entries(MPM_KIND_LARGE, 257);
-    call(0, MPM_OPEN, A_UNLOCKED, 0, 1, 0);
-    run(0, MPM_WRITE_ZEROS, MPM_EXTENT_RECORDS * extent + 5, 1);
-    run(0, MPM_READ, MPM_EXTENT_RECORDS * extent + 14, 2);
-    run(0, MPM_WRITE, MPM_EXTENT_RECORDS * extent + 16, 16);
-    run(0, MPM_READ, MPM_EXTENT_RECORDS * extent, 16);
-    call(0, MPM_LOCK, A, MPM_EXTENT_RECORDS * extent + 8, 2, 0);
-    call(0, MPM_FREE_SPACE, A, 0, 1, 0);
+    call(0, MPM_FN_OPEN, A_UNLOCKED, 0, 1, 0);
+    run(0, MPM_FN_WRITE_ZEROS, MPM_EXTENT_RECORDS * extent + 5, 1);
+    run(0, MPM_FN_READ, MPM_EXTENT_RECORDS * extent + 14, 2);
+    run(0, MPM_FN_WRITE, MPM_EXTENT_RECORDS * extent + 16, 16);
+    run(0, MPM_FN_READ, MPM_EXTENT_RECORDS * extent, 16);
+    call(0, MPM_FN_LOCK, A, MPM_EXTENT_RECORDS * extent + 8, 2, 0);
+    call(0, MPM_FN_FREE_SPACE, A, 0, 1, 0);
     save();
 }
 
@@ -352,11 +352,11 @@ static void high_numbers(uint32_t blocks) {
         set_drive(MPM_KIND_LARGE, blocks);
         fill_dma();
         put_full_entry(MPM_KIND_LARGE, 127, 0, numbers[i], numbers[i] + 1);
-        call(0, MPM_OPEN, A, 0, 1, 0);
-        run(0, MPM_WRITE, 0, 16);
-        run(0, MPM_READ, 8, 8);
-        run(0, MPM_WRITE_ZEROS, 16, 1);
-        call(0, MPM_FREE_SPACE, A, 0, 1, 0);
+        call(0, MPM_FN_OPEN, A, 0, 1, 0);
+        run(0, MPM_FN_WRITE, 0, 16);
+        run(0, MPM_FN_READ, 8, 8);
+        run(0, MPM_FN_WRITE_ZEROS, 16, 1);
+        call(0, MPM_FN_FREE_SPACE, A, 0, 1, 0);
         save();
     }
 }
@@ -364,16 +364,16 @@ static void high_numbers(uint32_t blocks) {
 static void wrong_numbers(void) {
     set_drive(MPM_KIND_SMALL, 4);
     call(0, 271, A, 0, 1, 0)[1] = WILD_FUNCTION;
-    call(16, MPM_MAKE, A, 0, 1, 0)[1] = WILD_PROCESS;
-    call(0, MPM_MAKE, A, 0, 17, 0)[1] = WILD_COUNT;
+    call(16, MPM_FN_MAKE, A, 0, 1, 0)[1] = WILD_PROCESS;
+    call(0, MPM_FN_MAKE, A, 0, 17, 0)[1] = WILD_COUNT;
     for (int buffer = 0; buffer < BUFFERS; buffer++)
         for (uint32_t length = 0; length < 3000; length = 3 * length + 35) {
             set_length(buffer, RAW, length);
-            call(1, MPM_MAKE, A, 0, 1, 0);
+            call(1, MPM_FN_MAKE, A, 0, 1, 0);
             set_length(buffer, 0, 4);
         }
     set_length(DMA, RAW, 2 * MPM_RECORD_LEN);
-    call(1, MPM_MAKE, A, 0, 1, 0);
+    call(1, MPM_FN_MAKE, A, 0, 1, 0);
     save();
 }
 

@@ -55,7 +55,7 @@ static uint32_t call(const struct lent *c) {
 }
 
 static bool goes_by_records(uint32_t function) {
-    return function == MPM_READ || function == MPM_WRITE || function == MPM_WRITE_ZEROS;
+    return function == MPM_FN_READ || function == MPM_FN_WRITE || function == MPM_FN_WRITE_ZEROS;
 }
 
 static bool is_run(const struct lent *c) {
@@ -93,13 +93,13 @@ static void put_locks_back(uint8_t *list, const uint8_t *old) {
 static uint32_t bad_call(struct lent c) {
     uint8_t old[MPM_LIST_LEN];
     if (c.list_len == sizeof old) memcpy(old, c.list, sizeof old);
-    if (SPOILED == NO_ZERO_FILL && c.function == MPM_WRITE_ZEROS) c.function = MPM_WRITE;
-    if (SPOILED == SHORT_LOCK && c.function == MPM_LOCK && c.count == MPM_MAX_COUNT) c.count--;
-    if (SPOILED == SHORT_FCB && c.function == MPM_READ && c.fcb_len == MPM_FCB_LEN) c.fcb = short_copy(c.fcb);
+    if (SPOILED == NO_ZERO_FILL && c.function == MPM_FN_WRITE_ZEROS) c.function = MPM_FN_WRITE;
+    if (SPOILED == SHORT_LOCK && c.function == MPM_FN_LOCK && c.count == MPM_MAX_COUNT) c.count--;
+    if (SPOILED == SHORT_FCB && c.function == MPM_FN_READ && c.fcb_len == MPM_FCB_LEN) c.fcb = short_copy(c.fcb);
     uint32_t answer = call(&c);
-    if (SPOILED == WRITES_AT_REFUSAL && answer == MPM_LOCKED) c.dma[MPM_DMA_LEN - 1] ^= 1;
-    if (SPOILED == LEAVES_LOCKS && c.function == MPM_CLOSE && answer == MPM_OK) put_locks_back(c.list, old);
-    if (SPOILED == WRONG_CODE && c.function == MPM_READ && answer == MPM_PAST_END) answer = MPM_NO_EXTENT;
+    if (SPOILED == WRITES_AT_REFUSAL && answer == MPM_ERR_LOCKED) c.dma[MPM_DMA_LEN - 1] ^= 1;
+    if (SPOILED == LEAVES_LOCKS && c.function == MPM_FN_CLOSE && answer == MPM_OK) put_locks_back(c.list, old);
+    if (SPOILED == WRONG_CODE && c.function == MPM_FN_READ && answer == MPM_ERR_PAST_END) answer = MPM_ERR_NO_EXTENT;
     return answer;
 }
 
@@ -112,7 +112,7 @@ static bool is_readable(const struct lent *c) {
 }
 
 static bool is_sound_large(const struct lent *c) {
-    return c->kind == MPM_KIND_LARGE && mpm_check(c->kind, c->image, c->image_len) == MPM_SOUND;
+    return c->kind == MPM_KIND_LARGE && mpm_check(c->kind, c->image, c->image_len) == MPM_CHECK_SOUND;
 }
 
 /* Of the numbers that the call has given. */
@@ -121,7 +121,7 @@ static uint32_t high_byte_dropped(struct lent c) {
     if (!is_sound_large(&c)) return call(&c);
     memcpy(old, c.image, sizeof old);
     uint32_t answer = call(&c);
-    if (c.function != MPM_WRITE && c.function != MPM_WRITE_ZEROS) return answer;
+    if (c.function != MPM_FN_WRITE && c.function != MPM_FN_WRITE_ZEROS) return answer;
     for (size_t at = 0; at < sizeof old; at += MPM_LARGE_NUMBER_LEN)
         if (at % MPM_ENTRY_LEN >= MPM_ENTRY_LEN - MPM_MAP_LEN && c.image[at + 1] != old[at + 1]) c.image[at + 1] = 0;
     return answer;
@@ -142,7 +142,7 @@ static bool has_no_byte(const struct lent *c, uint32_t record) {
 static uint32_t sixteen_numbers(struct lent c) {
     uint8_t old[MPM_RECORD_LEN];
     uint32_t i = 0;
-    if (!is_readable(&c) || !is_sound_large(&c) || c.function != MPM_READ) return call(&c);
+    if (!is_readable(&c) || !is_sound_large(&c) || c.function != MPM_FN_READ) return call(&c);
     while (i < c.count && !has_no_byte(&c, record_of(c.fcb) + i)) i++;
     if (i == c.count) return call(&c);
     memcpy(old, c.dma + MPM_DMA_AT(i), sizeof old);
@@ -150,12 +150,12 @@ static uint32_t sixteen_numbers(struct lent c) {
     uint32_t answer = call(&c);
     if (answer != MPM_OK) return answer;
     memcpy(c.dma + MPM_DMA_AT(i), old, sizeof old);
-    return MPM_NO_BLOCK + MPM_ANSWER(0u, 16u * i);
+    return MPM_ERR_NO_BLOCK + MPM_ANSWER(0u, 16u * i);
 }
 
 static uint32_t free_by_eight(struct lent c) {
     uint32_t answer = call(&c);
-    if (answer != MPM_OK || c.kind != MPM_KIND_LARGE || c.function != MPM_FREE_SPACE) return answer;
+    if (answer != MPM_OK || c.kind != MPM_KIND_LARGE || c.function != MPM_FN_FREE_SPACE) return answer;
     uint32_t records =
         (c.dma[0] + 256u * c.dma[1] + 65536u * c.dma[2]) / MPM_LARGE_BLOCK_RECORDS * MPM_SMALL_BLOCK_RECORDS;
     for (size_t i = 0; i < 3; i++) c.dma[MPM_DMA_FREE + i] = (uint8_t)(records >> (8 * i));
@@ -165,9 +165,9 @@ static uint32_t free_by_eight(struct lent c) {
 /* Of one record: 34 in place of 40, and then the half of a block that it took. */
 static uint32_t clears_seven(struct lent c) {
     enum { HALF = MPM_LARGE_BLOCK_LEN / 2 };
-    if (c.function != MPM_WRITE_ZEROS || c.count != 1 || !is_readable(&c) || !is_sound_large(&c)) return call(&c);
+    if (c.function != MPM_FN_WRITE_ZEROS || c.count != 1 || !is_readable(&c) || !is_sound_large(&c)) return call(&c);
     bool was_there = look(&c, record_of(c.fcb)) != 0;
-    c.function = MPM_WRITE;
+    c.function = MPM_FN_WRITE;
     uint32_t answer = call(&c);
     if (was_there || answer != MPM_OK) return answer;
     uint32_t at = look(&c, record_of(c.fcb));
@@ -233,7 +233,7 @@ static uint32_t one_dma_record(struct lent c) {
 static uint32_t clears_again(struct lent c) {
     uint8_t kept[MPM_RECORD_LEN];
     uint32_t answer = call(&c), done = mpm_done(answer, c.count), first = record_of(c.fcb);
-    if (c.function != MPM_WRITE_ZEROS) return answer;
+    if (c.function != MPM_FN_WRITE_ZEROS) return answer;
     for (uint32_t i = 0; i < done; i++) {
         if (i + 1 < done && (first + i + 1) % mpm_block_records(c.kind) != 0) continue;
         uint32_t at = look(&c, first + i);

@@ -17,6 +17,7 @@ new=$((records * taken))        # the first line in a new block
 pair=$((new + records - 2))     # the first of four lines, two in this block and two in the next
 last=$((new + 2 * records - 1)) # the last line with a block
 screen=$((last - 11))           # the first of sixteen lines, twelve with a block
+no_block=MPM_ERR_NO_BLOCK
 
 row() { # NUMBER WHO CALL WORDS ANSWER NAME
     printf '%4u  %-7s  %4s  %-45s  %-6s  %s\n' "$@"
@@ -53,7 +54,7 @@ cat <<TEXT
 An order book that clerks share. A/H is the engine's answer.
 
 step  who      call  what                                           A/H     name
-$(row 1 host - "makes ORDERS.IMG, $blocks empty blocks; checks it" 0 MPM_SOUND)
+$(row 1 host - "makes ORDERS.BOOK of $blocks blocks; checks it" 0 MPM_CHECK_SOUND)
    2  host        -  starts a list: 12 places, 2 opens, 10 locks    0/0     MPM_OK
    3  office     22  makes ORDERS.DAT                               0/0     MPM_OK, File ID 0
    4  office     16  closes it                                      0/0     MPM_OK
@@ -100,13 +101,13 @@ The lock list after the death
 
 step  who      call  what                                           A/H     name
   11  clerk 2    33  reads line 4: a lock does not stop reading     0/0     MPM_OK
-  12  clerk 2    34  writes line 4: clerk 1 still holds it          8/0     MPM_LOCKED
-  13  clerk 2    42  locks line 4: clerk 1 still holds it           8/0     MPM_LOCKED
-  14  clerk 2    42  locks lines 9 to 12: clerk 1 still holds 9     8/0     MPM_LOCKED
-  15  clerk 2    42  locks line 12: free, but the list is full      14/0    MPM_LOCK_LIST_FULL
-  16  clerk 2    42  locks lines 12 to 22: 11 exceed its limit      12/0    MPM_LOCK_LIMIT
-  17  clerk 3    15  opens it: the list is full                     255/11  MPM_OPEN_LIST_FULL
-  18  clerk 3    19  deletes it: others have it open                255/5   MPM_IN_USE
+  12  clerk 2    34  writes line 4: clerk 1 still holds it          8/0     MPM_ERR_LOCKED
+  13  clerk 2    42  locks line 4: clerk 1 still holds it           8/0     MPM_ERR_LOCKED
+  14  clerk 2    42  locks lines 9 to 12: clerk 1 still holds 9     8/0     MPM_ERR_LOCKED
+  15  clerk 2    42  locks line 12: free, but the list is full      14/0    MPM_ERR_LOCK_LIST_FULL
+  16  clerk 2    42  locks lines 12 to 22: 11 exceed its limit      12/0    MPM_ERR_LOCK_LIMIT
+  17  clerk 3    15  opens it: the list is full                     255/11  MPM_ERR_OPEN_LIST_FULL
+  18  clerk 3    19  deletes it: others have it open                255/5   MPM_ERR_IN_USE
   19  host      143  ends process 1                                 0/0     MPM_OK
 
 The lock list after 143
@@ -122,10 +123,10 @@ $(row 23 'clerk 2' 40 "writes line $new, in a new block" 0/0 MPM_OK)
   24  clerk 2    46  asks for the free space                        0/0     MPM_OK, $((free - records)) records free
   25  clerk 3    15  opens it unlocked                              0/0     MPM_OK, File ID 4
   26  clerk 3    33  reads lines 0 to 15, a screen                  0/0     MPM_OK, 16 lines done
-  27  clerk 3    34  writes lines 1 to 8: clerk 2 holds 4           8/48    MPM_LOCKED, 3 lines done
+  27  clerk 3    34  writes lines 1 to 8: clerk 2 holds 4           8/48    MPM_ERR_LOCKED, 3 lines done
   28  clerk 3    33  reads lines 0 to 15 again                      0/0     MPM_OK, 16 lines done
 $(row 29 'clerk 3' 40 "writes lines $pair to $((pair + 3)), two in a new block" 0/0 'MPM_OK, 4 lines done')
-$(row 30 'clerk 3' 33 "reads lines $screen to $((screen + 15)): none are past $last" 1/192 'MPM_NO_BLOCK, 12 lines done')
+$(row 30 'clerk 3' 33 "reads lines $screen to $((screen + 15)): none are past $last" 1/192 "$no_block, 12 lines done")
   31  clerk 3    46  asks for the free space                        0/0     MPM_OK, $((free - 2 * records)) records free
 
 The lock list while clerks 2 and 3 go on
@@ -141,7 +142,7 @@ step  who      call  what                                           A/H     name
   32  clerk 2    43  unlocks lines 4 to 6                           0/0     MPM_OK
   33  clerk 2    16  closes it                                      0/0     MPM_OK
   34  clerk 3    16  closes it                                      0/0     MPM_OK
-  35  host        -  writes ORDERS.IMG, reads it again; checks it   0       MPM_SOUND
+  35  host        -  writes ORDERS.BOOK, reads it again; checks it  0       MPM_CHECK_SOUND
 
 The lock list in the evening
   0 of 12 places taken

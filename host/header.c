@@ -1,13 +1,13 @@
 /* mpm.h by itself, as C and as C++: it can be included first and twice, its functions have the types that a host relies
    on, its sizes fit together for each kind of drive, no length of an image is one of both kinds, no two kinds,
-   functions or answers have the same number, and the answers leave the high four bits of H free. Compiled, never
-   run. */
+   functions or answers have the same number but Make's 255/0, and the answers leave the high four bits of H free.
+   Compiled, never run; what the helpers do is tried by helpers.c. */
 
 #include "mpm.h"
 #include "mpm.h"
 
-#if MPM_VERSION != 3
-#error "the checks below are those of version 3"
+#if MPM_VERSION != 4
+#error "the checks below are those of version 4"
 #endif
 
 typedef uint32_t call_type(uint32_t, uint32_t, uint32_t, uint32_t, uint8_t *, size_t, uint8_t *, size_t, uint8_t *,
@@ -15,17 +15,20 @@ typedef uint32_t call_type(uint32_t, uint32_t, uint32_t, uint32_t, uint8_t *, si
 typedef uint32_t start_type(uint32_t, uint32_t, uint32_t, uint32_t, const uint8_t *, size_t, uint8_t *, size_t);
 typedef uint32_t check_type(uint32_t, const uint8_t *, size_t);
 typedef uint32_t look_type(uint32_t, uint32_t, const uint8_t *, size_t, uint32_t, const uint8_t *, size_t);
+typedef uint32_t book_call_type(struct mpm_book *, uint32_t, uint32_t, uint32_t, uint8_t *, uint8_t *);
 
 extern call_type *const header_call;
 extern call_type *const header_singly;
 extern start_type *const header_start;
 extern check_type *const header_check;
 extern look_type *const header_look;
+extern book_call_type *const header_book_call;
 call_type *const header_call = mpm_call;
 call_type *const header_singly = mpm_singly;
 start_type *const header_start = mpm_start;
 check_type *const header_check = mpm_check;
 look_type *const header_look = mpm_look;
+book_call_type *const header_book_call = mpm_book_call;
 
 /* An array type cannot have a negative size. */
 #define HOLDS(name, condition) typedef char name[(condition) ? 1 : -1]
@@ -38,8 +41,9 @@ HOLDS(fcb_is_whole, MPM_FCB_RECORD + 3u == MPM_FCB_LEN && MPM_FCB_NEW_NAME + MPM
 HOLDS(fcb_has_the_map, MPM_FCB_COUNT + 1u == MPM_FCB_MAP && MPM_FCB_MAP + MPM_MAP_LEN == MPM_ENTRY_LEN);
 HOLDS(dma_is_whole, MPM_DMA_AT(0u) == MPM_DMA_RECORD && MPM_DMA_AT(MPM_MAX_COUNT) == MPM_DMA_LEN);
 HOLDS(new_record_fits, MPM_DMA_NEW == MPM_DMA_RECORD + MPM_RECORD_LEN && MPM_DMA_NEW + MPM_RECORD_LEN <= MPM_DMA_LEN);
-HOLDS(answer_is_a_and_256_h, MPM_BAD_CALL == 3583u && MPM_LOCK_LIST_FULL == 14u && MPM_OK == 0u);
-HOLDS(highest_answer_leaves_four_bits, MPM_BAD_CALL < MPM_ANSWER(0u, 16u) && MPM_MAX_COUNT - 1u <= 15u);
+HOLDS(answer_is_a_and_256_h, MPM_ERR_BAD_CALL == 3583u && MPM_ERR_LOCK_LIST_FULL == 14u && MPM_OK == 0u);
+HOLDS(make_shares_a_number, MPM_ERR_NO_EMPTY_ENTRY == MPM_ERR_NOT_FOUND);
+HOLDS(highest_answer_leaves_four_bits, MPM_ERR_BAD_CALL < MPM_ANSWER(0u, 16u) && MPM_MAX_COUNT - 1u <= 15u);
 
 /* Of each kind: its directory, a block and an entry's map are filled exactly, every block has a number, and the figure
    of 46 has room. */
@@ -74,20 +78,21 @@ uint32_t header_kind(uint32_t kind, size_t image_len) {
 
 uint32_t header_function(uint32_t number) {
     switch (number) {
-    case MPM_OPEN: case MPM_CLOSE: case MPM_DELETE: case MPM_MAKE: case MPM_RENAME: case MPM_READ: case MPM_WRITE:
-    case MPM_WRITE_ZEROS: case MPM_TEST_WRITE: case MPM_LOCK: case MPM_UNLOCK: case MPM_FREE_SPACE:
-    case MPM_TERMINATE: return 1u;
+    case MPM_FN_OPEN: case MPM_FN_CLOSE: case MPM_FN_DELETE: case MPM_FN_MAKE: case MPM_FN_RENAME: case MPM_FN_READ:
+    case MPM_FN_WRITE: case MPM_FN_WRITE_ZEROS: case MPM_FN_TEST_WRITE: case MPM_FN_LOCK: case MPM_FN_UNLOCK:
+    case MPM_FN_FREE_SPACE: case MPM_FN_TERMINATE: return 1u;
     default: return 0u;
     }
 }
 
 uint32_t header_answer(uint32_t answer) {
     switch (answer) {
-    case MPM_OK: case MPM_BAD_CALL: case MPM_BAD_IMAGE: case MPM_BAD_LIST: case MPM_BAD_DRIVE: case MPM_NOT_FOUND:
-    case MPM_READ_ONLY: case MPM_IN_USE: case MPM_CLOSE_NOT_OPEN: case MPM_EXISTS: case MPM_BAD_NAME:
-    case MPM_OPEN_LIMIT: case MPM_OPEN_LIST_FULL: case MPM_NO_BLOCK: case MPM_DISK_FULL: case MPM_NO_EXTENT:
-    case MPM_DIRECTORY_FULL: case MPM_PAST_END: case MPM_DIFFERS: case MPM_LOCKED: case MPM_NOT_OPEN:
-    case MPM_LOCK_LIMIT: case MPM_BAD_FILE_ID: case MPM_LOCK_LIST_FULL:
+    case MPM_OK: case MPM_ERR_BAD_CALL: case MPM_ERR_BAD_IMAGE: case MPM_ERR_BAD_LIST: case MPM_ERR_BAD_DRIVE:
+    case MPM_ERR_NOT_FOUND: case MPM_ERR_READ_ONLY: case MPM_ERR_IN_USE: case MPM_ERR_CLOSE_NOT_OPEN:
+    case MPM_ERR_EXISTS: case MPM_ERR_BAD_NAME: case MPM_ERR_OPEN_LIMIT: case MPM_ERR_OPEN_LIST_FULL:
+    case MPM_ERR_NO_BLOCK: case MPM_ERR_DISK_FULL: case MPM_ERR_NO_EXTENT: case MPM_ERR_DIRECTORY_FULL:
+    case MPM_ERR_PAST_END: case MPM_ERR_DIFFERS: case MPM_ERR_LOCKED: case MPM_ERR_NOT_OPEN: case MPM_ERR_LOCK_LIMIT:
+    case MPM_ERR_BAD_FILE_ID: case MPM_ERR_LOCK_LIST_FULL:
         return mpm_a(answer) + mpm_h(answer);
     default: return 0u;
     }

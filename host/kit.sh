@@ -49,11 +49,16 @@ make_native() {
     if is_old "$native"; then bash "$root/host/native.sh"; fi
 }
 
-# kit_clang WORDS..: the kit's C compiler for x86-64, with the headers of libc/ and the engine's alone. A system header
-# could be another machine's, and would compile into something wrong without a word.
-kit_clang() {
+# bare_clang WORDS..: the kit's C compiler for x86-64, with the headers of libc/ alone. A system header could be another
+# machine's, and would compile into something wrong without a word.
+bare_clang() {
     "$own/toolchain/bin/clang" --target=x86_64-unknown-linux-gnu -march=x86-64 --no-default-config -nostdinc \
-        -isystem "$root/host/libc" -I "$root/include" "$@"
+        -isystem "$root/host/libc" "$@"
+}
+
+# kit_clang WORDS..: the same with the engine's header.
+kit_clang() {
+    bare_clang -I "$root/include" "$@"
 }
 
 # kit_link PROGRAM OBJECTS..: links for x86-64 with the kit's C library, quiet unless it fails.
@@ -65,6 +70,14 @@ kit_link() {
         cat "$program.log" >&2
         return 1
     }
+}
+
+# kit_cc WORDS..: as a system's cc, compiles and links a program for x86-64 in one go, and knows nothing of the engine.
+kit_cc() {
+    local lib=$own/toolchain/lib
+    bare_clang -fPIE -pie -nostdlib --ld-path="$own/toolchain/bin/ld.lld" \
+        -Wl,--dynamic-linker=/lib64/ld-linux-x86-64.so.2 "$lib"/{Scrt1,crti,crtbeginS}.o "$@" \
+        "$lib"/{libc.so.6,libc_nonshared.a,libgcc.a,crtendS.o,crtn.o}
 }
 
 # shellcheck disable=SC2034 # the scripts that source this use it

@@ -1,9 +1,9 @@
 #!/usr/bin/env bash
 # native.sh [ARCHIVE]: the engine as an archive for this machine's own processor, for tests and measurements with the
-# system's compiler. Makes target/host/native/libengine.a unless said otherwise. Never shipped: what the kit makes is for
-# x86-64. The engine is proved and compiled as for the shipped archive; a compiler put in between keeps the bitcode that
-# it is given, and that is compiled once more. Beside the archive is left its mpm.h, under the archive's name: from it
-# bench/run.sh --before knows how an earlier engine is called.
+# system's compiler. Makes target/host/native/libengine.a unless said otherwise. Never shipped: what the kit makes is
+# for x86-64. The engine is proved and compiled as for the shipped archive; a compiler put in between keeps the bitcode
+# that it is given, and that is compiled once more. Beside the archive is left its mpm.h, under the archive's name: from
+# it bench/run.sh --before knows how an earlier engine is called.
 set -euo pipefail
 unset MPM_ARCHIVE
 # shellcheck source=kit.sh

@@ -1,12 +1,13 @@
-/* The story of an order book. Clerks share the file ORDERS.DAT on the drive image ORDERS.IMG. One of them locks a long
-   run of order lines and dies. Another is held up until the host takes back what the dead one held. A third reads a
-   screen of sixteen lines in one call, and writes several in one call until it meets a line that is locked.
+/* The story of an order book. Clerks share the file ORDERS.DAT on one drive. One of them locks a long run of order
+   lines and dies. Another is held up until the host takes back what the dead one held. A third reads a screen of
+   sixteen lines in one call, and writes several in one call until it meets a line that is locked.
 
-   story FOLDER [small|large]: makes FOLDER/ORDERS.IMG, a drive of that kind (small), plays the story on it and prints
-   every step with its answer. The steps are the same on both, but for the numbers of lines that lie in a new block.
+   story FOLDER [small|large]: makes FOLDER/ORDERS.BOOK (save.h) with a drive of that kind (small), plays the story on
+   it and prints every step with its answer. The steps are the same on both, but for the numbers of lines that lie in a
+   new block.
    Exit status: 0 if all was as expected, 1 if something was not, 2 for wrong use or a file that cannot be used. */
 
-#include "mpm.h"
+#include "save.h"
 
 #include <stdio.h>
 #include <string.h>
@@ -79,56 +80,13 @@ static uint32_t free_records(void) {
     return mpm_block_records(kind) * (blocks - MPM_DIRECTORY_BLOCKS) - used;
 }
 
-/* ---- Numbers and words ---- */
-
-static uint32_t get_number(const uint8_t *bytes, size_t length) {
-    uint32_t number = 0;
-    for (size_t i = length; i > 0; i--) number = 256u * number + bytes[i - 1];
-    return number;
-}
-
-static void put_number(uint8_t *bytes, size_t length, uint32_t number) {
-    for (size_t i = 0; i < length; i++) {
-        bytes[i] = (uint8_t)(number % 256u);
-        number /= 256u;
-    }
-}
-
-static const char *name_of(uint32_t answer) {
-    switch (answer) {
-    case MPM_OK: return "MPM_OK";
-    case MPM_BAD_CALL: return "MPM_BAD_CALL";
-    case MPM_BAD_IMAGE: return "MPM_BAD_IMAGE";
-    case MPM_BAD_LIST: return "MPM_BAD_LIST";
-    case MPM_BAD_DRIVE: return "MPM_BAD_DRIVE";
-    case MPM_NOT_FOUND: return "MPM_NOT_FOUND";
-    case MPM_READ_ONLY: return "MPM_READ_ONLY";
-    case MPM_IN_USE: return "MPM_IN_USE";
-    case MPM_CLOSE_NOT_OPEN: return "MPM_CLOSE_NOT_OPEN";
-    case MPM_EXISTS: return "MPM_EXISTS";
-    case MPM_BAD_NAME: return "MPM_BAD_NAME";
-    case MPM_OPEN_LIMIT: return "MPM_OPEN_LIMIT";
-    case MPM_OPEN_LIST_FULL: return "MPM_OPEN_LIST_FULL";
-    case MPM_NO_BLOCK: return "MPM_NO_BLOCK";
-    case MPM_DISK_FULL: return "MPM_DISK_FULL";
-    case MPM_NO_EXTENT: return "MPM_NO_EXTENT";
-    case MPM_DIRECTORY_FULL: return "MPM_DIRECTORY_FULL";
-    case MPM_PAST_END: return "MPM_PAST_END";
-    case MPM_DIFFERS: return "MPM_DIFFERS";
-    case MPM_LOCKED: return "MPM_LOCKED";
-    case MPM_NOT_OPEN: return "MPM_NOT_OPEN";
-    case MPM_LOCK_LIMIT: return "MPM_LOCK_LIMIT";
-    case MPM_BAD_FILE_ID: return "MPM_BAD_FILE_ID";
-    case MPM_LOCK_LIST_FULL: return "MPM_LOCK_LIST_FULL";
-    default: return "an unknown answer";
-    }
-}
+/* ---- Words ---- */
 
 static const char *check_name(uint32_t answer) {
     switch (answer) {
-    case MPM_SOUND: return "MPM_SOUND";
-    case MPM_WRONG_LENGTH: return "MPM_WRONG_LENGTH";
-    case MPM_UNSOUND: return "MPM_UNSOUND";
+    case MPM_CHECK_SOUND: return "MPM_CHECK_SOUND";
+    case MPM_CHECK_WRONG_LENGTH: return "MPM_CHECK_WRONG_LENGTH";
+    case MPM_CHECK_UNSOUND: return "MPM_CHECK_UNSOUND";
     default: return "an unknown answer";
     }
 }
@@ -144,7 +102,7 @@ static const char *mode_name(uint32_t mode) {
 
 static const char *who(const struct step *step) {
     static const char *const processes[] = {"office", "clerk 1", "clerk 2", "clerk 3"};
-    return step->function == MPM_TERMINATE ? "host" : processes[step->process];
+    return step->function == MPM_FN_TERMINATE ? "host" : processes[step->process];
 }
 
 /* The order line as a clerk writes it: text, filled up with blanks. */
@@ -177,13 +135,13 @@ static void print_row(const char *actor, uint32_t function, const char *words, c
 static void print_answer_row(const char *actor, uint32_t function, const char *words, uint32_t answer) {
     char text[32];
     snprintf(text, sizeof text, "%u/%u", (unsigned)mpm_a(answer), (unsigned)mpm_h(answer));
-    print_row(actor, function, words, text, name_of(mpm_code(answer)));
+    print_row(actor, function, words, text, mpm_answer_name(function, answer));
 }
 
-static void expect_answer(uint32_t answer, uint32_t expected) {
+static void expect_answer(uint32_t function, uint32_t answer, uint32_t expected) {
     if (answer == expected) return;
     printf("      EXPECTED: %u/%u %s\n", (unsigned)mpm_a(expected), (unsigned)mpm_h(expected),
-           name_of(mpm_code(expected)));
+           mpm_answer_name(function, expected));
     faults++;
 }
 
@@ -202,15 +160,15 @@ static void print_head(void) {
 typedef uint32_t engine(uint32_t, uint32_t, uint32_t, uint32_t, uint8_t *, size_t, uint8_t *, size_t, uint8_t *,
                         size_t, uint8_t *, size_t);
 
-static int wants_file_id(uint32_t function) { return function == MPM_LOCK || function == MPM_UNLOCK; }
+static int wants_file_id(uint32_t function) { return function == MPM_FN_LOCK || function == MPM_FN_UNLOCK; }
 
 /* One that does its lines in turn and may stop among them. */
 static int goes_by_lines(uint32_t function) {
-    return function == MPM_READ || function == MPM_WRITE || function == MPM_WRITE_ZEROS;
+    return function == MPM_FN_READ || function == MPM_FN_WRITE || function == MPM_FN_WRITE_ZEROS;
 }
 
 static int is_write(uint32_t function) {
-    return function == MPM_WRITE || function == MPM_WRITE_ZEROS || function == MPM_TEST_WRITE;
+    return function == MPM_FN_WRITE || function == MPM_FN_WRITE_ZEROS || function == MPM_FN_TEST_WRITE;
 }
 
 static uint32_t count_of(const struct step *step) { return step->last - step->first + 1; }
@@ -221,17 +179,15 @@ static uint32_t done_of(const struct step *step, uint32_t answer) {
 }
 
 static void fill_fcb(uint32_t line) {
-    memset(now.fcb, 0, sizeof now.fcb);
-    memcpy(now.fcb + MPM_FCB_NAME, file, MPM_NAME_LEN);
-    now.fcb[MPM_FCB_UNLOCKED] |= MPM_HIGH_BIT;
-    put_number(now.fcb + MPM_FCB_RECORD, 3, line);
+    mpm_set_fcb(now.fcb, "ORDERS.DAT", MPM_MODE_UNLOCKED);
+    mpm_set_record(now.fcb, line);
 }
 
 static void fill_dma(const struct step *step) {
     memset(now.dma, 0, sizeof now.dma);
     if (wants_file_id(step->function)) {
-        put_number(now.dma + MPM_DMA_FILE_ID, 2, file_ids[step->process]);
-    } else if (step->function == MPM_TEST_WRITE) {
+        mpm_set_file_id(now.dma, file_ids[step->process]);
+    } else if (step->function == MPM_FN_TEST_WRITE) {
         memcpy(now.dma + MPM_DMA_RECORD, lines[step->first], MPM_RECORD_LEN);
         compose(now.dma + MPM_DMA_NEW, step->first, step->process);
     } else if (is_write(step->function)) {
@@ -267,11 +223,12 @@ static void check_lines(void) {
 
 /* A book of one kind is never read as another: the call told so is refused, checks and looks tell nothing. */
 static void check_as(uint32_t as_kind, const struct step *step) {
-    uint32_t refusal = as_kind < MPM_KINDS ? MPM_BAD_IMAGE : MPM_BAD_CALL;
+    uint32_t refusal = as_kind < MPM_KINDS ? MPM_ERR_BAD_IMAGE : MPM_ERR_BAD_CALL;
     told = now;
     if (lend(mpm_call, as_kind, step, &told) != refusal) fault("a book told as another kind is taken");
     if (memcmp(&told, &now, sizeof now) != 0) fault("a book told as another kind has changed");
-    if (mpm_check(as_kind, image_of(&now), image_len()) != MPM_WRONG_LENGTH) fault("the check takes another kind");
+    if (mpm_check(as_kind, image_of(&now), image_len()) != MPM_CHECK_WRONG_LENGTH)
+        fault("the check takes another kind");
     if (place_of(as_kind, 0) != 0) fault("Look takes another kind");
 }
 
@@ -283,7 +240,7 @@ static void check_other_kinds(const struct step *step) {
 
 /* A refused line and those after it must leave no trace, lines done none but themselves. */
 static void check_trace(const struct step *step, uint32_t done) {
-    size_t read = step->function == MPM_READ ? MPM_DMA_AT(done) : 0;
+    size_t read = step->function == MPM_FN_READ ? MPM_DMA_AT(done) : 0;
     int written = is_write(step->function) && done > 0;
     if (memcmp(before.fcb, now.fcb, sizeof now.fcb) != 0) fault("the FCB has changed");
     if (memcmp(before.dma + read, now.dma + read, sizeof now.dma - read) != 0) fault("the DMA has changed");
@@ -314,14 +271,14 @@ static uint32_t call(const struct step *step) {
 /* ---- What a call has left ---- */
 
 static void show_file_id(const struct step *step) {
-    uint32_t file_id = get_number(now.fcb + MPM_FCB_RECORD, 3);
+    uint32_t file_id = mpm_file_id(now.fcb);
     file_ids[step->process] = file_id;
     printf(", File ID %u\n", (unsigned)file_id);
     expect_figure(file_id, step->file_id);
 }
 
 static void show_free_records(void) {
-    uint32_t records = get_number(now.dma + MPM_DMA_FREE, 3);
+    uint32_t records = mpm_get(now.dma + MPM_DMA_FREE, 3);
     printf(", %u records free\n", (unsigned)records);
     expect_figure(records, free_records());
 }
@@ -331,7 +288,7 @@ static void show_lines(const struct step *step, uint32_t answer) {
     uint32_t done = done_of(step, answer);
     if (count_of(step) > 1) printf(", %u lines done", (unsigned)done);
     printf("\n");
-    for (uint32_t i = 0; i < done && step->function == MPM_READ; i++) {
+    for (uint32_t i = 0; i < done && step->function == MPM_FN_READ; i++) {
         if (memcmp(now.dma + MPM_DMA_AT(i), lines[step->first + i], MPM_RECORD_LEN) == 0) continue;
         fault("the line read is not the line written");
         return;
@@ -340,9 +297,9 @@ static void show_lines(const struct step *step, uint32_t answer) {
 
 static void show_effect(const struct step *step) {
     switch (step->function) {
-    case MPM_OPEN:
-    case MPM_MAKE: show_file_id(step); break;
-    case MPM_FREE_SPACE: show_free_records(); break;
+    case MPM_FN_OPEN:
+    case MPM_FN_MAKE: show_file_id(step); break;
+    case MPM_FN_FREE_SPACE: show_free_records(); break;
     default: printf("\n");
     }
 }
@@ -356,7 +313,7 @@ static void play(const struct step *step) {
         show_effect(step);
     else
         printf("\n");
-    expect_answer(answer, step->answer);
+    expect_answer(step->function, answer, step->answer);
 }
 
 static void play_all(const struct step *all, size_t count) {
@@ -377,12 +334,12 @@ static void print_file_name(const uint8_t *name) {
 }
 
 static void print_place(uint32_t number, const uint8_t *place) {
-    int is_lock = get_number(place + MPM_PLACE_MARK, 2) == MPM_MARK_LOCK;
+    int is_lock = mpm_get(place + MPM_PLACE_MARK, 2) == MPM_MARK_LOCK;
     printf("%7u  %s  %7u  ", (unsigned)number, is_lock ? "lock" : "open", (unsigned)place[MPM_PLACE_PROCESS]);
     print_file_name(place + MPM_PLACE_NAME);
     printf("  %-9s", mode_name(place[MPM_PLACE_MODE]));
     if (is_lock)
-        printf("  %6u\n", (unsigned)get_number(place + MPM_PLACE_RECORD, 4));
+        printf("  %6u\n", (unsigned)mpm_get(place + MPM_PLACE_RECORD, 4));
     else
         printf("       -\n");
 }
@@ -393,7 +350,7 @@ static void show_list(const char *when, uint32_t expected) {
     if (expected > 0) printf("  place  item  process  file          mode       record\n");
     for (uint32_t i = 0; i < CAPACITY; i++) {
         const uint8_t *place = now.list + MPM_LIST_PLACES + i * MPM_PLACE_LEN;
-        if (get_number(place + MPM_PLACE_MARK, 2) == 0) continue;
+        if (mpm_get(place + MPM_PLACE_MARK, 2) == 0) continue;
         print_place(i, place);
         taken++;
     }
@@ -401,42 +358,57 @@ static void show_list(const char *when, uint32_t expected) {
     expect_figure(taken, expected);
 }
 
-/* ---- The image and its file ---- */
+/* ---- The book and its file ---- */
 
-static int file_exists(const char *path) {
-    FILE *stream = fopen(path, "rb");
-    if (!stream) return 0;
-    fclose(stream);
-    return 1;
+static struct mpm_book book_of(struct buffers *b) {
+    struct mpm_book book = {kind, b->list, sizeof b->list, image_of(b), image_len()};
+    return book;
 }
 
-static int save_image(const char *path) {
-    FILE *stream = fopen(path, "wb");
-    if (!stream) return 0;
-    int whole = fwrite(image_of(&now), 1, image_len(), stream) == image_len();
-    return fclose(stream) == 0 && whole;
+/* Saves list and image in the file that is there. */
+static int save_now(const char *path) {
+    struct save save;
+    if (!save_open(&save, path)) return 0;
+    memcpy(save.book.list, now.list, sizeof now.list);
+    memcpy(save.book.image, image_of(&now), image_len());
+    int saved = save_book(&save);
+    save_close(&save);
+    return saved;
 }
 
-static int load_image(const char *path) {
-    FILE *stream = fopen(path, "rb");
-    if (!stream) return 0;
-    memset(image_of(&now), 0, image_len());
-    int whole = fread(image_of(&now), 1, image_len(), stream) == image_len();
-    fclose(stream);
-    return whole;
+static int read_again(const char *path) {
+    struct save save;
+    if (!save_open(&save, path)) return 0;
+    int same_size = save.book.kind == kind && save.book.image_len == image_len();
+    if (same_size) memcpy(now.list, save.book.list, sizeof now.list);
+    if (same_size) memcpy(image_of(&now), save.book.image, image_len());
+    save_close(&save);
+    return same_size;
 }
 
-/* Writes the image to its file, reads it again and checks it. 0 if the file cannot be used. */
-static int keep_image(const char *path, const char *words) {
+/* Checks the book that was read again. */
+static void check_book(const char *words) {
     char text[32];
-    before = now;
-    if (!save_image(path) || !load_image(path)) return 0;
     uint32_t answer = mpm_check(kind, image_of(&now), image_len());
     snprintf(text, sizeof text, "%u", (unsigned)answer);
     print_row("host", 0, words, text, check_name(answer));
     printf("\n");
-    if (answer != MPM_SOUND) fault("the image is not sound");
-    if (memcmp(&before, &now, sizeof now) != 0) fault("the image read is not the image written");
+    if (answer != MPM_CHECK_SOUND) fault("the image is not sound");
+    if (memcmp(&before, &now, sizeof now) != 0) fault("the book read is not the book written");
+}
+
+static int make_book(const char *path, const char *words) {
+    struct mpm_book book = book_of(&now);
+    before = now;
+    if (!save_new(path, &book) || !read_again(path)) return 0;
+    check_book(words);
+    return 1;
+}
+
+static int keep_book(const char *path, const char *words) {
+    before = now;
+    if (!save_now(path) || !read_again(path)) return 0;
+    check_book(words);
     return 1;
 }
 
@@ -468,34 +440,34 @@ static void start_list(void) {
     uint32_t answer = mpm_start(kind, CAPACITY, OPEN_LIMIT, LOCK_LIMIT, users, sizeof users, now.list, sizeof now.list);
     print_answer_row("host", 0, "starts a list: 12 places, 2 opens, 10 locks", answer);
     printf("\n");
-    expect_answer(answer, MPM_OK);
+    expect_answer(0, answer, MPM_OK);
 }
 
 static void morning(void) {
     static const struct step all[] = {
-        {OFFICE, MPM_MAKE, "makes ORDERS.DAT", 0, 0, MPM_OK, 0},
-        {OFFICE, MPM_CLOSE, "closes it", 0, 0, MPM_OK, 0},
-        {CLERK_1, MPM_OPEN, "opens it unlocked", 0, 0, MPM_OK, 0},
-        {CLERK_2, MPM_OPEN, "opens it unlocked", 0, 0, MPM_OK, 1},
-        {CLERK_1, MPM_WRITE_ZEROS, "writes lines 0 to 11", 0, 11, MPM_OK, 0},
-        {CLERK_2, MPM_WRITE_ZEROS, "writes lines 12 to 23", 12, 23, MPM_OK, 0},
-        {CLERK_2, MPM_FREE_SPACE, "asks for the free space", 0, 0, MPM_OK, 0},
-        {CLERK_1, MPM_LOCK, "locks lines 0 to 9", 0, 9, MPM_OK, 0},
+        {OFFICE, MPM_FN_MAKE, "makes ORDERS.DAT", 0, 0, MPM_OK, 0},
+        {OFFICE, MPM_FN_CLOSE, "closes it", 0, 0, MPM_OK, 0},
+        {CLERK_1, MPM_FN_OPEN, "opens it unlocked", 0, 0, MPM_OK, 0},
+        {CLERK_2, MPM_FN_OPEN, "opens it unlocked", 0, 0, MPM_OK, 1},
+        {CLERK_1, MPM_FN_WRITE_ZEROS, "writes lines 0 to 11", 0, 11, MPM_OK, 0},
+        {CLERK_2, MPM_FN_WRITE_ZEROS, "writes lines 12 to 23", 12, 23, MPM_OK, 0},
+        {CLERK_2, MPM_FN_FREE_SPACE, "asks for the free space", 0, 0, MPM_OK, 0},
+        {CLERK_1, MPM_FN_LOCK, "locks lines 0 to 9", 0, 9, MPM_OK, 0},
     };
     play_all(all, COUNT(all));
 }
 
 static void noon(void) {
     static const struct step all[] = {
-        {CLERK_2, MPM_READ, "reads line 4: a lock does not stop reading", 4, 4, MPM_OK, 0},
-        {CLERK_2, MPM_WRITE, "writes line 4: clerk 1 still holds it", 4, 4, MPM_LOCKED, 0},
-        {CLERK_2, MPM_LOCK, "locks line 4: clerk 1 still holds it", 4, 4, MPM_LOCKED, 0},
-        {CLERK_2, MPM_LOCK, "locks lines 9 to 12: clerk 1 still holds 9", 9, 12, MPM_LOCKED, 0},
-        {CLERK_2, MPM_LOCK, "locks line 12: free, but the list is full", 12, 12, MPM_LOCK_LIST_FULL, 0},
-        {CLERK_2, MPM_LOCK, "locks lines 12 to 22: 11 exceed its limit", 12, 22, MPM_LOCK_LIMIT, 0},
-        {CLERK_3, MPM_OPEN, "opens it: the list is full", 0, 0, MPM_OPEN_LIST_FULL, 0},
-        {CLERK_3, MPM_DELETE, "deletes it: others have it open", 0, 0, MPM_IN_USE, 0},
-        {CLERK_1, MPM_TERMINATE, "ends process 1", 0, 0, MPM_OK, 0},
+        {CLERK_2, MPM_FN_READ, "reads line 4: a lock does not stop reading", 4, 4, MPM_OK, 0},
+        {CLERK_2, MPM_FN_WRITE, "writes line 4: clerk 1 still holds it", 4, 4, MPM_ERR_LOCKED, 0},
+        {CLERK_2, MPM_FN_LOCK, "locks line 4: clerk 1 still holds it", 4, 4, MPM_ERR_LOCKED, 0},
+        {CLERK_2, MPM_FN_LOCK, "locks lines 9 to 12: clerk 1 still holds 9", 9, 12, MPM_ERR_LOCKED, 0},
+        {CLERK_2, MPM_FN_LOCK, "locks line 12: free, but the list is full", 12, 12, MPM_ERR_LOCK_LIST_FULL, 0},
+        {CLERK_2, MPM_FN_LOCK, "locks lines 12 to 22: 11 exceed its limit", 12, 22, MPM_ERR_LOCK_LIMIT, 0},
+        {CLERK_3, MPM_FN_OPEN, "opens it: the list is full", 0, 0, MPM_ERR_OPEN_LIST_FULL, 0},
+        {CLERK_3, MPM_FN_DELETE, "deletes it: others have it open", 0, 0, MPM_ERR_IN_USE, 0},
+        {CLERK_1, MPM_FN_TERMINATE, "ends process 1", 0, 0, MPM_OK, 0},
     };
     play_all(all, COUNT(all));
 }
@@ -519,27 +491,27 @@ static struct afternoon plan_afternoon(void) {
 static void afternoon(void) {
     const struct afternoon p = plan_afternoon();
     const struct step all[] = {
-        {CLERK_2, MPM_LOCK, "locks lines 4 to 6", 4, 6, MPM_OK, 0},
-        {CLERK_2, MPM_WRITE, "writes line 4", 4, 4, MPM_OK, 0},
-        {CLERK_2, MPM_TEST_WRITE, "writes line 5 if it is still as it was", 5, 5, MPM_OK, 0},
-        {CLERK_2, MPM_WRITE_ZEROS, p.in_new_block, p.fresh, p.fresh, MPM_OK, 0},
-        {CLERK_2, MPM_FREE_SPACE, "asks for the free space", 0, 0, MPM_OK, 0},
-        {CLERK_3, MPM_OPEN, "opens it unlocked", 0, 0, MPM_OK, 4},
-        {CLERK_3, MPM_READ, "reads lines 0 to 15, a screen", 0, 15, MPM_OK, 0},
-        {CLERK_3, MPM_WRITE, "writes lines 1 to 8: clerk 2 holds 4", 1, 8, AFTER(3, MPM_LOCKED), 0},
-        {CLERK_3, MPM_READ, "reads lines 0 to 15 again", 0, 15, MPM_OK, 0},
-        {CLERK_3, MPM_WRITE_ZEROS, p.two_in_new_block, p.pair, p.pair + 3, MPM_OK, 0},
-        {CLERK_3, MPM_READ, p.past_the_last, p.screen, p.screen + 15, AFTER(12, MPM_NO_BLOCK), 0},
-        {CLERK_3, MPM_FREE_SPACE, "asks for the free space", 0, 0, MPM_OK, 0},
+        {CLERK_2, MPM_FN_LOCK, "locks lines 4 to 6", 4, 6, MPM_OK, 0},
+        {CLERK_2, MPM_FN_WRITE, "writes line 4", 4, 4, MPM_OK, 0},
+        {CLERK_2, MPM_FN_TEST_WRITE, "writes line 5 if it is still as it was", 5, 5, MPM_OK, 0},
+        {CLERK_2, MPM_FN_WRITE_ZEROS, p.in_new_block, p.fresh, p.fresh, MPM_OK, 0},
+        {CLERK_2, MPM_FN_FREE_SPACE, "asks for the free space", 0, 0, MPM_OK, 0},
+        {CLERK_3, MPM_FN_OPEN, "opens it unlocked", 0, 0, MPM_OK, 4},
+        {CLERK_3, MPM_FN_READ, "reads lines 0 to 15, a screen", 0, 15, MPM_OK, 0},
+        {CLERK_3, MPM_FN_WRITE, "writes lines 1 to 8: clerk 2 holds 4", 1, 8, AFTER(3, MPM_ERR_LOCKED), 0},
+        {CLERK_3, MPM_FN_READ, "reads lines 0 to 15 again", 0, 15, MPM_OK, 0},
+        {CLERK_3, MPM_FN_WRITE_ZEROS, p.two_in_new_block, p.pair, p.pair + 3, MPM_OK, 0},
+        {CLERK_3, MPM_FN_READ, p.past_the_last, p.screen, p.screen + 15, AFTER(12, MPM_ERR_NO_BLOCK), 0},
+        {CLERK_3, MPM_FN_FREE_SPACE, "asks for the free space", 0, 0, MPM_OK, 0},
     };
     play_all(all, COUNT(all));
 }
 
 static void evening(void) {
     static const struct step all[] = {
-        {CLERK_2, MPM_UNLOCK, "unlocks lines 4 to 6", 4, 6, MPM_OK, 0},
-        {CLERK_2, MPM_CLOSE, "closes it", 0, 0, MPM_OK, 0},
-        {CLERK_3, MPM_CLOSE, "closes it", 0, 0, MPM_OK, 0},
+        {CLERK_2, MPM_FN_UNLOCK, "unlocks lines 4 to 6", 4, 6, MPM_OK, 0},
+        {CLERK_2, MPM_FN_CLOSE, "closes it", 0, 0, MPM_OK, 0},
+        {CLERK_3, MPM_FN_CLOSE, "closes it", 0, 0, MPM_OK, 0},
     };
     play_all(all, COUNT(all));
 }
@@ -560,8 +532,8 @@ static int tell(const char *path) {
     printf("An order book that clerks share. A/H is the engine's answer.\n");
     print_head();
     memset(image_of(&now), MPM_EMPTY, image_len());
-    snprintf(words, sizeof words, "makes ORDERS.IMG, %u empty blocks; checks it", (unsigned)blocks);
-    if (!keep_image(path, words)) return 0;
+    snprintf(words, sizeof words, "makes ORDERS.BOOK of %u blocks; checks it", (unsigned)blocks);
+    if (!make_book(path, words)) return 0;
     start_list();
     morning();
     show_list("before the death", 12);
@@ -575,7 +547,7 @@ static int tell(const char *path) {
     show_list("while clerks 2 and 3 go on", 5);
     print_head();
     evening();
-    if (!keep_image(path, "writes ORDERS.IMG, reads it again; checks it")) return 0;
+    if (!keep_book(path, "writes ORDERS.BOOK, reads it again; checks it")) return 0;
     show_list("in the evening", 0);
     look_at_lines();
     return 1;
@@ -593,7 +565,7 @@ static int read_words(int argc, char **argv, char path[PATH_LEN]) {
     } else {
         return 0;
     }
-    int length = snprintf(path, PATH_LEN, "%s/ORDERS.IMG", argv[1]);
+    int length = snprintf(path, PATH_LEN, "%s/ORDERS.BOOK", argv[1]);
     return length >= 0 && length < PATH_LEN;
 }
 
@@ -603,14 +575,7 @@ int main(int argc, char **argv) {
         fprintf(stderr, "use: story FOLDER [small|large]\n");
         return WRONG_USE;
     }
-    if (file_exists(path)) {
-        fprintf(stderr, "story: %s is there already\n", path);
-        return WRONG_USE;
-    }
-    if (!tell(path)) {
-        fprintf(stderr, "story: cannot write and read %s\n", path);
-        return WRONG_USE;
-    }
+    if (!tell(path)) return WRONG_USE; /* save.c has said why */
     if (faults > 0) {
         printf("\n%u faults in %u steps.\n", (unsigned)faults, (unsigned)steps);
         return 1;

@@ -1,6 +1,6 @@
 #!/usr/bin/env bash
 # story.sh [small|large]: builds the host and plays the story of the order book, on a drive of that kind (small). From a
-# fresh clone the engine is proved first, which takes minutes. The book stays in target/host/book/ORDERS.IMG.
+# fresh clone the engine is proved first, which takes minutes. The book stays in target/host/book/ORDERS.BOOK.
 set -euo pipefail
 here=$(cd "$(dirname "${BASH_SOURCE[0]}")" && pwd -P)
 # shellcheck source=kit.sh
@@ -8,5 +8,5 @@ here=$(cd "$(dirname "${BASH_SOURCE[0]}")" && pwd -P)
 
 "$here/build.sh"
 mkdir -p "$out/book"
-rm -f "$out/book/ORDERS.IMG"
+rm -f "$out/book/ORDERS.BOOK"
 "$here/run.sh" "$out/story" "$out/book" "$@"

@@ -1,10 +1,13 @@
 #!/usr/bin/env bash
 # test.sh [ARCHIVE]: tests the C side; a line for each test, exit status 1 at the first that fails.
-# With the kit alone: mpm.h as C and as C++, the story on each kind of drive against expected.sh, and the story over bad
-# engines, which it must not take for good ones. The plain engine of a bad one is as bad, so that the two do not give
-# each other away.
+# With the kit: mpm.h as C and as C++, its helpers; a host outside the repository, made with what install.sh installs;
+# the story on each kind of drive against expected.sh, and the story over bad engines, which it must not take for good
+# ones (the plain engine of a bad one is as bad, so that the two do not give each other away); saving on a disk that
+# fails and a machine that stops; the minimal host on a full disk, in a read-only folder and killed 50 times. Beside the
+# kit it wants pkg-config, python3 and, on x86-64, a C compiler.
 # With ARCHIVE, an engine for this machine's own processor (of native.sh, or the reference of tests/pipe/exports): the
-# same with the system's compilers (CC, CXX), and the story under the sanitizers of addresses and undefined behaviour.
+# header, the helpers, the story and saving with the system's compilers (CC, CXX), under the sanitizers of addresses and
+# undefined behaviour.
 set -euo pipefail
 here=$(cd "$(dirname "${BASH_SOURCE[0]}")" && pwd -P)
 # shellcheck source=kit.sh
@@ -16,6 +19,10 @@ spoiled=$root/fuzz/spoiled.c
 
 system_cc() { "${CC:-cc}" -I "$root/include" "$@"; }
 system_cxx() { "${CXX:-c++}" -I "$root/include" "$@"; }
+sanitized() { # PROGRAM SOURCES..
+    system_cc -std=c99 -O1 -g "${warnings[@]}" -fsanitize=address,undefined -fno-sanitize-recover=all "${@:2}" \
+        -lpthread -ldl -lm -o "$1"
+}
 
 # Runs a test quietly; shows what it said only if it failed. Inside it `set -e` is off: tests are chains of &&.
 try() {
@@ -53,21 +60,22 @@ tells_it_small_unless_told() { # RUN..
 }
 
 keeps_an_old_book() { # RUN..
-    fresh_book && echo old >"$work/book/ORDERS.IMG" && ends_with 2 "$@" "$work/book" &&
-        [ "$(cat "$work/book/ORDERS.IMG")" = old ]
+    fresh_book && echo old >"$work/book/ORDERS.BOOK" && ends_with 2 "$@" "$work/book" &&
+        [ "$(cat "$work/book/ORDERS.BOOK")" = old ]
 }
 
 sees_a_bad_engine() { # STUB
     kit_clang -std=c99 -O2 -fPIC -DSTUB="$1" -c "$stub" -o "$work/stub.o" &&
-        MPM_ARCHIVE=$work/stub.o "$here/build.sh" "$here/story.c" "$work/bad" &&
+        MPM_ARCHIVE=$work/stub.o "$here/build.sh" "$here/story.c" "$work/bad" "$here/save.c" &&
         fresh_book && ends_with 1 "$here/run.sh" "$work/bad" "$work/book"
 }
 
 sees_a_fault() { # SPOILED KIND
     kit_clang -std=c99 -O2 -fPIC -Dmpm_call=spoiled_call -Dmpm_singly=spoiled_singly -c "$here/story.c" \
         -o "$work/bad.o" &&
+        kit_clang -std=c99 -O2 -fPIC -c "$here/save.c" -o "$work/save.o" &&
         kit_clang -std=c99 -O2 -fPIC "${warnings[@]}" -DSPOILED="$1" -c "$spoiled" -o "$work/spoiled.o" &&
-        kit_link "$work/bad" "$work/bad.o" "$work/spoiled.o" "$archive" &&
+        kit_link "$work/bad" "$work/bad.o" "$work/save.o" "$work/spoiled.o" "$archive" &&
         fresh_book && ends_with 1 "$here/run.sh" "$work/bad" "$work/book" "$2"
 }
 
@@ -80,11 +88,93 @@ try_the_story() { # RUN..
     try "no such kind" ends_with 2 "$@" "$work" huge
 }
 
+# A call leaves nothing behind in the engine itself: no part of the archive can be written to.
+has_no_state() { # FILE
+    readelf -SW "$1" >"$work/sections" && grep -q ' AX ' "$work/sections" &&
+        ! grep -E ' [0-9a-f]{2} +W[A-Z]* +[0-9]' "$work/sections"
+}
+
+sees_state() { # a host has some
+    ! has_no_state "$work/minimal-1.o"
+}
+
+# ---- A host outside the repository
+
+# On x86-64 the system's cc. Elsewhere a cc that is the kit's compiler for x86-64.
+cc_for_x86_64() {
+    [ "$(uname -m)" != x86_64 ] || return 0
+    mkdir -p "$work/bin"
+    printf '#!/usr/bin/env bash\n. "%s"\nkit_cc "$@"\n' "$here/kit.sh" >"$work/bin/cc"
+    chmod +x "$work/bin/cc"
+    PATH=$work/bin:$PATH
+}
+
+# The minimal host, copied away with nothing of the repository but what is installed. It has to serve clerks, too.
+makes_a_host_outside() {
+    local away run=("$here/run.sh")
+    [ "$(uname -m)" != x86_64 ] || run=()
+    away=$(mktemp -d) && "$here/install.sh" "$away/prefix" && cp "$here"/{minimal.c,save.c,save.h} "$away" &&
+        mkdir "$away/served" &&
+        (
+            # shellcheck disable=SC2046 # the line that the pages give
+            cc_for_x86_64 && cd "$away" && export PKG_CONFIG_PATH=$away/prefix/lib/pkgconfig &&
+                cc -std=c99 minimal.c save.c $(pkg-config --cflags --libs mpm) -o minimal &&
+                head -c 65536 /dev/zero | tr '\0' '\345' >IMAGE &&
+                "${run[@]}" ./minimal new BOOK IMAGE && "${run[@]}" ./minimal image BOOK COPY && cmp IMAGE COPY &&
+                python3 "$here/kill.py" --times 1 --seed 3 served "${run[@]}" "$away/minimal"
+        ) && rm -r "$away"
+}
+
+# ---- Saving and the minimal host
+
+makes_and_runs() { # SOURCE PROGRAM SOURCES..
+    "$here/build.sh" "$@" && "$here/run.sh" "$2"
+}
+
+saves_whatever_stops() { # RUN..
+    fresh_book && "$@" "$work/book"
+}
+
+sees_a_bad_save() { # FAULT RUN..
+    fresh_book && ends_with 1 "${@:2}" "$work/book" "$1"
+}
+
+sees_a_careless_host() {
+    kit_clang -std=c99 -O2 -fPIC -Dmpm_call=wrong_call -Dmpm_start=wrong_start -c "$here/minimal.c" \
+        -o "$work/bad-1.o" &&
+        kit_clang -std=c99 -O2 -fPIC "${warnings[@]}" -DWRONG=CARELESS -c "$here/wrong_save.c" -o "$work/bad-2.o" &&
+        kit_link "$work/bad" "$work/bad-1.o" "$work/bad-2.o" "$archive" && fresh_book &&
+        ends_with 1 python3 "$here/full.py" --limit 30000 "$work/book" "$here/run.sh" "$work/bad"
+}
+
+try_saving() { # RUN..
+    try "saving on a disk that fails and a machine that stops" saves_whatever_stops "$@"
+    try "saving without fsync is seen" sees_a_bad_save fsync "$@"
+    try "saving without the folder's fsync is seen" sees_a_bad_save folder "$@"
+}
+
 with_the_kit() {
+    command -v pkg-config >/dev/null || {
+        echo "pkg-config is missing (Debian's package pkg-config): a host outside the repository is made with it" >&2
+        exit 2
+    }
     try "mpm.h as C99" kit_clang -std=c99 "${warnings[@]}" -c "$here/header.c" -o "$work/header.o"
-    try "mpm.h as freestanding C99" kit_clang -std=c99 -ffreestanding "${warnings[@]}" -c "$here/header.c" -o "$work/header.o"
-    try "mpm.h as C++" kit_clang -x c++ -std=c++98 "${warnings[@]}" -c "$here/header.c" -o "$work/header.o"
-    "$here/build.sh" "$here/story.c" "$story"
+    try "mpm.h as freestanding C99" kit_clang -std=c99 -ffreestanding "${warnings[@]}" -c "$here/header.c" \
+        -o "$work/header.o"
+    try "mpm.h as C++11" kit_clang -x c++ -std=c++11 "${warnings[@]}" -c "$here/header.c" -o "$work/header.o"
+    try "the helpers of mpm.h" makes_and_runs "$here/helpers.c" "$work/helpers"
+    "$here/build.sh" "$here/story.c" "$story" "$here/save.c"
+    try "the archive has no state of its own" has_no_state "$archive"
+    try "a call takes at most 16 KB of stack" makes_and_runs "$here/stack.c" "$work/stack" "$root/bench/stack.c"
+    try "a host outside the repository, by pkg-config" makes_a_host_outside
+    "$here/build.sh" "$here/save_faults.c" "$work/save_faults"
+    try_saving "$here/run.sh" "$work/save_faults"
+    "$here/build.sh" "$here/minimal.c" "$work/minimal" "$here/save.c"
+    try "state of one's own is seen" sees_state
+    try "the minimal host on a full disk and in a read-only folder" "$here/disk.sh" "$here/run.sh" "$work/minimal"
+    try "a host that acknowledges what a full disk has refused is seen" sees_a_careless_host
+    "$here/kill.sh"
+    "$here/kill.sh" --selftest
     try_the_story "$here/run.sh" "$story"
     try "an engine that refuses all is seen" sees_a_bad_engine 1
     try "an engine that accepts all is seen" sees_a_bad_engine 2
@@ -107,9 +197,12 @@ with_the_kit() {
 
 with_the_system() { # ARCHIVE
     try "mpm.h as C99" system_cc -std=c99 "${warnings[@]}" -c "$here/header.c" -o "$work/header.o"
-    try "mpm.h as C++" system_cxx -x c++ -std=c++98 "${warnings[@]}" -c "$here/header.c" -o "$work/header.o"
-    try "the story compiles" system_cc -std=c99 -O1 -g "${warnings[@]}" -fsanitize=address,undefined \
-        -fno-sanitize-recover=all "$here/story.c" "$1" -lpthread -ldl -lm -o "$story"
+    try "mpm.h as C++11" system_cxx -x c++ -std=c++11 "${warnings[@]}" -c "$here/header.c" -o "$work/header.o"
+    try "the helpers of mpm.h compile" sanitized "$work/helpers" "$here/helpers.c" "$1"
+    try "the helpers of mpm.h" "$work/helpers"
+    try "the story compiles" sanitized "$story" "$here/story.c" "$here/save.c" "$1"
+    try "saving compiles" sanitized "$work/save_faults" "$here/save_faults.c" "$1"
+    try_saving "$work/save_faults"
     try_the_story "$story"
 }
 

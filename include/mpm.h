@@ -15,7 +15,10 @@
 
    What the host owes, and nothing else:
    - Each pointer is valid for the length given with it. With a length of 0 it may be any pointer.
-   - The buffers of one call do not overlap, and nobody else uses them until it returns. */
+   - The buffers of one call do not overlap, and nobody else uses them until it returns.
+
+   Below stand the five functions and a book in one struct, then by name the thirteen calls, the answers, the sizes and
+   the places in the buffers, and last the few helpers that every host writes. docs/INTEGRATION.md tells the rest. */
 #ifndef MPM_H
 #define MPM_H
 
@@ -26,18 +29,203 @@
 extern "C" {
 #endif
 
-/* Raised with each change of a length or of a function's parameters. 1 was before this name was; since 2 the DMA has
-   2,048 bytes; since 3 the first parameter of every function is the kind of drive, and the sizes of a drive have its
-   kind in their names. */
-#define MPM_VERSION 3u
+/* Raised with each change of a length, of a function's parameters or of a name. 1 was before this name was; since 2 the
+   DMA has 2,048 bytes; since 3 the first parameter of every function is the kind of drive; since 4 functions have names
+   that begin with MPM_FN_, refusals with MPM_ERR_ and the image check's answers with MPM_CHECK_. With 4 no length and
+   no parameter moved: an archive of 3 serves a host of 4. */
+#define MPM_VERSION 4u
 
-/* ---- Sizes, in bytes where the name ends in LEN ---- */
+/* ---- The lengths of the buffers, in bytes ---- */
 
 #define MPM_FCB_LEN 36u
 #define MPM_DMA_LEN 2048u /* for every function; 16 records */
 #define MPM_LIST_LEN 1299u
 #define MPM_USERS_LEN 16u /* a user for each process */
 #define MPM_NAME_LEN 11u  /* name 8, type 3, filled up with blanks */
+
+/* ---- The engine ---- */
+
+/* One call of an MP/M II program. Gives A + 256 H.
+   Numbers are taken as they come, never cut to a byte: kind 256 and function 271 are unknown. Count must be 1 to 16 for
+   all functions; 33, 34, 40, 42 and 43 use it, the others do their work once. The lengths must be 36, 2,048, 1,299 and
+   one that a drive of the kind has. An answer other than MPM_OK leaves all four buffers as they were, but for the
+   records that a 33, 34 or 40 has done (mpm_done). The FCB's record number is not moved on, and DMA bytes past the
+   records done stay. A file is a name and the user that the list gives the process. */
+uint32_t mpm_call(uint32_t kind, uint32_t function, uint32_t process, uint32_t count,
+                  uint8_t *fcb, size_t fcb_len, uint8_t *dma, size_t dma_len,
+                  uint8_t *list, size_t list_len, uint8_t *image, size_t image_len);
+
+/* The plain engine, slower and kept to compare with: a 33, 34 or 40 is made as single calls one after another, up to
+   the first that is refused. Its answer is that of the last single call, so it tells no number of records done:
+   mpm_code of mpm_call's answer, with the same bytes in all four buffers. Every other function as mpm_call does it. */
+uint32_t mpm_singly(uint32_t kind, uint32_t function, uint32_t process, uint32_t count,
+                    uint8_t *fcb, size_t fcb_len, uint8_t *dma, size_t dma_len,
+                    uint8_t *list, size_t list_len, uint8_t *image, size_t image_len);
+
+/* Writes a fresh list for a drive of the kind: MPM_OK, whatever the list held before. Or MPM_ERR_BAD_CALL and the list
+   as it was, where the kind is unknown, one of the three numbers is not 1 to 64, a user is not 0 to 15, users_len is
+   not 16 or list_len is not 1,299. */
+uint32_t mpm_start(uint32_t kind, uint32_t capacity, uint32_t open_limit, uint32_t lock_limit,
+                   const uint8_t *users, size_t users_len, uint8_t *list, size_t list_len);
+
+/* Checks an image of the kind: MPM_CHECK_SOUND, MPM_CHECK_WRONG_LENGTH or MPM_CHECK_UNSOUND. Changes nothing. */
+uint32_t mpm_check(uint32_t kind, const uint8_t *image, size_t image_len);
+
+/* Tells where the 128 bytes of a record begin in the image, for screens. They lie inside the image and behind the
+   directory. Gives 0 where there is nothing to show: the kind is unknown, the image not sound as one of the kind, the
+   user over 15, the name illegal (any length but 11 too), or the record has no block. Changes nothing. */
+uint32_t mpm_look(uint32_t kind, uint32_t user, const uint8_t *name, size_t name_len, uint32_t record,
+                  const uint8_t *image, size_t image_len);
+
+/* ---- A book in one struct ---- */
+
+/* The buffers of a book that outlive a call. They belong together: a list fits the image that it was used with. Buffers
+   of later versions join at the end: fill the struct with zeros before its members, and a missing one is refused. */
+struct mpm_book {
+    uint32_t kind;
+    uint8_t *list;
+    size_t list_len;
+    uint8_t *image;
+    size_t image_len;
+};
+
+/* mpm_call on a book, with an FCB of 36 bytes and a DMA of 2,048. */
+static inline uint32_t mpm_book_call(struct mpm_book *book, uint32_t function, uint32_t process, uint32_t count,
+                                     uint8_t *fcb, uint8_t *dma) {
+    return mpm_call(book->kind, function, process, count, fcb, MPM_FCB_LEN, dma, MPM_DMA_LEN, book->list,
+                    book->list_len, book->image, book->image_len);
+}
+
+/* ---- Functions of mpm_call. After each, its refusals in the order tested, behind the four that come first ---- */
+
+/* 33, 34 and 40 do count records from the FCB's on, in rising order, and stop at the first that is refused. */
+
+/* 15: opens a file. If the caller has it open in the same mode, accepted with no new item. Sets FCB bytes 12 to 31
+   and, in unlocked mode, 33 to 35 to the File ID, which is the place of the open in the list.
+   BAD_NAME, NOT_FOUND, IN_USE, OPEN_LIMIT, OPEN_LIST_FULL */
+#define MPM_FN_OPEN 15u
+/* 16: takes away the caller's open of a file and its locks on it.
+   CLOSE_NOT_OPEN */
+#define MPM_FN_CLOSE 16u
+/* 19: empties each entry of a file.
+   BAD_NAME, NOT_FOUND, IN_USE, READ_ONLY */
+#define MPM_FN_DELETE 19u
+/* 22: makes a file with no records in the lowest empty entry and opens it as 15 does, locked or unlocked.
+   BAD_NAME, EXISTS, OPEN_LIMIT, OPEN_LIST_FULL, NO_EMPTY_ENTRY */
+#define MPM_FN_MAKE 22u
+/* 23: gives a file the name in FCB bytes 17 to 27; attributes stay.
+   BAD_NAME, NOT_FOUND, IN_USE, READ_ONLY, EXISTS */
+#define MPM_FN_RENAME 23u
+/* 33: copies each record to its 128 DMA bytes. A lock does not stop it.
+   NOT_OPEN, PAST_END, NO_EXTENT, NO_BLOCK */
+#define MPM_FN_READ 33u
+/* 34: stores the 128 DMA bytes of each record, with the lowest empty entry and the lowest free block where its extent
+   or its block is missing.
+   NOT_OPEN, READ_ONLY, PAST_END, LOCKED, DIRECTORY_FULL, DISK_FULL */
+#define MPM_FN_WRITE 34u
+/* 40: as 34, refusals too; a record that takes a block has the block's other records cleared, seven on a small drive
+   and fifteen on a large one. */
+#define MPM_FN_WRITE_ZEROS 40u
+/* 41: stores DMA bytes 128 to 255 as a record that was equal to bytes 0 to 127.
+   NOT_OPEN, READ_ONLY, PAST_END, LOCKED, NO_EXTENT, NO_BLOCK, DIFFERS */
+#define MPM_FN_TEST_WRITE 41u
+/* 42: locks count records from the FCB's on, all or none. In modes locked and read-only accepted with no effect, once
+   the file is known to be open.
+   NOT_OPEN, BAD_FILE_ID, PAST_END, NO_EXTENT or NO_BLOCK of the lowest record that lacks one, LOCKED, LOCK_LIMIT,
+   LOCK_LIST_FULL */
+#define MPM_FN_LOCK 42u
+/* 43: takes away the caller's locks on count records from the FCB's on; modes as for 42.
+   NOT_OPEN, BAD_FILE_ID, PAST_END */
+#define MPM_FN_UNLOCK 43u
+/* 46: puts the number of free records in DMA bytes 0 to 2: eight times the free blocks of a small drive, sixteen times
+   those of a large one. No refusal of its own. */
+#define MPM_FN_FREE_SPACE 46u
+/* 143: takes away all opens and locks of a process, as for a program that died. No refusal of its own. */
+#define MPM_FN_TERMINATE 143u
+
+/* ---- Answers of mpm_call, mpm_singly and mpm_start: A + 256 H. After each A/H, which function gives it when ---- */
+
+#define MPM_ANSWER(a, h) ((a) + 256u * (h))
+
+static inline uint32_t mpm_a(uint32_t answer) { return answer % 256u; }
+static inline uint32_t mpm_h(uint32_t answer) { return answer / 256u; }
+
+/* 0/0: accepted, and all records done. All that is not 0/0 is a refusal: of the call, with nothing done, or of one
+   record of a 33, 34 or 40 of several, the first that was refused. Then the high four bits of H are the number of
+   records done before it: 8/48 is 8/0 after three. Nothing else sets these bits. */
+#define MPM_OK MPM_ANSWER(0u, 0u)
+
+/* The answer without those four bits, to compare with the names below. */
+static inline uint32_t mpm_code(uint32_t answer) { return answer % MPM_ANSWER(0u, 16u); }
+
+/* How many records of a 33, 34 or 40 were done: all of its count, or the number in those four bits. */
+static inline uint32_t mpm_done(uint32_t answer, uint32_t count) {
+    return answer == MPM_OK ? count : mpm_h(answer) / 16u;
+}
+
+/* Tested first, in this order, before any record.
+   255/13: unknown kind of drive, unknown function, process over 15, count outside 1 to 16, FCB, DMA or list of wrong
+           length; start: unknown kind, a number or a user out of range, users or list of wrong length */
+#define MPM_ERR_BAD_CALL MPM_ANSWER(255u, 13u)
+/* 255/1: image not sound, as one of the told kind; a length that this kind does not have, too */
+#define MPM_ERR_BAD_IMAGE MPM_ANSWER(255u, 1u)
+/* 255/12: list not sound */
+#define MPM_ERR_BAD_LIST MPM_ANSWER(255u, 12u)
+/* 255/4: FCB byte 0 is neither 0 nor 1; not for 46 and 143 */
+#define MPM_ERR_BAD_DRIVE MPM_ANSWER(255u, 4u)
+
+/* Of whole files.
+   255/0: 15, 19, 23: no such file */
+#define MPM_ERR_NOT_FOUND MPM_ANSWER(255u, 0u)
+/* 255/0 too, the same number: 22: no empty entry in the directory */
+#define MPM_ERR_NO_EMPTY_ENTRY MPM_ANSWER(255u, 0u)
+/* 255/3: 19, 23: the file has the read-only attribute; 34, 40, 41: it has, or the caller has it open read-only */
+#define MPM_ERR_READ_ONLY MPM_ANSWER(255u, 3u)
+/* 255/5: 15: the caller has it open in another mode, or another process's open cannot stand beside this one;
+          19, 23: open by anybody, the caller too */
+#define MPM_ERR_IN_USE MPM_ANSWER(255u, 5u)
+/* 255/6: 16: the caller has it not open */
+#define MPM_ERR_CLOSE_NOT_OPEN MPM_ANSWER(255u, 6u)
+/* 255/8: 22: the file exists; 23: the new name exists, the old one included */
+#define MPM_ERR_EXISTS MPM_ANSWER(255u, 8u)
+/* 255/9: 15, 19, 22: illegal name; 23: either name */
+#define MPM_ERR_BAD_NAME MPM_ANSWER(255u, 9u)
+/* 255/10: 15, 22: the caller is at the open limit */
+#define MPM_ERR_OPEN_LIMIT MPM_ANSWER(255u, 10u)
+/* 255/11: 15, 22: no empty place in the list */
+#define MPM_ERR_OPEN_LIST_FULL MPM_ANSWER(255u, 11u)
+
+/* Of records. Those of 33, 34 and 40 but for 255/3 and 10/0 are tested for each record in turn.
+   1/0: 33, 41, 42: a record has no block */
+#define MPM_ERR_NO_BLOCK MPM_ANSWER(1u, 0u)
+/* 2/0: 34, 40: the block is missing and none is free */
+#define MPM_ERR_DISK_FULL MPM_ANSWER(2u, 0u)
+/* 4/0: 33, 41, 42: a record has no extent */
+#define MPM_ERR_NO_EXTENT MPM_ANSWER(4u, 0u)
+/* 5/0: 34, 40: the extent is missing and there is no empty entry */
+#define MPM_ERR_DIRECTORY_FULL MPM_ANSWER(5u, 0u)
+/* 6/0: 33, 34, 40, 41: the record is 262,144 or more; 42, 43: one of the run is */
+#define MPM_ERR_PAST_END MPM_ANSWER(6u, 0u)
+/* 7/0: 41: the first 128 DMA bytes differ from the record */
+#define MPM_ERR_DIFFERS MPM_ANSWER(7u, 0u)
+/* 8/0: 34, 40, 41: another process has locked the record; 42: another process holds one of the run */
+#define MPM_ERR_LOCKED MPM_ANSWER(8u, 0u)
+/* 10/0: 33, 34, 40, 41, 42, 43: the caller has the file not open */
+#define MPM_ERR_NOT_OPEN MPM_ANSWER(10u, 0u)
+/* 12/0: 42: the records that the caller holds plus count exceed the lock limit */
+#define MPM_ERR_LOCK_LIMIT MPM_ANSWER(12u, 0u)
+/* 13/0: 42, 43: DMA bytes 0 and 1 are not the File ID */
+#define MPM_ERR_BAD_FILE_ID MPM_ANSWER(13u, 0u)
+/* 14/0: 42: fewer empty places than records not yet held by the caller */
+#define MPM_ERR_LOCK_LIST_FULL MPM_ANSWER(14u, 0u)
+
+/* ---- Answers of mpm_check ---- */
+
+#define MPM_CHECK_SOUND 0u        /* the image is sound */
+#define MPM_CHECK_WRONG_LENGTH 1u /* no drive of the told kind has this length, or the kind is unknown */
+#define MPM_CHECK_UNSOUND 2u      /* its directory is not sound */
+
+/* ---- Sizes, in bytes where the name ends in LEN ---- */
 
 #define MPM_PROCESSES 16u /* numbers 0 to 15 */
 #define MPM_USERS 16u     /* numbers 0 to 15 */
@@ -112,6 +300,13 @@ static inline uint32_t mpm_blocks(uint32_t kind, size_t image_len) {
     return (uint32_t)(image_len / block_len);
 }
 
+/* The kind of drive that has images of this length. MPM_KINDS where none has. */
+static inline uint32_t mpm_kind_of(size_t image_len) {
+    uint32_t kind = 0u;
+    while (kind < MPM_KINDS && mpm_blocks(kind, image_len) == 0u) kind++;
+    return kind;
+}
+
 /* The list has 64 places, of which it uses those below its capacity. */
 #define MPM_PLACES 64u
 #define MPM_PLACE_LEN 20u
@@ -156,166 +351,139 @@ static inline uint32_t mpm_blocks(uint32_t kind, size_t image_len) {
 #define MPM_MODE_UNLOCKED 1u
 #define MPM_MODE_READ_ONLY 2u
 
-/* ---- Answers of mpm_call, mpm_singly and mpm_start: A + 256 H. After each A/H, which function gives it when ---- */
+/* ---- Helpers ---- */
 
-#define MPM_ANSWER(a, h) ((a) + 256u * (h))
-
-static inline uint32_t mpm_a(uint32_t answer) { return answer % 256u; }
-static inline uint32_t mpm_h(uint32_t answer) { return answer / 256u; }
-
-/* 0/0: accepted, and all records done. All that is not 0/0 is a refusal: of the call, with nothing done, or of one
-   record of a 33, 34 or 40 of several, the first that was refused. Then the high four bits of H are the number of
-   records done before it: 8/48 is 8/0 after three. Nothing else sets these bits. */
-#define MPM_OK MPM_ANSWER(0u, 0u)
-
-/* The answer without those four bits, to compare with the names below. */
-static inline uint32_t mpm_code(uint32_t answer) { return answer % MPM_ANSWER(0u, 16u); }
-
-/* How many records of a 33, 34 or 40 were done: all of its count, or the number in those four bits. */
-static inline uint32_t mpm_done(uint32_t answer, uint32_t count) {
-    return answer == MPM_OK ? count : mpm_h(answer) / 16u;
+/* A number of so many bytes, low byte first, out of a buffer and into one. */
+static inline uint32_t mpm_get(const uint8_t *bytes, size_t length) {
+    uint32_t number = 0u;
+    for (size_t i = length; i > 0; i--) number = 256u * number + bytes[i - 1];
+    return number;
 }
 
-/* Tested first, in this order, before any record.
-   255/13: unknown kind of drive, unknown function, process over 15, count outside 1 to 16, FCB, DMA or list of wrong
-           length; start: unknown kind, a number or a user out of range, users or list of wrong length */
-#define MPM_BAD_CALL MPM_ANSWER(255u, 13u)
-/* 255/1: image not sound, as one of the told kind; a length that this kind does not have, too */
-#define MPM_BAD_IMAGE MPM_ANSWER(255u, 1u)
-/* 255/12: list not sound */
-#define MPM_BAD_LIST MPM_ANSWER(255u, 12u)
-/* 255/4: FCB byte 0 is neither 0 nor 1; not for 46 and 143 */
-#define MPM_BAD_DRIVE MPM_ANSWER(255u, 4u)
+static inline void mpm_put(uint8_t *bytes, size_t length, uint32_t number) {
+    for (size_t i = 0; i < length; i++, number /= 256u) bytes[i] = (uint8_t)(number % 256u);
+}
 
-/* Of whole files.
-   255/0: 15, 19, 23: no such file; 22: no empty entry in the directory */
-#define MPM_NOT_FOUND MPM_ANSWER(255u, 0u)
-/* 255/3: 19, 23: the file has the read-only attribute; 34, 40, 41: it has, or the caller has it open read-only */
-#define MPM_READ_ONLY MPM_ANSWER(255u, 3u)
-/* 255/5: 15: the caller has it open in another mode, or another process's open cannot stand beside this one;
-          19, 23: open by anybody, the caller too */
-#define MPM_IN_USE MPM_ANSWER(255u, 5u)
-/* 255/6: 16: the caller has it not open */
-#define MPM_CLOSE_NOT_OPEN MPM_ANSWER(255u, 6u)
-/* 255/8: 22: the file exists; 23: the new name exists, the old one included */
-#define MPM_EXISTS MPM_ANSWER(255u, 8u)
-/* 255/9: 15, 19, 22: illegal name; 23: either name */
-#define MPM_BAD_NAME MPM_ANSWER(255u, 9u)
-/* 255/10: 15, 22: the caller is at the open limit */
-#define MPM_OPEN_LIMIT MPM_ANSWER(255u, 10u)
-/* 255/11: 15, 22: no empty place in the list */
-#define MPM_OPEN_LIST_FULL MPM_ANSWER(255u, 11u)
+/* The record number of an FCB. One that has no room in three bytes is put as the highest, which is refused with 6/0. */
+static inline uint32_t mpm_record(const uint8_t *fcb) { return mpm_get(fcb + MPM_FCB_RECORD, 3); }
 
-/* Of records. Those of 33, 34 and 40 but for 255/3 and 10/0 are tested for each record in turn.
-   1/0: 33, 41, 42: a record has no block */
-#define MPM_NO_BLOCK MPM_ANSWER(1u, 0u)
-/* 2/0: 34, 40: the block is missing and none is free */
-#define MPM_DISK_FULL MPM_ANSWER(2u, 0u)
-/* 4/0: 33, 41, 42: a record has no extent */
-#define MPM_NO_EXTENT MPM_ANSWER(4u, 0u)
-/* 5/0: 34, 40: the extent is missing and there is no empty entry */
-#define MPM_DIRECTORY_FULL MPM_ANSWER(5u, 0u)
-/* 6/0: 33, 34, 40, 41: the record is 262,144 or more; 42, 43: one of the run is */
-#define MPM_PAST_END MPM_ANSWER(6u, 0u)
-/* 7/0: 41: the first 128 DMA bytes differ from the record */
-#define MPM_DIFFERS MPM_ANSWER(7u, 0u)
-/* 8/0: 34, 40, 41: another process has locked the record; 42: another process holds one of the run */
-#define MPM_LOCKED MPM_ANSWER(8u, 0u)
-/* 10/0: 33, 34, 40, 41, 42, 43: the caller has the file not open */
-#define MPM_NOT_OPEN MPM_ANSWER(10u, 0u)
-/* 12/0: 42: the records that the caller holds plus count exceed the lock limit */
-#define MPM_LOCK_LIMIT MPM_ANSWER(12u, 0u)
-/* 13/0: 42, 43: DMA bytes 0 and 1 are not the File ID */
-#define MPM_BAD_FILE_ID MPM_ANSWER(13u, 0u)
-/* 14/0: 42: fewer empty places than records not yet held by the caller */
-#define MPM_LOCK_LIST_FULL MPM_ANSWER(14u, 0u)
+static inline void mpm_set_record(uint8_t *fcb, uint32_t record) {
+    mpm_put(fcb + MPM_FCB_RECORD, 3, record < 0xFFFFFFu ? record : 0xFFFFFFu);
+}
 
-/* ---- Functions of mpm_call. After each, its refusals in the order tested, behind the four that come first ---- */
+/* The File ID that an accepted 15 or 22 in unlocked mode has left in the FCB: to be kept before a record number is put
+   there, and to be put into the DMA of each 42 and 43. */
+static inline uint32_t mpm_file_id(const uint8_t *fcb) { return mpm_record(fcb); }
 
-/* 33, 34 and 40 do count records from the FCB's on, in rising order, and stop at the first that is refused. */
+static inline void mpm_set_file_id(uint8_t *dma, uint32_t file_id) { mpm_put(dma + MPM_DMA_FILE_ID, 2, file_id); }
 
-/* 15: opens a file. If the caller has it open in the same mode, accepted with no new item. Sets FCB bytes 12 to 31
-   and, in unlocked mode, 33 to 35 to the File ID, which is the place of the open in the list.
-   BAD_NAME, NOT_FOUND, IN_USE, OPEN_LIMIT, OPEN_LIST_FULL */
-#define MPM_OPEN 15u
-/* 16: takes away the caller's open of a file and its locks on it.
-   CLOSE_NOT_OPEN */
-#define MPM_CLOSE 16u
-/* 19: empties each entry of a file.
-   BAD_NAME, NOT_FOUND, IN_USE, READ_ONLY */
-#define MPM_DELETE 19u
-/* 22: makes a file with no records in the lowest empty entry and opens it as 15 does, locked or unlocked.
-   BAD_NAME, EXISTS, OPEN_LIMIT, OPEN_LIST_FULL, NOT_FOUND */
-#define MPM_MAKE 22u
-/* 23: gives a file the name in FCB bytes 17 to 27; attributes stay.
-   BAD_NAME, NOT_FOUND, IN_USE, READ_ONLY, EXISTS */
-#define MPM_RENAME 23u
-/* 33: copies each record to its 128 DMA bytes. A lock does not stop it.
-   NOT_OPEN, PAST_END, NO_EXTENT, NO_BLOCK */
-#define MPM_READ 33u
-/* 34: stores the 128 DMA bytes of each record, with the lowest empty entry and the lowest free block where its extent
-   or its block is missing.
-   NOT_OPEN, READ_ONLY, PAST_END, LOCKED, DIRECTORY_FULL, DISK_FULL */
-#define MPM_WRITE 34u
-/* 40: as 34, refusals too; a record that takes a block has the block's other records cleared, seven on a small drive
-   and fifteen on a large one. */
-#define MPM_WRITE_ZEROS 40u
-/* 41: stores DMA bytes 128 to 255 as a record that was equal to bytes 0 to 127.
-   NOT_OPEN, READ_ONLY, PAST_END, LOCKED, NO_EXTENT, NO_BLOCK, DIFFERS */
-#define MPM_TEST_WRITE 41u
-/* 42: locks count records from the FCB's on, all or none. In modes locked and read-only accepted with no effect, once
-   the file is known to be open.
-   NOT_OPEN, BAD_FILE_ID, PAST_END, NO_EXTENT or NO_BLOCK of the lowest record that lacks one, LOCKED, LOCK_LIMIT,
-   LOCK_LIST_FULL */
-#define MPM_LOCK 42u
-/* 43: takes away the caller's locks on count records from the FCB's on; modes as for 42.
-   NOT_OPEN, BAD_FILE_ID, PAST_END */
-#define MPM_UNLOCK 43u
-/* 46: puts the number of free records in DMA bytes 0 to 2: eight times the free blocks of a small drive, sixteen times
-   those of a large one. No refusal of its own. */
-#define MPM_FREE_SPACE 46u
-/* 143: takes away all opens and locks of a process, as for a program that died. No refusal of its own. */
-#define MPM_TERMINATE 143u
+/* What mpm_set_name says of a text. */
+#define MPM_NAMING_OK 0u
+#define MPM_NAMING_NO_NAME 1u
+#define MPM_NAMING_LONG_NAME 2u
+#define MPM_NAMING_LONG_TYPE 3u
+#define MPM_NAMING_CHARACTER 4u
 
-/* ---- Answers of mpm_check ---- */
+static inline const char *mpm_naming_text(uint32_t naming) {
+    switch (naming) {
+    case MPM_NAMING_OK: return "The file name is fine.";
+    case MPM_NAMING_NO_NAME: return "A file name has at least one character before the dot.";
+    case MPM_NAMING_LONG_NAME: return "A file name has at most eight characters before the dot.";
+    case MPM_NAMING_LONG_TYPE: return "A file name has at most three characters behind the dot.";
+    default: return "A file name has no blank, no second dot and none of : ; = , / [ ] < > * ?";
+    }
+}
 
-#define MPM_SOUND 0u        /* the image is sound */
-#define MPM_WRONG_LENGTH 1u /* no drive of the told kind has this length, or the kind is unknown */
-#define MPM_UNSOUND 2u      /* its directory is not sound */
+/* A character that can stand in a name: neither a delimiter of the MP/M II Programmer's Guide nor one that stands for
+   others. The engine itself takes more: every byte of 32 to 126 but "?". */
+static inline int mpm_names(char c) {
+    const char *no;
+    for (no = ".:;=,/[]<>*?"; *no != 0; no++)
+        if (c == *no) return 0;
+    return c > ' ' && c < 127;
+}
 
-/* ---- The engine ---- */
+/* Puts a text such as "ORDERS.DAT" into eleven bytes, small letters as capitals. MPM_NAMING_OK, or what is wrong with
+   the text, and the bytes as they were. */
+static inline uint32_t mpm_set_name(uint8_t *name, const char *text) {
+    size_t length = 0, type = 0, i;
+    while (mpm_names(text[length])) length++;
+    while (text[length] == '.' && mpm_names(text[length + 1 + type])) type++;
+    if (text[length] != 0 && (text[length] != '.' || text[length + 1 + type] != 0)) return MPM_NAMING_CHARACTER;
+    if (length == 0) return MPM_NAMING_NO_NAME;
+    if (length > 8) return MPM_NAMING_LONG_NAME;
+    if (type > 3) return MPM_NAMING_LONG_TYPE;
+    for (i = 0; i < MPM_NAME_LEN; i++) {
+        char c = ' ';
+        if (i < length) c = text[i];
+        if (i >= 8 && i - 8 < type) c = text[length + 1 + i - 8];
+        name[i] = (uint8_t)(c >= 'a' && c <= 'z' ? c - 'a' + 'A' : c);
+    }
+    return MPM_NAMING_OK;
+}
 
-/* One call of an MP/M II program. Gives A + 256 H.
-   Numbers are taken as they come, never cut to a byte: kind 256 and function 271 are unknown. Count must be 1 to 16 for
-   all functions; 33, 34, 40, 42 and 43 use it, the others do their work once. The lengths must be 36, 2,048, 1,299 and
-   one that a drive of the kind has. An answer other than MPM_OK leaves all four buffers as they were, but for the
-   records that a 33, 34 or 40 has done (mpm_done). The FCB's record number is not moved on, and DMA bytes past the
-   records done stay. A file is a name and the user that the list gives the process. */
-uint32_t mpm_call(uint32_t kind, uint32_t function, uint32_t process, uint32_t count,
-                  uint8_t *fcb, size_t fcb_len, uint8_t *dma, size_t dma_len,
-                  uint8_t *list, size_t list_len, uint8_t *image, size_t image_len);
+/* Makes an FCB of 36 bytes for a file: the name, the mode for 15 and 22, and zeros, so record 0. As mpm_set_name. The
+   same FCB serves every other call too, since the bits of the mode take no part in comparing. */
+static inline uint32_t mpm_set_fcb(uint8_t *fcb, const char *text, uint32_t mode) {
+    uint8_t name[MPM_NAME_LEN];
+    size_t i;
+    uint32_t naming = mpm_set_name(name, text);
+    if (naming != MPM_NAMING_OK) return naming;
+    for (i = 0; i < MPM_FCB_LEN; i++) fcb[i] = 0;
+    for (i = 0; i < MPM_NAME_LEN; i++) fcb[MPM_FCB_NAME + i] = name[i];
+    if (mode == MPM_MODE_UNLOCKED) fcb[MPM_FCB_UNLOCKED] |= MPM_HIGH_BIT;
+    if (mode == MPM_MODE_READ_ONLY) fcb[MPM_FCB_READ_ONLY] |= MPM_HIGH_BIT;
+    return MPM_NAMING_OK;
+}
 
-/* The plain engine, slower and kept to compare with: a 33, 34 or 40 is made as single calls one after another, up to
-   the first that is refused. Its answer is that of the last single call, so it tells no number of records done:
-   mpm_code of mpm_call's answer, with the same bytes in all four buffers. Every other function as mpm_call does it. */
-uint32_t mpm_singly(uint32_t kind, uint32_t function, uint32_t process, uint32_t count,
-                    uint8_t *fcb, size_t fcb_len, uint8_t *dma, size_t dma_len,
-                    uint8_t *list, size_t list_len, uint8_t *image, size_t image_len);
+/* The answers with a sentence for the one who called. */
+#define MPM_SENTENCES(OF)                                                                                              \
+    OF(MPM_OK, "Done.")                                                                                                \
+    OF(MPM_ERR_BAD_CALL, "The host's call is wrong: its kind, function, process, count or a buffer's length.")         \
+    OF(MPM_ERR_BAD_IMAGE, "The drive's image is damaged, or is none of this kind of drive.")                           \
+    OF(MPM_ERR_BAD_LIST, "The lock list is damaged, or is not the one that belongs to this image.")                    \
+    OF(MPM_ERR_BAD_DRIVE, "There is no such drive.")                                                                   \
+    OF(MPM_ERR_NOT_FOUND, "There is no such file.")                                                                    \
+    OF(MPM_ERR_READ_ONLY, "The file is read-only, or this program has opened it so.")                                  \
+    OF(MPM_ERR_IN_USE, "The file is in use.")                                                                          \
+    OF(MPM_ERR_CLOSE_NOT_OPEN, "This program does not have the file open, so it cannot close it.")                     \
+    OF(MPM_ERR_EXISTS, "There is a file of this name already.")                                                        \
+    OF(MPM_ERR_BAD_NAME, "This is no legal file name.")                                                                \
+    OF(MPM_ERR_OPEN_LIMIT, "This program has as many files open as one may have.")                                     \
+    OF(MPM_ERR_OPEN_LIST_FULL, "The lock list is full: somebody has to close a file or unlock records first.")         \
+    OF(MPM_ERR_NO_BLOCK, "Nothing was ever written here: the record has no block.")                                    \
+    OF(MPM_ERR_DISK_FULL, "The drive is full.")                                                                        \
+    OF(MPM_ERR_NO_EXTENT, "Nothing was ever written here: the record has no extent.")                                  \
+    OF(MPM_ERR_DIRECTORY_FULL, "The directory is full: there is no entry for the file to grow into.")                  \
+    OF(MPM_ERR_PAST_END, "The record number is too high: the highest is 262,143.")                                     \
+    OF(MPM_ERR_DIFFERS, "The record is no longer as this program has read it.")                                        \
+    OF(MPM_ERR_LOCKED, "Another program has locked the record.")                                                       \
+    OF(MPM_ERR_NOT_OPEN, "This program does not have the file open.")                                                  \
+    OF(MPM_ERR_LOCK_LIMIT, "This program would hold more records locked than one may.")                                \
+    OF(MPM_ERR_BAD_FILE_ID, "This is not the File ID that the open has given.")                                        \
+    OF(MPM_ERR_LOCK_LIST_FULL, "The lock list is full: there is no room for these locks.")
 
-/* Writes a fresh list for a drive of the kind: MPM_OK, whatever the list held before. Or MPM_BAD_CALL and the list as
-   it was, where the kind is unknown, one of the three numbers is not 1 to 64, a user is not 0 to 15, users_len is not
-   16 or list_len is not 1,299. */
-uint32_t mpm_start(uint32_t kind, uint32_t capacity, uint32_t open_limit, uint32_t lock_limit,
-                   const uint8_t *users, size_t users_len, uint8_t *list, size_t list_len);
+/* The name of an answer and one plain sentence for it, whatever number of records it tells. The function is asked for
+   since Make's 255/0 is another than Open's; for mpm_start it is 0. */
+static inline const char *mpm_answer_name(uint32_t function, uint32_t answer) {
+    if (function == MPM_FN_MAKE && answer == MPM_ERR_NO_EMPTY_ENTRY) return "MPM_ERR_NO_EMPTY_ENTRY";
+    switch (mpm_code(answer)) {
+#define MPM_NAME_OF(answer, sentence) case answer: return #answer;
+        MPM_SENTENCES(MPM_NAME_OF)
+#undef MPM_NAME_OF
+    default: return "no answer of the engine";
+    }
+}
 
-/* Checks an image of the kind: MPM_SOUND, MPM_WRONG_LENGTH or MPM_UNSOUND. Changes nothing. */
-uint32_t mpm_check(uint32_t kind, const uint8_t *image, size_t image_len);
-
-/* Tells where the 128 bytes of a record begin in the image, for screens. They lie inside the image and behind the
-   directory. Gives 0 where there is nothing to show: the kind is unknown, the image not sound as one of the kind, the
-   user over 15, the name illegal (any length but 11 too), or the record has no block. Changes nothing. */
-uint32_t mpm_look(uint32_t kind, uint32_t user, const uint8_t *name, size_t name_len, uint32_t record,
-                  const uint8_t *image, size_t image_len);
+static inline const char *mpm_answer_text(uint32_t function, uint32_t answer) {
+    if (function == MPM_FN_MAKE && answer == MPM_ERR_NO_EMPTY_ENTRY) return "The directory is full: no entry is empty.";
+    switch (mpm_code(answer)) {
+#define MPM_TEXT_OF(answer, sentence) case answer: return sentence;
+        MPM_SENTENCES(MPM_TEXT_OF)
+#undef MPM_TEXT_OF
+    default: return "This is no answer of the engine.";
+    }
+}
 
 #ifdef __cplusplus
 }

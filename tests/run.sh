@@ -29,7 +29,7 @@ if cargo clippy --version >/dev/null 2>&1; then
 fi
 step "test" cargo test --release --offline -j1
 if command -v python3 >/dev/null 2>&1; then
-    step "cases of mpmcalls" python3 "$here/mpmcalls/cases.py" --paper -- "$here/reference/target/release/reference-mpmcalls"
+    step "cases of mpmcalls" python3 "$here/mpmcalls/cases.py" --document -- "$here/reference/target/release/reference-mpmcalls"
 fi
 step "compare mpmcalls, 5 seconds" target/release/compare-mpmcalls --seconds 5 -- target/release/reference-mpmcalls
 step "compare over a pipe, 5 seconds" target/release/compare --seconds 5 -- target/release/reference-pipe

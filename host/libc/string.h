@@ -7,4 +7,5 @@ void *memset(void *, int, size_t);
 int memcmp(const void *, const void *, size_t);
 int strcmp(const char *, const char *);
 size_t strlen(const char *);
+char *strerror(int);
 #endif

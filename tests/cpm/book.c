@@ -127,9 +127,9 @@ static int check(const struct command *command, char **operands) {
     (void)command;
     (void)operands;
     switch (mpm_check(kind, image, image_len)) {
-    case MPM_SOUND: printf("sound\n"); return DONE;
-    case MPM_WRONG_LENGTH: printf("wrong length\n"); return DONE;
-    case MPM_UNSOUND: printf("unsound\n"); return DONE;
+    case MPM_CHECK_SOUND: printf("sound\n"); return DONE;
+    case MPM_CHECK_WRONG_LENGTH: printf("wrong length\n"); return DONE;
+    case MPM_CHECK_UNSOUND: printf("unsound\n"); return DONE;
     default: printf("an unknown answer\n"); return REFUSED;
     }
 }
@@ -149,9 +149,9 @@ static int whole_file(const struct command *command, char **operands) {
     uint32_t user;
     uint8_t name[MPM_NAME_LEN], new_name[MPM_NAME_LEN] = {0};
     if (!read_number(operands[0], &user) || !read_name(operands[1], name)) return wrong(operands[1]);
-    if (command->function == MPM_RENAME && !read_name(operands[2], new_name)) return wrong(operands[2]);
+    if (command->function == MPM_FN_RENAME && !read_name(operands[2], new_name)) return wrong(operands[2]);
     fill_fcb(name, 0);
-    if (command->function == MPM_RENAME) memcpy(fcb + MPM_FCB_NEW_NAME, new_name, MPM_NAME_LEN);
+    if (command->function == MPM_FN_RENAME) memcpy(fcb + MPM_FCB_NEW_NAME, new_name, MPM_NAME_LEN);
     return report(command, operands, call(command->function, user));
 }
 
@@ -193,7 +193,7 @@ static int get(const struct command *command, char **operands) {
     if (!read_number(operands[0], &user) || !read_name(operands[1], name)) return wrong(operands[1]);
     fill_fcb(name, 0);
     fcb[MPM_FCB_READ_ONLY] |= MPM_HIGH_BIT;
-    answer = call(MPM_OPEN, user);
+    answer = call(MPM_FN_OPEN, user);
     if (answer != MPM_OK) return report(command, operands, answer);
     unsigned count = fcb[MPM_FCB_COUNT];
     for (;;) {
@@ -214,22 +214,22 @@ static int get(const struct command *command, char **operands) {
     printf("%s %s: %u records, count %u, then %u/%u\n", operands[0], operands[1], (unsigned)record, count,
            (unsigned)mpm_a(answer), (unsigned)mpm_h(answer));
     fill_fcb(name, 0);
-    answer = call(MPM_CLOSE, user);
+    answer = call(MPM_FN_CLOSE, user);
     if (answer != MPM_OK) return report(command, operands, answer);
     return save(operands[2], bytes, record * MPM_RECORD_LEN) ? DONE : wrong(operands[2]);
 }
 
 static const struct command commands[] = {
     {"check", 0, 0, check},
-    {"free", MPM_FREE_SPACE, 0, free_space},
-    {"make", MPM_MAKE, 2, whole_file},
-    {"open", MPM_OPEN, 2, whole_file},
-    {"close", MPM_CLOSE, 2, whole_file},
-    {"delete", MPM_DELETE, 2, whole_file},
-    {"rename", MPM_RENAME, 3, whole_file},
-    {"write", MPM_WRITE, 5, write_records},
-    {"fill", MPM_WRITE_ZEROS, 5, write_records},
-    {"get", MPM_READ, 3, get},
+    {"free", MPM_FN_FREE_SPACE, 0, free_space},
+    {"make", MPM_FN_MAKE, 2, whole_file},
+    {"open", MPM_FN_OPEN, 2, whole_file},
+    {"close", MPM_FN_CLOSE, 2, whole_file},
+    {"delete", MPM_FN_DELETE, 2, whole_file},
+    {"rename", MPM_FN_RENAME, 3, whole_file},
+    {"write", MPM_FN_WRITE, 5, write_records},
+    {"fill", MPM_FN_WRITE_ZEROS, 5, write_records},
+    {"get", MPM_FN_READ, 3, get},
 };
 
 static const struct command *find_command(const char *word) {

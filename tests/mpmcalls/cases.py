@@ -1,12 +1,12 @@
 #!/usr/bin/env python3
 """Runs a program `mpmcalls` and compares what it prints and leaves in DISK.OUT, byte for byte.
 
-    cases.py [--only TEXT] [--paper] -- COMMAND [ARGUMENT...]
+    cases.py [--only TEXT] [--document] -- COMMAND [ARGUMENT...]
     cases.py --stored FOLDER        write the stored run (stdin, stdout, data/DISK.IMG) of S0 to S6
     cases.py --list
 
 Each case runs in a fresh folder. The inputs are made here from their meaning; what is expected of each is written out here,
-from the scope document. --paper leaves out the cases that rest on a decision of ours (marked `ours`). It ends with 0 where
+from document 01. --document leaves out the cases that rest on a decision of ours (marked `ours`). It ends with 0 where
 every case passed, 1 where one failed, 2 for wrong use.
 """
 import argparse
@@ -98,7 +98,7 @@ def written(image, *parts):
     return bytes(s)
 
 
-# ---- the session of the paper
+# ---- the session of document 01
 
 MADE_4 = written(blank(4), (0, entry()))
 
@@ -180,7 +180,7 @@ CASES = []
 
 class Case:
     """One run. image: DISK.IMG's bytes, MISSING or FOLDER. old: DISK.OUT before the run, likewise. out: DISK.OUT after it,
-    None for as it was before. error: what is on standard error. ours: rests on a decision that the paper leaves open."""
+    None for as it was before. error: what is on standard error. ours: rests on a decision that document 01 leaves open."""
 
     def __init__(self, name, image, records, printed, out, old=MISSING, error="", ours=False, chunk=0, into=None, fails=False):
         self.name, self.image, self.printed, self.out, self.old = name, image, printed, out, old
@@ -471,14 +471,14 @@ def write_stored(folder):
 def main():
     words = argparse.ArgumentParser(description=__doc__, formatter_class=argparse.RawDescriptionHelpFormatter)
     words.add_argument("--only", default="")
-    words.add_argument("--paper", action="store_true")
+    words.add_argument("--document", action="store_true")
     words.add_argument("--stored")
     words.add_argument("--list", action="store_true")
     words.add_argument("command", nargs="*")
     asked = words.parse_args()
     if asked.stored:
         return write_stored(asked.stored)
-    cases = [c for c in CASES if asked.only in c.name and not (asked.paper and c.ours)]
+    cases = [c for c in CASES if asked.only in c.name and not (asked.document and c.ours)]
     if asked.list:
         return print("\n".join(c.name + (" (ours)" if c.ours else "") for c in cases))
     if not asked.command:

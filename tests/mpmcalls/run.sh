@@ -1,6 +1,7 @@
 #!/usr/bin/env bash
 # Runs the built program mpmcalls (target/bin/mpmcalls, made by `rt check mpmcalls`) on the cases of cases.py.
-# run.sh [--only TEXT] [--paper]: under the kit's loader and C library, and elsewhere than on x86-64 under the kit's emulator.
+# run.sh [--only TEXT] [--document]: under the kit's loader and C library, and elsewhere than on x86-64 under the kit's
+# emulator.
 # run.sh .. -- COMMAND [ARGUMENT...]: another program, by its whole path.
 set -euo pipefail
 here=$(cd "$(dirname "${BASH_SOURCE[0]}")" && pwd -P)

@@ -1,4 +1,4 @@
-//! A second, independent program for the rules of the scope document.
+//! A second, independent program for the rules of document 01.
 
 pub mod answer;
 pub mod book;

@@ -1,4 +1,4 @@
-//! The session of the scope document, call by call.
+//! The session of document 01, call by call.
 
 mod common;
 

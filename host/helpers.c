@@ -1,0 +1,146 @@
+/* Tries the helpers of mpm.h and a book's call: what they must give is written here, from what mpm.h says of them.
+   Prints a line for each fault. Exit status: 0 if there is none, else 1. */
+
+#include "mpm.h"
+
+#include <stdio.h>
+#include <string.h>
+
+#define COUNT(array) (sizeof(array) / sizeof(array)[0])
+
+static int faults;
+
+static void want(int holds, const char *what) {
+    if (holds) return;
+    printf("FAULT: %s\n", what);
+    faults++;
+}
+
+/* ---- Names ---- */
+
+static void try_names(void) {
+    static const struct {
+        const char *text, *name;
+        uint32_t naming;
+    } all[] = {
+        {"ORDERS.DAT", "ORDERS  DAT", MPM_NAMING_OK},    {"orders.dat", "ORDERS  DAT", MPM_NAMING_OK},
+        {"A", "A          ", MPM_NAMING_OK},             {"A.", "A          ", MPM_NAMING_OK},
+        {"EIGHTLET.TXT", "EIGHTLETTXT", MPM_NAMING_OK},  {"WORK.$$$", "WORK    $$$", MPM_NAMING_OK},
+        {"a~z.{x}", "A~Z     {X}", MPM_NAMING_OK},       {"B.C", "B       C  ", MPM_NAMING_OK},
+        {"", "", MPM_NAMING_NO_NAME},                    {".DAT", "", MPM_NAMING_NO_NAME},
+        {".", "", MPM_NAMING_NO_NAME},                   {"NINELETTE", "", MPM_NAMING_LONG_NAME},
+        {"NINELETTE.DAT", "", MPM_NAMING_LONG_NAME},     {"ORDERS.DATA", "", MPM_NAMING_LONG_TYPE},
+        {"ORDERS.DAT.OLD", "", MPM_NAMING_CHARACTER},    {"A:ORDERS.DAT", "", MPM_NAMING_CHARACTER},
+        {"OR DERS.DAT", "", MPM_NAMING_CHARACTER},       {" ORDERS.DAT", "", MPM_NAMING_CHARACTER},
+        {"ORDERS.DAT ", "", MPM_NAMING_CHARACTER},       {"*.DAT", "", MPM_NAMING_CHARACTER},
+        {"ORDERS.DA?", "", MPM_NAMING_CHARACTER},        {"ORDERS.DA\t", "", MPM_NAMING_CHARACTER},
+        {"ORDERS.DA\177", "", MPM_NAMING_CHARACTER},     {"ORD\303\211.DAT", "", MPM_NAMING_CHARACTER},
+        {"A,B", "", MPM_NAMING_CHARACTER},               {"A/B", "", MPM_NAMING_CHARACTER},
+        {"A;B", "", MPM_NAMING_CHARACTER},               {"[A].B", "", MPM_NAMING_CHARACTER},
+    };
+    for (size_t i = 0; i < COUNT(all); i++) {
+        uint8_t name[MPM_NAME_LEN + 1] = "untouched!!";
+        const char *left = all[i].naming == MPM_NAMING_OK ? all[i].name : "untouched!!";
+        want(mpm_set_name(name, all[i].text) == all[i].naming, all[i].text);
+        want(memcmp(name, left, sizeof name) == 0, all[i].text);
+    }
+    for (uint32_t naming = MPM_NAMING_OK; naming <= MPM_NAMING_CHARACTER; naming++)
+        for (uint32_t other = 0; other < naming; other++)
+            want(strcmp(mpm_naming_text(naming), mpm_naming_text(other)) != 0, "two reasons have one sentence");
+}
+
+static void try_fcb(void) {
+    static const uint8_t unlocked[MPM_FCB_LEN] = {0, 'O', 'R', 'D', 'E', 'R' + 0x80, 'S', ' ', ' ', 'D', 'A', 'T'};
+    static const uint8_t read_only[MPM_FCB_LEN] = {0, 'O', 'R', 'D', 'E', 'R', 'S' + 0x80, ' ', ' ', 'D', 'A', 'T'};
+    static const uint8_t locked[MPM_FCB_LEN] = {0, 'O', 'R', 'D', 'E', 'R', 'S', ' ', ' ', 'D', 'A', 'T'};
+    uint8_t fcb[MPM_FCB_LEN], kept[MPM_FCB_LEN];
+    memset(fcb, 0x55, sizeof fcb);
+    memcpy(kept, fcb, sizeof fcb);
+    want(mpm_set_fcb(fcb, "ORDERS.DATA", 0) == MPM_NAMING_LONG_TYPE, "a long type is taken");
+    want(memcmp(fcb, kept, sizeof fcb) == 0, "a refused name has changed the FCB");
+    want(mpm_set_fcb(fcb, "ORDERS.DAT", MPM_MODE_UNLOCKED) == MPM_NAMING_OK, "a name is refused");
+    want(memcmp(fcb, unlocked, sizeof fcb) == 0, "an FCB for unlocked mode");
+    mpm_set_fcb(fcb, "ORDERS.DAT", MPM_MODE_READ_ONLY);
+    want(memcmp(fcb, read_only, sizeof fcb) == 0, "an FCB for read-only mode");
+    mpm_set_fcb(fcb, "ORDERS.DAT", MPM_MODE_LOCKED);
+    want(memcmp(fcb, locked, sizeof fcb) == 0, "an FCB for locked mode");
+}
+
+/* ---- Numbers ---- */
+
+static void try_numbers(void) {
+    static const uint8_t low_first[] = {1, 2, 3};
+    uint8_t fcb[MPM_FCB_LEN] = {0}, dma[4] = {9, 9, 9, 9};
+    mpm_set_record(fcb, 0x030201u);
+    want(memcmp(fcb + 33, low_first, 3) == 0 && mpm_record(fcb) == 0x030201u, "a record number");
+    mpm_set_record(fcb, 0x1000000u);
+    want(mpm_record(fcb) == 0xFFFFFFu, "a record number without room is cut");
+    mpm_set_record(fcb, 0xFFFFFFFFu);
+    want(mpm_record(fcb) == 0xFFFFFFu && fcb[32] == 0, "the highest number");
+    fcb[33] = 63, fcb[34] = 0, fcb[35] = 0;
+    mpm_set_file_id(dma, mpm_file_id(fcb));
+    want(dma[0] == 63 && dma[1] == 0 && dma[2] == 9 && dma[3] == 9, "a File ID");
+}
+
+static void try_kinds(void) {
+    want(mpm_kind_of(0) == MPM_KINDS && mpm_kind_of(2048) == MPM_KINDS, "a drive without a data block");
+    want(mpm_kind_of(3072) == MPM_KIND_SMALL && mpm_kind_of(262144) == MPM_KIND_SMALL, "small drives");
+    want(mpm_kind_of(263168) == MPM_KINDS && mpm_kind_of(524288) == MPM_KINDS, "between the kinds");
+    want(mpm_kind_of(526336) == MPM_KIND_LARGE && mpm_kind_of(8388608) == MPM_KIND_LARGE, "large drives");
+    want(mpm_kind_of(8390656) == MPM_KINDS && mpm_kind_of(3073) == MPM_KINDS, "no whole drive");
+}
+
+/* ---- Answers ---- */
+
+/* Every answer of every function has a name and a sentence, and no two names have one sentence. */
+static void try_answers(void) {
+    uint32_t named = 0;
+    for (uint32_t answer = 0; answer < MPM_ANSWER(0u, 16u); answer++) {
+        const char *name = mpm_answer_name(MPM_FN_OPEN, answer), *text = mpm_answer_text(MPM_FN_OPEN, answer);
+        int known = strcmp(name, "no answer of the engine") != 0;
+        want(known == (strcmp(text, "This is no answer of the engine.") != 0), "a name without a sentence");
+        named += known ? 1u : 0u;
+        for (uint32_t other = 0; other < answer && known; other++)
+            want(strcmp(text, mpm_answer_text(MPM_FN_OPEN, other)) != 0, "two answers have one sentence");
+    }
+    want(named == 24, "there are 24 numbers that are answers");
+    want(strcmp(mpm_answer_name(MPM_FN_WRITE, 8 + 256 * 48), "MPM_ERR_LOCKED") == 0, "8/48 is 8/0 after three");
+    want(strcmp(mpm_answer_name(MPM_FN_OPEN, 255), "MPM_ERR_NOT_FOUND") == 0, "255/0 of Open");
+    want(strcmp(mpm_answer_name(MPM_FN_MAKE, 255), "MPM_ERR_NO_EMPTY_ENTRY") == 0, "255/0 of Make");
+    want(strcmp(mpm_answer_text(MPM_FN_MAKE, 255), mpm_answer_text(MPM_FN_OPEN, 255)) != 0, "255/0 has one sentence");
+    want(strcmp(mpm_answer_name(MPM_FN_MAKE, 0), "MPM_OK") == 0, "0/0 of Make");
+}
+
+/* ---- A book ---- */
+
+static void try_book(void) {
+    static uint8_t image[3 * 1024], list[MPM_LIST_LEN], dma[MPM_DMA_LEN], fcb[MPM_FCB_LEN];
+    static const uint8_t users[MPM_USERS_LEN] = {0};
+    struct mpm_book book = {MPM_KIND_SMALL, list, sizeof list, image, sizeof image};
+    memset(image, MPM_EMPTY, sizeof image);
+    want(mpm_start(book.kind, 4, 2, 2, users, sizeof users, list, sizeof list) == MPM_OK, "a list is started");
+    mpm_set_fcb(fcb, "ORDERS.DAT", MPM_MODE_UNLOCKED);
+    want(mpm_book_call(&book, MPM_FN_MAKE, 3, 1, fcb, dma) == MPM_OK, "a file is made in the book");
+    uint32_t file_id = mpm_file_id(fcb);
+    mpm_set_record(fcb, 7);
+    memset(dma, 'x', MPM_RECORD_LEN);
+    want(mpm_book_call(&book, MPM_FN_WRITE_ZEROS, 3, 1, fcb, dma) == MPM_OK, "a record is written");
+    want(mpm_look(book.kind, 0, fcb + 1, 11, 7, image, sizeof image) == 2 * 1024 + 7 * 128, "Look shows the record");
+    mpm_set_file_id(dma, file_id);
+    want(mpm_book_call(&book, MPM_FN_LOCK, 3, 1, fcb, dma) == MPM_OK, "it is locked");
+    mpm_set_file_id(dma, file_id + 1);
+    want(mpm_book_call(&book, MPM_FN_LOCK, 3, 1, fcb, dma) == MPM_ERR_BAD_FILE_ID, "another File ID is taken");
+    book.list_len--;
+    want(mpm_book_call(&book, MPM_FN_FREE_SPACE, 3, 1, fcb, dma) == MPM_ERR_BAD_CALL, "a short list is taken");
+}
+
+int main(void) {
+    try_names();
+    try_fcb();
+    try_numbers();
+    try_kinds();
+    try_answers();
+    try_book();
+    if (faults == 0) printf("the helpers do what mpm.h says\n");
+    return faults == 0 ? 0 : 1;
+}
