@@ -223,6 +223,12 @@ Case("byte 35 of 4", blank(4),
 Case("counts 1, 16, 0, 17", blank(4),
      [start(), *[call(FREE_SPACE, 1, fcb(), count=c) for c in (1, 16, 0, 17)]],
      lines("0 1 46 0 0", "1 1 46 0 0", "2 1 46 255 13", "3 1 46 255 13", "end 4"), blank(4))
+# three limits that differ, and counts that do: each number has its own place in its record
+Case("unequal limits and counts", blank(4),
+     [start(6, 1, 4), call(MAKE, 1, fcb()), call(WRITE, 1, fcb(0), records(0x11), count=3), call(LOCK, 1, fcb(0), dma(0), count=4),
+      call(LOCK, 1, fcb(4), dma(0)), call(MAKE, 1, fcb()[:1] + b"LINES   DAT" + fcb()[12:])],
+     lines("0 1 22 0 0", "1 1 34 0 0", "2 1 42 0 0", "3 1 42 12 0", "4 1 22 255 10", "end 5"),
+     written(blank(4), (0, entry(count=3, blocks=[(0, 2)])), (2048, record(0x11) + record(0x12) + record(0x13))))
 Case("capacity 1", blank(4), [start(1, 1, 1), call(MAKE, 1, fcb()), call(MAKE, 2, fcb())],
      lines("0 1 22 0 0", "1 2 22 255 8", "end 2"), MADE_4)
 Case("capacity 64", blank(4), [start(64, 64, 64), call(MAKE, 1, fcb())], lines("0 1 22 0 0", "end 1"), MADE_4)

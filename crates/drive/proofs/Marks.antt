@@ -19,7 +19,7 @@ use Rattle.words.proofs.Bitwise.{length-bit, set-here, set-there, set-stays, se
 use Rattle.rules.specs.declared.kind.Kind.{Kind}
 use Rattle.rules.specs.declared.kind.Kind.the-variants.{Small, Large}
 use Rattle.rules.specs.Kinds.{most, entries, numbers}
-use Rattle.rules.specs.Drive.{blocks, inRange, isEmpty, mapNumber, holds, names, namedBefore, isFirst, goodEntry, isUsed, isFree, freeBlock, freeBlocks}
+use Rattle.rules.specs.Drive.{blocks, inRange, isEmpty, mapNumber, holdsNumber, namesBlock, namedBefore, isFirst, goodEntry, isUsed, isFree, freeBlock, freeBlocks}
 use Rattle.rules.proofs.Sizes.{most-some}
 use Rattle.drive.specs.Marks.{Marks, Marked, Judged, InUse}
 
@@ -49,8 +49,8 @@ or-here false y e = sym e
 
 module _ (kind : Kind) (low : ℕ) (s : List ℕ) (e k : ℕ) (seen : List ℕ) (b : ℕ) (m : Marks kind low s e k seen) (is : b ≡ mapNumber kind s e k) where
   other : (x : ℕ) → (x ≡ b → ⊥) → namedBefore kind s x e k ≡ namedBefore kind s x e (k + 1)
-  unfolding namedBefore holds
-  other x q = or-more _ _ _ (sym (any-skip (holds kind s x e) k (ne-eqb _ _ (λ z. q (sym z ∙ sym is)))))
+  unfolding namedBefore holdsNumber
+  other x q = or-more _ _ _ (sym (any-skip (holdsNumber kind s x e) k (ne-eqb _ _ (λ z. q (sym z ∙ sym is)))))
 
   -- it has no mark: it is below the lowest block that has one, or past all of them
   below : b < low → Marks kind low s e (k + 1) seen
@@ -61,12 +61,12 @@ module _ (kind : Kind) (low : ℕ) (s : List ℕ) (e k : ℕ) (seen : List ℕ) 
 
   -- its mark is set
   pub marks-set : (t : List ℕ) → t ≡ withBit b seen → b < most kind → Marks kind low s e (k + 1) t
-  unfolding namedBefore holds
+  unfolding namedBefore holdsNumber
   marks-set t h f = rw h (record {
     long = rw (length-bit seen b) (m .long);
     mark = λ x p l.
         ⊎-elim
-        (λ (q : x ≡ b). rw q (set-here seen b (omega (arith, m .long)) ∙ or-here _ _ (any-here (holds kind s b e) k (eq-eqb _ _ (sym is)))))
+        (λ (q : x ≡ b). rw q (set-here seen b (omega (arith, m .long)) ∙ or-here _ _ (any-here (holdsNumber kind s b e) k (eq-eqb _ _ (sym is)))))
         (λ (q : x ≡ b → ⊥). set-there seen b x q (omega (arith, m .long)) ∙ m .mark x p l ∙ other x q) (equal? x b);
   })
 
@@ -127,21 +127,21 @@ unfolding _or_
 or-off true y e = refl
 or-off false y e = e
 
-to-next : (kind : Kind) (s : List ℕ) (x e : ℕ) → namedBefore kind s x e 0 ≡ any (names kind s x) e
+to-next : (kind : Kind) (s : List ℕ) (x e : ℕ) → namedBefore kind s x e 0 ≡ any (namesBlock kind s x) e
 unfolding namedBefore
-to-next kind s x e = or-off _ _ (any-empty (holds kind s x e))
+to-next kind s x e = or-off _ _ (any-empty (holdsNumber kind s x e))
 
 marks-empty : (kind : Kind) (low : ℕ) (s : List ℕ) (e : ℕ) (seen : List ℕ) (r : Bool) → Marks kind low s e 0 seen → r ≡ isEmpty s e → r ≡ true → Marks kind low s (e + 1) 0 seen
-unfolding names _and_
+unfolding namesBlock _and_
 marks-empty kind low s e seen r m h t = record {
   long = m .long;
   mark = λ x p l.
       m .mark x p l ∙ to-next kind s x e
-      ∙ sym (any-skip (names kind s x) e (let q : isEmpty s e ≡ true = sym h ∙ t in rw q)) ∙ sym (to-next kind s x (e + 1));
+      ∙ sym (any-skip (namesBlock kind s x) e (let q : isEmpty s e ≡ true = sym h ∙ t in rw q)) ∙ sym (to-next kind s x (e + 1));
 }
 
-names-as : (kind : Kind) (s : List ℕ) (x e : ℕ) → isEmpty s e ≡ false → names kind s x e ≡ any (holds kind s x e) (numbers kind)
-unfolding names _and_
+names-as : (kind : Kind) (s : List ℕ) (x e : ℕ) → isEmpty s e ≡ false → namesBlock kind s x e ≡ any (holdsNumber kind s x e) (numbers kind)
+unfolding namesBlock _and_
 names-as kind s x e u = rw u
 
 any-as : (f : ℕ → Bool) (e : ℕ) (t : Bool) → f e ≡ t → (any f e or t) ≡ any f (e + 1)
@@ -153,8 +153,8 @@ unfolding namedBefore
 marks-used kind low s e k seen m q u = record {
   long = m .long;
   mark = λ x p l.
-      m .mark x p l ∙ ap (λ (j : ℕ). any (names kind s x) e or any (holds kind s x e) j) q
-      ∙ any-as (names kind s x) e (any (holds kind s x e) (numbers kind)) (names-as kind s x e u) ∙ sym (to-next kind s x (e + 1));
+      m .mark x p l ∙ ap (λ (j : ℕ). any (namesBlock kind s x) e or any (holdsNumber kind s x e) j) q
+      ∙ any-as (namesBlock kind s x) e (any (holdsNumber kind s x e) (numbers kind)) (names-as kind s x e u) ∙ sym (to-next kind s x (e + 1));
 }
 
 -- ---- the ends of judging an entry
@@ -235,7 +235,7 @@ module _ (kind : Kind) (s used : List ℕ) (u : InUse kind s (entries kind) 0 us
   clear-free b l =
       ⊎-elim
       (λ (h : leb 2 b ≡ true).
-      let k : isSet used b ≡ any (names kind s b) (entries kind) = u .named .mark b (leb-true _ _ h) l ∙ to-next kind s b (entries kind) in
+      let k : isSet used b ≡ any (namesBlock kind s b) (entries kind) = u .named .mark b (leb-true _ _ h) l ∙ to-next kind s b (entries kind) in
       rw (h, k))
       (λ (h : leb 2 b ≡ false). rw (h, u .directory b (leb-false _ _ h))) (either (leb 2 b))
 

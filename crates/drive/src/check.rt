@@ -23,7 +23,7 @@ ghost use lib.Dec.{leb, ltb, eqb};
 ghost use Rattle.words.specs.Tests.{_and_, _or_, all, any};
 ghost use Rattle.rules.specs.declared.kind.Kind.the-variants.{Small, Large};
 ghost use Rattle.rules.specs.Kinds.{entries, numbers, most};
-ghost use Rattle.rules.specs.Drive.{goodLength, blocks, goodNumbers, goodFields, inRange, isRepeat, fileAt, isEntry, goodEntry, isBegun, soundDirectory, soundImage, imageCheck};
+ghost use Rattle.rules.specs.Drive.{goodLength, blocks, goodNumbers, goodFields, inRange, isRepeat, fileAt, isEntry, goodEntry, hasFirst, soundDirectory, soundImage, imageCheck};
 ghost use Rattle.drive.specs.Marks.{Marks, Marked, Judged};
 
 // A length that the kind of drive has.
@@ -266,7 +266,7 @@ fn has_first(image: &[u8], e: usize, n: usize) -> bool
 // The same of an entry that may be empty; one that is extent 0 itself needs no search.
 fn is_begun(kind: Kind, image: &[u8], e: usize) -> bool
     requires { ⌜ (e < entries kind) × (32 * entries kind ≤ length (now image)) ⌝ }
-    ensures { λ r. ⌜ r ≡ isBegun kind (now (image .entry)) e ⌝ }
+    ensures { λ r. ⌜ r ≡ hasFirst kind (now (image .entry)) e ⌝ }
 {
     if is_empty(image, e) {
         return true;
@@ -279,7 +279,7 @@ fn is_begun(kind: Kind, image: &[u8], e: usize) -> bool
 
 fn all_begun(kind: Kind, image: &[u8]) -> bool
     requires { ⌜ 32 * entries kind ≤ length (now image) ⌝ }
-    ensures { λ r. ⌜ r ≡ all (isBegun kind (now (image .entry))) (entries kind) ⌝ }
+    ensures { λ r. ⌜ r ≡ all (hasFirst kind (now (image .entry))) (entries kind) ⌝ }
 {
     let n = entries(kind);
     let mut e = 0;

@@ -103,7 +103,7 @@ module _ (kind : Kind) (n p c : ℕ) (b : Buffers) (g : SoundImage kind highest 
       (λ f r x m z a. seen-all kind s _ f r x g (d .len) a (d .past) (at-forth kind s _ (fileBy p b) (newBy p b) f h z r x a))
   others-leaf o (nowRead k ok dma) = others-same kind s (userOf l p)
   others-leaf o (nowWritten k ok w zeros) = others-write ok w zeros (b .dma) (let d = ok .ready .dma-long in omega arith)
-  others-leaf o (nowRewritten k ok w some v full) = others-write ok w false v full
+  others-leaf o (nowRewritten k ok w some v full from) = others-write ok w false v full
   others-leaf o (nowLocked k ok w) = others-same kind s (userOf l p)
   others-leaf o (lockIdle k ok w) = others-same kind s (userOf l p)
   others-leaf o (nowUnlocked k ok w) = others-same kind s (userOf l p)
@@ -190,7 +190,7 @@ module _ (kind : Kind) (n p c : ℕ) (b : Buffers) where
   items-leaf o (nowRenamed k ok w) = items-same p (listOf b)
   items-leaf o (nowRead k ok dma) = items-same p (listOf b)
   items-leaf o (nowWritten k ok w zeros) = items-same p (listOf b)
-  items-leaf o (nowRewritten k ok w some v full) = items-same p (listOf b)
+  items-leaf o (nowRewritten k ok w some v full from) = items-same p (listOf b)
   items-leaf o (nowLocked k ok w) = packed kind p (listOf b) _ (b .image) (locked-shape kind p c b ok w) (run-apart ok w)
   items-leaf o (lockIdle k ok w) = items-same p (listOf b)
   items-leaf o (nowUnlocked k ok w) = packed kind p (listOf b) _ (b .image) (unlocked-shape kind p c b ok)

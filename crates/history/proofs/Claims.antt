@@ -1,54 +1,105 @@
--- What is claimed holds of every engine that has the outcomes of the rules. Assumes nothing.
-use Prim.Native.Nat.{ℕ}
-use mathlib.Core.Path.{_≡_, refl, sym, ap, subst, _∙_}
+-- All that is claimed holds. Assumes nothing.
+use Prim.Native.Nat.{ℕ, _%_, _<_}
+use mathlib.Core.Path.{_≡_, refl, sym, ap, _∙_}
 use mathlib.Core.Bool.{true}
+use mathlib.Core.List.{List}
 use mathlib.Core.Logic.{inl, inr, ⊎-elim}
 use native.Mathlib.Omega.{arith}
-use borrow.Author.Tests.{ne-eqb}
+use lib.ListN.{length, replicate}
+use borrow.Author.Tests.{ne-eqb, lt-ltb, ltb-true}
 use Rattle.words.specs.Tests.{_if_else_}
 use Rattle.words.specs.Tables.{_∕_}
+use Rattle.words.proofs.Tests.{and-fst, and-snd}
+use Rattle.words.proofs.Sets.{and-both}
+use Rattle.words.proofs.AreBytes.{byte-small}
 use Rattle.rules.specs.declared.kind.Kind.{Kind}
 use Rattle.rules.specs.declared.kind.Kind.the-variants.{Small, Large}
 use Rattle.rules.specs.declared.kind.Told.{Told}
 use Rattle.rules.specs.declared.kind.Told.the-variants.{Known, Other}
+use Rattle.rules.specs.declared.answer.ImageAnswer.{ImageAnswer}
 use Rattle.rules.specs.Kinds.{toldKind}
-use Rattle.rules.specs.Serves.{Buffers, outcome}
-use Rattle.rules.specs.Drive.{highest, soundImage}
+use Rattle.rules.specs.Serves.{Outcome, outcome}
+use Rattle.rules.specs.Drive.{highest, soundImage, imageNumber}
+use Rattle.rules.specs.Locks.{start}
+use Rattle.rules.specs.Call.{call}
 use Rattle.rules.specs.Several.{callRun}
-use Rattle.rules.specs.Told.{callTold}
+use Rattle.rules.specs.Told.{callTold, checkTold, lookTold}
+use Rattle.rules.proofs.Tables.{accepted, accepted-zero, refused, zero-accepted, did-is}
 use Rattle.rules.proofs.Several.{same-left, same-code}
 use Rattle.rules.proofs.OneRecord.{one-record}
-use Rattle.rules.proofs.Told.{other-call}
-use Rattle.history.specs.History.{Engine}
-use Rattle.history.specs.Demands.{Demand2}
-use Rattle.history.specs.Claims.{Claims, Refuses, ToldClaims}
-use Rattle.history.proofs.First.{first-meet}
-use Rattle.history.proofs.Demands.{rules-meet}
+use Rattle.rules.proofs.Packing.{pack-unpack}
+use Rattle.rules.proofs.SoundList.{list-sound-of, unpack-shape, unpacked}
+use Rattle.rules.proofs.Look.{look-inside, look-apart}
+use Rattle.rules.proofs.Told.{other-call, other-check, other-look}
+use Rattle.session.specs.Open.{rules}
+use Rattle.session.specs.Session.{firstList}
+use Rattle.session.proofs.Session.{the-session}
+use Rattle.history.specs.History.{Ask, State, Engine, isWord, isPossible, isKept, lent, outcomeOf, withCount}
+use Rattle.history.specs.Deeds.{doneIn}
+use Rattle.history.specs.Demands.{NoTrace, Demand1, Demand2}
+use Rattle.history.specs.Claims.{Claims, KeepsContract, Refuses, ToldClaims, WrongFall, TheSession, Tables, RoundTrips, LookClaims, AllClaims}
+use Rattle.history.proofs.First.{leaves-no-trace, counted-possible, fewer-possible}
+use Rattle.history.proofs.Alike.{meets-third}
+use Rattle.history.proofs.Wrong.{refusing-differs, accepting-differs, idle-differs, not-idle, not-pretending, made-up-differs, not-made-up, not-unbitted, not-lavish, not-promoting}
 
-rules-claims : (kind : Kind) → Claims kind (callRun kind)
-unfolding Demand2
-rules-claims kind = record {
-  demand-1 = first-meet kind;
-  demand-2 = λ n p c b. refl;
-  demand-3 = rules-meet kind;
-  as-singly-left = same-left kind;
-  as-singly-code = same-code kind;
-  one-record = one-record kind;
-}
+-- ---- of an engine that serves as the rules do
 
-pub claims : (kind : Kind) (e : Engine) → ((n p c : ℕ) (b : Buffers) → e n p c b ≡ callRun kind n p c b) → Claims kind e
-claims kind e h = let q : callRun kind ≡ e = sym (λ i n p c b. h n p c b i) in subst (λ (x : Engine). Claims kind x) q (rules-claims kind)
+module _ (kind : Kind) (e : Engine) (serves : Demand2 kind e) where
+  so : (before : List Ask) (q : Ask) (s : State) → isPossible q ≡ true → isKept s ≡ true → outcomeOf (e before) q s ≡ outcomeOf (callRun kind) q s
+  unfolding Demand2
+  so = serves
 
--- ---- told the kind by a number
+  -- of the call with as many records as were done, too
+  no-trace : (before : List Ask) (q : Ask) (s : State) → isPossible q ≡ true → isKept s ≡ true → NoTrace (e before) q s
+  no-trace before q s may h =
+      let o = so before q s may h in
+      let w = leaves-no-trace kind q s in
+      record {
+        unchanged = λ z d. ap (λ (x : Outcome). x .left) o ∙ w .unchanged (λ y. z (ap (λ (x : Outcome). x .answer) o ∙ y)) (rw o at d);
+        no-trace = λ z. rw o (so before (withCount (doneIn (outcomeOf (callRun kind) q s .answer)) q) s (fewer-possible kind q s may) h ∙ w .no-trace (rw o at z));
+      }
 
-module _ (e : ℕ → Engine) (meets : (k n p c : ℕ) (b : Buffers) → e k n p c b ≡ callTold (toldKind k) n p c b) where
-  of-kind : (k : ℕ) (kind : Kind) → toldKind k ≡ Known kind → (n p c : ℕ) (b : Buffers) → e k n p c b ≡ callRun kind n p c b
-  unfolding callTold
-  of-kind k kind h n p c b = meets k n p c b ∙ ap (λ (t : Told). callTold t n p c b) h
+  pub claims : Claims kind e
+  unfolding Demand1 outcomeOf
+  claims = record {
+    demand-1 = no-trace;
+    demand-2 = serves;
+    demand-3 = meets-third kind e serves;
+    as-singly-left = λ before q s may h. ap (λ (o : Outcome). o .left) (so before q s may h) ∙ same-left kind (q .function) (q .process) (q .count) (lent q s);
+    as-singly-code = λ before q s may h. ap (λ (o : Outcome). o .answer % (0 ∕ 16)) (so before q s may h) ∙ same-code kind (q .function) (q .process) (q .count) (lent q s);
+    one-record = λ before q s may h. so before (withCount 1 q) s (counted-possible q 1 may (omega arith)) h ∙ one-record kind (q .function) (q .process) (lent q s);
+  }
+
+-- ---- of an engine that keeps the contract, told the kind by a number
+
+module _ (e : ℕ → Engine) (keeps : KeepsContract e) where
+  told-so : (k : ℕ) → isWord k ≡ true → (before : List Ask) (q : Ask) (s : State) → isPossible q ≡ true → isKept s ≡ true
+      → outcomeOf (e k before) q s ≡ callTold (toldKind k) (q .function) (q .process) (q .count) (lent q s)
+  unfolding KeepsContract
+  told-so k word before q s may h = did-is _ _ _ _ _ _ (keeps k word before q s may h)
+
+  of-kind : (k : ℕ) (kind : Kind) → isWord k ≡ true → toldKind k ≡ Known kind → Demand2 kind (e k)
+  unfolding Demand2 callTold outcomeOf
+  of-kind k kind word told before q s may h =
+      told-so k word before q s may h ∙ ap (λ (t : Told). callTold t (q .function) (q .process) (q .count) (lent q s)) told
 
   other-kind : (k : ℕ) → (k ≡ 0 → ⊥) → (k ≡ 1 → ⊥) → toldKind k ≡ Other
   unfolding toldKind _if_else_
   other-kind k a b = rw (ne-eqb k 0 a, ne-eqb k 1 b)
+
+  unknown : (k : ℕ) → (k ≡ 0 → ⊥) → (k ≡ 1 → ⊥) → isWord k ≡ true → (before : List Ask) (q : Ask) (s : State)
+      → isPossible q ≡ true → isKept s ≡ true → outcomeOf (e k before) q s ≡ outcome (255 ∕ 13) (lent q s)
+  unfolding callTold
+  unknown k a b word before q s may h =
+      told-so k word before q s may h ∙ ap (λ (t : Told). callTold t (q .function) (q .process) (q .count) (lent q s)) (other-kind k a b)
+
+  -- a book of one kind, told the other
+  refuses : (own kind : Kind) (k : ℕ) → isWord k ≡ true → (own ≡ kind → ⊥) → toldKind k ≡ Known kind → (before : List Ask) (q : Ask) (s : State)
+      → isPossible q ≡ true → isKept s ≡ true → soundImage own highest (s .image) ≡ true → Refuses e k before q s
+  unfolding Refuses Demand2 outcomeOf
+  refuses own kind k word other told before q s may h sound =
+      let r = of-kind k kind word told before q s may h in
+      ⊎-elim (λ z. inl (r ∙ z)) (λ z. inr (r ∙ z)) (other-call own kind other (s .image) sound (q .function) (q .process) (q .count) (lent q s) refl)
 
   first-told : toldKind 0 ≡ Known Small
   unfolding toldKind _if_else_
@@ -58,12 +109,9 @@ module _ (e : ℕ → Engine) (meets : (k n p c : ℕ) (b : Buffers) → e k n p
   unfolding toldKind _if_else_
   second-told = refl
 
-  -- a book of one kind, told the other
-  refuses : (own kind : Kind) (k : ℕ) → (own ≡ kind → ⊥) → toldKind k ≡ Known kind → (b : Buffers) → soundImage own highest (b .image) ≡ true → Refuses e k b
-  unfolding Refuses
-  refuses own kind k other told b sound n p c =
-      let q = of-kind k kind told n p c b in
-      ⊎-elim (λ h. inl (q ∙ h)) (λ h. inr (q ∙ h)) (other-call own kind other (b .image) sound n p c b refl)
+  word : (k : ℕ) → k < 4294967296 → isWord k ≡ true
+  unfolding isWord
+  word k h = lt-ltb k 4294967296 h
 
   not-large : Small ≡ Large → ⊥
   not-large h = let z : _≡_ {A = ℕ} 0 1 = ap place h in absurd (omega arith)
@@ -72,14 +120,57 @@ module _ (e : ℕ → Engine) (meets : (k n p c : ℕ) (b : Buffers) → e k n p
       place Small = 0
       place Large = 1
 
-  pub told-claims : ToldClaims e
+  told-claims : ToldClaims e
   told-claims = record {
-    first-kind = claims Small (e 0) (of-kind 0 Small first-told);
-    second-kind = claims Large (e 1) (of-kind 1 Large second-told);
-    unknown-kind = λ k x y n p c b. meets k n p c b ∙ unknown k x y n p c b;
-    first-as-second = refuses Small Large 1 not-large second-told;
-    second-as-first = refuses Large Small 0 (λ h. not-large (sym h)) first-told;
+    first-kind = claims Small (e 0) (of-kind 0 Small (word 0 (omega arith)) first-told);
+    second-kind = claims Large (e 1) (of-kind 1 Large (word 1 (omega arith)) second-told);
+    unknown-kind = unknown;
+    first-as-second = refuses Small Large 1 (word 1 (omega arith)) not-large second-told;
+    second-as-first = refuses Large Small 0 (word 0 (omega arith)) (λ h. not-large (sym h)) first-told;
   }
-    where
-      unknown : (k : ℕ) → (k ≡ 0 → ⊥) → (k ≡ 1 → ⊥) → (n p c : ℕ) (b : Buffers) → callTold (toldKind k) n p c b ≡ outcome (255 ∕ 13) b
-      unknown k x y n p c b = unfold callTold in ap (λ (t : Told). callTold t n p c b) (other-kind k x y)
+
+-- ---- of the rules
+
+session-claims : TheSession
+session-claims = record { first-list = started; as-listed = the-session }
+  where
+    started : (list : List ℕ) → length list ≡ 1299 → start 3 2 2 (replicate 16 0) list ≡ record { answer = 0 ∕ 0; list = firstList }
+    started list h = unfold rules firstList in rw h refl
+
+look-claims : LookClaims
+look-claims = record {
+  inside = λ kind user name r s some. look-inside kind highest user name r s some;
+  apart = λ kind u v m n r q s a b. ⊎-elim (λ z. inl z) (λ z. inr (z .apart)) (look-apart kind highest u v m n r q s a b);
+  other-check = checks;
+  other-look = looks;
+}
+  where
+    checks : (own kind : Kind) → (own ≡ kind → ⊥) → (s : List ℕ) → soundImage own highest s ≡ true → checkTold (Known kind) s ≡ 1
+    checks own kind other s sound = unfold checkTold imageNumber in ap imageNumber (other-check own kind other s sound)
+
+    looks : (own kind : Kind) → (own ≡ kind → ⊥) → (s : List ℕ) → soundImage own highest s ≡ true → (user : ℕ) (name : List ℕ) (r : ℕ) → lookTold (Known kind) user name r s ≡ 0
+    looks own kind other s sound user name r = unfold lookTold in other-look own kind other s sound user name r
+
+pub all-claims : AllClaims
+all-claims = record {
+  engine = told-claims;
+  wrong-fall = record {
+    refusing-differs = refusing-differs;
+    accepting-differs = accepting-differs;
+    idle-differs = idle-differs;
+    not-idle = not-idle;
+    not-pretending = not-pretending;
+    made-up-differs = made-up-differs;
+    not-made-up = not-made-up;
+    not-unbitted = not-unbitted;
+    not-lavish = not-lavish;
+    not-promoting = not-promoting;
+  };
+  the-session = session-claims;
+  tables = record { accepted = accepted; accepted-zero = accepted-zero; refused = refused; zero-accepted = zero-accepted };
+  round-trips = record {
+    pack-unpack = λ kind list s long bytes sound. pack-unpack kind highest list s long (λ i. byte-small list i bytes) sound;
+    unpack-pack = λ kind list s sound. unpacked kind _ s (list-sound-of kind list s sound) (unpack-shape list);
+  };
+  looks = look-claims;
+}

@@ -1,8 +1,8 @@
 -- The dead hold nothing, until they are granted something anew. Assumes nothing.
 use Prim.Native.Nat.{ℕ, zero, suc}
-use mathlib.Core.Path.{_≡_, refl, sym, _∙_}
+use mathlib.Core.Path.{_≡_, refl, sym, ap, _∙_}
 use mathlib.Core.Bool.{Bool, true, false, not}
-use mathlib.Core.List.{List, [], _∷_, _++_}
+use mathlib.Core.List.{List, [], _∷_, _++_, append-assoc, append-nil}
 use mathlib.Core.Logic.{⊎-elim}
 use native.Mathlib.Omega.{arith}
 use lib.Dec.{eqb}
@@ -13,10 +13,10 @@ use Rattle.words.proofs.Tests.{either, and-fst, and-snd, or-fst, or-snd}
 use Rattle.rules.specs.declared.kind.Kind.{Kind}
 use Rattle.rules.specs.declared.item.Item.{Item}
 use Rattle.rules.specs.Locks.{freshOpen, isKindBy}
-use Rattle.history.specs.History.{Engine, Ask, State, Begun, Event, outcomeOf, kept, stateAfter, eventsOf, firstState, after, historyOf}
+use Rattle.history.specs.History.{Engine, Ask, State, Begun, Event, event, outcomeOf, kept, stateAfter, eventsOf, firstState, after, historyOf, outcomeAfter}
 use Rattle.history.specs.Deeds.{Deed, nothing, opens, closes, locks, unlocks, ends, touches, drops, carries, tells, deed}
 use Rattle.history.specs.Held.{sameItem, tally, isAmong, granting, grantingAt, grantingRun, without, isBy, holding, heldAfter, isGrant, anyOpenBy}
-use Rattle.history.specs.Demands.{itemsOf, outcomeAfter, deedAfter}
+use Rattle.history.specs.Demands.{itemsOf}
 use Rattle.history.proofs.Tallies.{tally-less, tally-without, tally-none}
 use Rattle.history.proofs.Items.{alike-of, among-tally, granting-held, granting-new}
 
@@ -88,23 +88,29 @@ none-after users p (e ∷ es) g n w = none-after users p es _ (or-snd _ _ n) (no
 -- ---- calls one after the other
 
 module _ (e : Engine) where
-  held-append : (users : List ℕ) (qs rs : List Ask) (s : State) (g : List Item)
-      → heldAfter users (eventsOf e (qs ++ rs) s) g ≡ heldAfter users (eventsOf e rs (stateAfter e qs s)) (heldAfter users (eventsOf e qs s) g)
+  held-append : (users : List ℕ) (before qs rs : List Ask) (s : State) (g : List Item)
+      → heldAfter users (eventsOf e before (qs ++ rs) s) g
+      ≡ heldAfter users (eventsOf e (before ++ qs) rs (stateAfter e before qs s)) (heldAfter users (eventsOf e before qs s) g)
   unfolding stateAfter eventsOf heldAfter
-  held-append users [] rs s g = refl
-  held-append users (q ∷ qs) rs s g = held-append users qs rs (kept (outcomeOf e q s)) _
+  held-append users before [] rs s g = rw (append-nil before) refl
+  held-append users before (q ∷ qs) rs s g =
+      rw (append-assoc before (q ∷ []) qs)
+      at (held-append users (before ++ (q ∷ [])) qs rs (kept (outcomeOf (e before) q s)) (holding (deed users (event q (outcomeOf (e before) q s .answer))) g))
 
 module _ (kind : Kind) (e : Engine) (g : Begun kind) (qs later : List Ask) (q : Ask) where
-  items-then : itemsOf kind e g (qs ++ (q ∷ later))
-      ≡ heldAfter (g .users) (eventsOf e later (kept (outcomeAfter kind e g qs q))) (holding (deedAfter kind e g qs q) (itemsOf kind e g qs))
-  unfolding itemsOf historyOf after eventsOf heldAfter outcomeAfter deedAfter
-  items-then = held-append e (g .users) qs (q ∷ later) (firstState kind g) []
+  abbrev did : Deed
+  did = deed (g .users) (event q (outcomeAfter kind e g qs q .answer))
+
+  abbrev then : List Event
+  then = eventsOf e (qs ++ (q ∷ [])) later (kept (outcomeAfter kind e g qs q))
+
+  items-then : itemsOf kind g (historyOf kind e g (qs ++ (q ∷ later))) ≡ heldAfter (g .users) then (holding did (itemsOf kind g (historyOf kind e g qs)))
+  unfolding itemsOf historyOf after eventsOf heldAfter outcomeAfter
+  items-then = held-append e (g .users) [] qs (q ∷ later) (firstState kind g) []
 
   -- an accepted 143 of process p, and no open granted to it later
-  pub none-then : (p : ℕ) → deedAfter kind e g qs q ≡ ends p → anyOpenBy (g .users) p (eventsOf e later (kept (outcomeAfter kind e g qs q))) ≡ false
-      → NoneBy p (itemsOf kind e g (qs ++ (q ∷ later)))
-  none-then p d none =
-      rw (items-then, d) (none-after (g .users) p (eventsOf e later (kept (outcomeAfter kind e g qs q))) _ none (none-ended p (itemsOf kind e g qs)))
+  pub none-then : (p : ℕ) → did ≡ ends p → anyOpenBy (g .users) p then ≡ false → NoneBy p (itemsOf kind g (historyOf kind e g (qs ++ (q ∷ later))))
+  none-then p d none = rw (items-then, d) (none-after (g .users) p then _ none (none-ended p (itemsOf kind g (historyOf kind e g qs))))
 
 -- an item of a kind is an item of its process
 pub kind-by : (k p : ℕ) (g : List Item) → NoneBy p g → tally (isKindBy k p) g ≡ 0

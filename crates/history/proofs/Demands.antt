@@ -1,20 +1,24 @@
--- Demands 2 and 3 of every engine that has the outcomes of the rules. Assumes nothing.
-use Prim.Native.Nat.{ℕ, _+_, _-_, _*_, _/_}
-use mathlib.Core.Path.{_≡_, refl, sym, ap, subst, _∙_}
+-- Demand 3 of the engine of the rules. Assumes nothing.
+use Prim.Native.Nat.{ℕ, suc, _+_, _-_, _*_, _/_}
+use mathlib.Core.Path.{_≡_, refl, sym, ap, _∙_}
 use mathlib.Core.Bool.{Bool, true, false}
-use mathlib.Core.List.{List, _∷_, _++_}
+use mathlib.Core.List.{List, [], _∷_, _++_}
 use native.Mathlib.Omega.{arith}
-use lib.ListN.{length}
+use lib.ListN.{length, take}
+use lib.Seq.{getD-take, length-take-le}
 use borrow.Author.Tests.{eqb-false, not-true}
 use Rattle.words.specs.Tests.{_and_, count}
-use Rattle.words.specs.Bytes.{put, le}
+use Rattle.words.specs.Lists.{tab}
+use Rattle.words.specs.Bytes.{byte, byteFrom, put, le}
+use Rattle.words.proofs.Lists.{tab-ext, tab-getD}
 use Rattle.words.proofs.Counts.{count-ext}
 use Rattle.rules.specs.declared.kind.Kind.{Kind}
 use Rattle.rules.specs.Kinds.{blockSize, blockRecords}
 use Rattle.rules.specs.declared.item.Item.{Item}
 use Rattle.rules.specs.declared.routine.Chosen.{Chosen}
-use Rattle.rules.specs.Serves.{Buffers, Outcome}
+use Rattle.rules.specs.Serves.{Outcome}
 use Rattle.rules.specs.Drive.{highest, blocks, freeBlocks, blockOf}
+use Rattle.rules.specs.Locks.{unpack}
 use Rattle.rules.specs.Effects.{does46}
 use Rattle.rules.specs.Call.{asked, askedBy, effectOf}
 use Rattle.rules.specs.Several.{callRun}
@@ -22,24 +26,41 @@ use Rattle.rules.proofs.Sound.{SoundImage, isUsedData}
 use Rattle.rules.proofs.Tables.{accepted, zero-accepted}
 use Rattle.rules.proofs.Several.{run-plain}
 use Rattle.rules.proofs.Look.{same-group}
-use Rattle.history.specs.History.{Engine, Ask, State, Begun, outcomeOf, event, after}
-use Rattle.history.specs.Deeds.{tells, deed}
+use Rattle.history.specs.History.{Ask, State, Begun, lent, forgetful, outcomeOf, kept, event, eventsOf, after, historyOf, outcomeAfter}
+use Rattle.history.specs.Deeds.{ends, tells, deed}
+use Rattle.history.specs.Held.{anyOpenBy}
 use Rattle.history.specs.Groups.{Group, hasBlock, isNumbered, isInUse, blocksInUse, allNumbers}
-use Rattle.history.specs.Demands.{Demand2, Demand3, listAfter, outcomeAfter, deedAfter, figureIn, Groups, Figure}
+use Rattle.history.specs.Demands.{itemsOf, HeadStays, figureIn, Groups, Figure, NoneLeft, Stands, Next}
 use Rattle.history.proofs.Tallies.{tally-all}
 use Rattle.history.proofs.Positions.{holdsGroup, each-counted}
 use Rattle.history.proofs.InUse.{in-use}
 use Rattle.history.proofs.Dead.{none-then}
 use Rattle.history.proofs.Served.{figure-plain}
-use Rattle.history.proofs.Done.{lent, told}
+use Rattle.history.proofs.Done.{told}
 use Rattle.history.proofs.Grants.{image-sound, holds-same, add-up, full, none-left}
 use Rattle.history.proofs.Run.{Inv}
-use Rattle.history.proofs.Calls.{always}
+use Rattle.history.proofs.Calls.{ours, always}
 use Rattle.history.proofs.Spared.{locked-stays, files-apart, items-apart}
 
 module _ (kind : Kind) (g : Begun kind) (s : State) (items : List Item) (groups : List Group) (i : Inv kind g s items groups) where
   abbrev sound : SoundImage kind highest (s .image)
   sound = image-sound kind g s items groups i
+
+  -- 2
+  head-kept : HeadStays g s
+  unfolding unpack tab
+  head-kept = record {
+    head =
+        let long : length (take 19 (s .list)) ≡ 19 = length-take-le 19 (s .list) (let k = i .both .list-long in omega arith) in
+        let same : tab (λ (k : ℕ). byte (take 19 (s .list)) k) 19 ≡ tab (λ (k : ℕ). byte (s .list) k) 19 =
+        tab-ext (λ (k : ℕ). byte (take 19 (s .list)) k) (λ (k : ℕ). byte (s .list) k) 19 (λ k m. getD-take 19 (s .list) k 0 m) in
+        let rest : tab (λ (k : ℕ). byte (s .list) (suc (suc (suc k)))) 16 ≡ g .users =
+        tab-ext (λ (k : ℕ). byte (s .list) (suc (suc (suc k)))) (byteFrom (s .list) 3) 16 (λ k m. let z : suc (suc (suc k)) ≡ 3 + k = omega arith in rw z refl) ∙ i .users in
+        sym (tab-getD (take 19 (s .list)) 0 19 long) ∙ same ∙ heads (i .capacity) (i .openlimit) (i .locklimit) rest;
+  }
+    where
+      heads : {a b c d e f : ℕ} {u v : List ℕ} → a ≡ d → b ≡ e → c ≡ f → u ≡ v → a ∷ b ∷ c ∷ u ≡ d ∷ e ∷ f ∷ v
+      heads p q r t = λ j. p j ∷ q j ∷ r j ∷ t j
 
   -- 4
   all-numbered : count (isNumbered kind (s .image)) (allNumbers kind) ≡ length groups
@@ -87,35 +108,44 @@ module _ (kind : Kind) (g : Begun kind) (s : State) (items : List Item) (groups 
   unfolding outcomeOf asked askedBy effectOf does46 figureIn
   tells-figure q e =
       let b = lent q s in
-      let w = told (g .users) q (callRun kind (q .function) (q .process) (q .run) b .answer) e in
-      let c = run-plain kind (q .function) (q .process) (q .run) b (figure-plain (q .function) (w .1)) in
-      let z = zero-accepted kind (q .function) (q .process) (q .run) b (ap (λ (o : Outcome). o .answer) (sym c) ∙ w .0) in
+      let w = told (g .users) q (callRun kind (q .function) (q .process) (q .count) b .answer) e in
+      let c = run-plain kind (q .function) (q .process) (q .count) b (figure-plain (q .function) (w .1)) in
+      let z = zero-accepted kind (q .function) (q .process) (q .count) b (ap (λ (o : Outcome). o .answer) (sym c) ∙ w .0) in
       let m : freeBlocks kind (s .image) ≡ blocks kind (g .image) - 2 - length groups = (let f = figures in omega arith) in
-      ap (λ (o : Outcome). o .left .dma) (c ∙ accepted kind (q .function) (q .process) (q .run) b z)
-      ∙ ap (λ (k : Chosen). effectOf k (asked kind (q .process) (q .run) b) b .left .dma) (w .1)
+      ap (λ (o : Outcome). o .left .dma) (c ∙ accepted kind (q .function) (q .process) (q .count) b z)
+      ∙ ap (λ (k : Chosen). effectOf k (asked kind (q .process) (q .count) b) b .left .dma) (w .1)
       ∙ ap (λ (n : ℕ). put 0 (le 3 (blockRecords kind * n)) (q .dma)) m
 
--- ---- the rules meet demand 3
+-- ---- the engine of the rules meets demand 3, whatever it is called with
 
-pub rules-meet : (kind : Kind) → Demand3 kind (callRun kind)
-unfolding listAfter outcomeAfter deedAfter
-rules-meet kind = record {
-  sound-stays = λ g qs. let b = always kind g qs .both in record { image-sound = b .image-sound; list-long = b .list-long; list-sound = b .list-sound };
-  list-is-grants = λ g qs x n. holds-same kind g (after kind (callRun kind) g qs) _ _ (always kind g qs) x n;
-  places-add-up = λ g qs. add-up kind g (after kind (callRun kind) g qs) _ _ (always kind g qs);
-  blocks-are-groups = λ g qs. groups-counted kind g (after kind (callRun kind) g qs) _ _ (always kind g qs);
-  figure-fixed = λ g qs. figure kind g (after kind (callRun kind) g qs) _ _ (always kind g qs);
-  figure-told = λ g qs q e. tells-figure kind g (after kind (callRun kind) g qs) _ _ (always kind g qs) q e;
-  locked-stays = λ g qs q p name r long among n. locked-stays kind g (after kind (callRun kind) g qs) _ _ (always kind g qs) q p name r long among n;
-  files-apart = λ g qs q u n. files-apart kind g (after kind (callRun kind) g qs) _ _ (always kind g qs) q u n;
-  items-apart = λ g qs q. items-apart kind g (after kind (callRun kind) g qs) _ _ (always kind g qs) q;
-  dead-hold-nothing = λ g qs later q p e none.
-      none-left kind g (after kind (callRun kind) g (qs ++ (q ∷ later))) _ _ (always kind g (qs ++ (q ∷ later))) p (none-then kind (callRun kind) g qs later q p e none);
-  full-when = λ g qs q. full kind g (after kind (callRun kind) g qs) _ _ (always kind g qs) q;
-}
+pub stands : (kind : Kind) (g : Begun kind) (qs : List Ask) → Stands kind g (historyOf kind (ours kind) g qs) (after kind (ours kind) g qs)
+stands kind g qs =
+    let i = always kind g qs in
+    record {
+      sound-stays = record { image-sound = i .both .image-sound; list-long = i .both .list-long; list-sound = i .both .list-sound };
+      head-stays = head-kept kind g _ _ _ i;
+      list-is-grants = holds-same kind g _ _ _ i;
+      places-add-up = add-up kind g _ _ _ i;
+      blocks-are-groups = groups-counted kind g _ _ _ i;
+      figure-fixed = figure kind g _ _ _ i;
+    }
 
--- ---- every engine that on all inputs has the outcome of the rules meets both
+pub next : (kind : Kind) (g : Begun kind) (qs : List Ask) (q : Ask)
+    → Next kind g (historyOf kind (ours kind) g qs) (after kind (ours kind) g qs) q (outcomeAfter kind (ours kind) g qs q)
+unfolding outcomeAfter forgetful
+next kind g qs q =
+    let i = always kind g qs in
+    record {
+      figure-told = tells-figure kind g _ _ _ i q;
+      locked-stays = locked-stays kind g _ _ _ i q;
+      files-apart = files-apart kind g _ _ _ i q;
+      items-apart = items-apart kind g _ _ _ i q;
+      full-when = full kind g _ _ _ i q;
+    }
 
-pub meets-both : (kind : Kind) (e : Engine) → ((n p c : ℕ) (b : Buffers) → e n p c b ≡ callRun kind n p c b) → Demand2 kind e × Demand3 kind e
-unfolding Demand2
-meets-both kind e h = let q : callRun kind ≡ e = sym (λ i n p c b. h n p c b i) in (h, subst (λ (x : Engine). Demand3 kind x) q (rules-meet kind))
+pub dead-hold-nothing : (kind : Kind) (g : Begun kind) (qs later : List Ask) (q : Ask) (p : ℕ)
+    → deed (g .users) (event q (outcomeAfter kind (ours kind) g qs q .answer)) ≡ ends p
+    → anyOpenBy (g .users) p (eventsOf (ours kind) (qs ++ (q ∷ [])) later (kept (outcomeAfter kind (ours kind) g qs q))) ≡ false
+    → NoneLeft p (unpack (after kind (ours kind) g (qs ++ (q ∷ later)) .list)) (itemsOf kind g (historyOf kind (ours kind) g (qs ++ (q ∷ later))))
+dead-hold-nothing kind g qs later q p d none =
+    none-left kind g _ _ _ (always kind g (qs ++ (q ∷ later))) p (none-then kind (ours kind) g qs later q p d none)

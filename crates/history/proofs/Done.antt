@@ -17,17 +17,13 @@ use Rattle.rules.specs.declared.file.File.{File}
 use Rattle.rules.specs.declared.item.Item.{Item}
 use Rattle.rules.specs.declared.list.LockList.{LockList}
 use Rattle.rules.specs.declared.routine.Chosen.{Chosen}
-use Rattle.rules.specs.Serves.{Buffers, buffers, chosen}
+use Rattle.rules.specs.Serves.{chosen}
 use Rattle.rules.specs.Asks.{callerFile, newFile, recordOf}
 use Rattle.rules.specs.Locks.{unpack}
 use Rattle.history.specs.History.{Ask, State, event}
 use Rattle.history.specs.Deeds.{Deed, nothing, touches, tells, deedBy, doneIn, writesRun, deed, fileBy, newBy}
 use Rattle.history.specs.Held.{holding}
 use Rattle.history.specs.Groups.{Group, touchingRun, counting}
-
--- the buffers that a call is lent
-abbrev pub lent : Ask → State → Buffers
-lent q s = buffers (q .fcb) (q .dma) (s .list) (s .image)
 
 abbrev pub usersIn : State → List ℕ
 usersIn s = unpack (s .list) .users

@@ -1,14 +1,15 @@
 -- Demand 1: a refusal changes nothing; of several records, nothing but what the records done alone would. Assumes nothing.
-use Prim.Native.Nat.{ℕ, _+_, _*_, _≤_}
+use Prim.Native.Nat.{ℕ, _+_, _*_, _≤_, _<_}
 use mathlib.Core.Path.{_≡_, refl, sym, ap, _∙_}
 use mathlib.Core.Bool.{true, false}
 use mathlib.Core.Logic.{⊎-elim}
 use native.Mathlib.Omega.{arith}
 use Rattle.words.specs.Tests.{_if_else_}
 use Rattle.words.specs.Tables.{_∕_, firstOf, anyRow}
-use Rattle.words.proofs.Tests.{either}
+use borrow.Author.Tests.{lt-ltb, ltb-true}
+use Rattle.words.proofs.Tests.{either, and-fst, and-snd}
 use Rattle.words.proofs.Tables.{row-off, row-rest}
-use Rattle.words.proofs.Sets.{row-no}
+use Rattle.words.proofs.Sets.{row-no, and-both}
 use Rattle.rules.specs.declared.kind.Kind.{Kind}
 use Rattle.rules.specs.Serves.{Buffers, Outcome, outcome}
 use Rattle.rules.specs.Codes.{rowsAll}
@@ -17,8 +18,9 @@ use Rattle.rules.specs.Several.{Run, several, told, callRun}
 use Rattle.rules.proofs.Tables.{refused, accepted-zero}
 use Rattle.rules.proofs.Passed.{good-numbers, numbers-good}
 use Rattle.rules.proofs.Several.{several-none, run-told}
+use Rattle.history.specs.History.{Ask, State, withCount, isWord, isPossible, lent, outcomeOf}
 use Rattle.history.specs.Deeds.{doneIn}
-use Rattle.history.specs.Demands.{Demand1}
+use Rattle.history.specs.Demands.{NoTrace}
 use Rattle.history.proofs.Ways.{Way, answer-low, refuses-low, plain, barred, whole, partly, ways}
 
 -- the general table lets a shorter run pass too
@@ -62,8 +64,33 @@ module _ (kind : Kind) (n p c : ℕ) (b : Buffers) where
       let e : doneIn (code + 0 ∕ (16 * i)) ≡ i = omega arith in
       rw e (run-told kind n p i b (w .serves) (passes-fewer kind n p c i b (w .passes) (omega arith) (omega arith)) ∙ ap told (w .is))
 
-pub first-meet : (kind : Kind) → Demand1 (callRun kind)
-first-meet kind = record {
-  unchanged = λ n p c b. way-unchanged kind n p c b _ (ways kind n p c b);
-  no-trace = λ n p c b. way-no-trace kind n p c b _ (ways kind n p c b);
+pub leaves-no-trace : (kind : Kind) (q : Ask) (s : State) → NoTrace (callRun kind) q s
+unfolding outcomeOf
+leaves-no-trace kind q s = record {
+  unchanged = way-unchanged kind (q .function) (q .process) (q .count) (lent q s) _ (ways kind (q .function) (q .process) (q .count) (lent q s));
+  no-trace = way-no-trace kind (q .function) (q .process) (q .count) (lent q s) _ (ways kind (q .function) (q .process) (q .count) (lent q s));
 }
+
+-- ---- the call of just the records done is one that a host can make
+
+pub counted-possible : (q : Ask) (n : ℕ) → isPossible q ≡ true → n < 4294967296 → isPossible (withCount n q) ≡ true
+unfolding isPossible isWord
+counted-possible q n may h =
+    let a = and-snd _ _ may in
+    let b = and-snd _ _ a in
+    and-both _ _ (and-fst _ _ may) (and-both _ _ (and-fst _ _ a) (and-both _ _ (lt-ltb n 4294967296 h) (and-snd _ _ b)))
+
+way-fewer : (kind : Kind) (n p c : ℕ) (b : Buffers) (o : Outcome) → Way kind n p c b o → doneIn (o .answer) ≤ c
+way-fewer kind n p c b o (plain h) = let k = answer-low kind n p c b in omega arith
+way-fewer kind n p c b o (barred h code w) = let k = refuses-low kind n p c b code w in omega arith
+way-fewer kind n p c b o (whole left w) = omega arith
+way-fewer kind n p c b o (partly i m left w code r) = let low = refuses-low kind _ _ _ _ code r in omega arith
+
+pub fewer-possible : (kind : Kind) (q : Ask) (s : State) → isPossible q ≡ true → isPossible (withCount (doneIn (outcomeOf (callRun kind) q s .answer)) q) ≡ true
+unfolding outcomeOf
+fewer-possible kind q s may =
+    let k = way-fewer kind (q .function) (q .process) (q .count) (lent q s) _ (ways kind (q .function) (q .process) (q .count) (lent q s)) in
+    counted-possible q _ may (let m = run-small q may in omega arith)
+  where
+    run-small : (a : Ask) → isPossible a ≡ true → a .count < 4294967296
+    run-small a h = unfold isPossible isWord in ltb-true _ _ (and-fst _ _ (and-snd _ _ (and-snd _ _ h)))

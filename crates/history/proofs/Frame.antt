@@ -26,13 +26,15 @@ use Rattle.soundness.proofs.Leaves.{Leaf, listOf, fileBy, newBy, refused, reope
 
 pub record Framed (l k : LockList) : Type 0 where
   pub capacities : k .capacity ≡ l .capacity
+  pub openlimits : k .openlimit ≡ l .openlimit
+  pub locklimits : k .locklimit ≡ l .locklimit
   pub users : k .users ≡ l .users
 
 pub framed : (l : LockList) (xs : List Item) → Framed l (withItems l xs)
-framed l xs = record { capacities = refl; users = refl }
+framed l xs = record { capacities = refl; openlimits = refl; locklimits = refl; users = refl }
 
 same : (l : LockList) → Framed l l
-same l = record { capacities = refl; users = refl }
+same l = record { capacities = refl; openlimits = refl; locklimits = refl; users = refl }
 
 packed : (kind : Kind) (l k : LockList) (s : List ℕ) → SoundShape kind k s → Framed l k → Framed l (unpack (pack k))
 packed kind l k s h w = rw (unpacked kind k s (h .sound) (h .shape)) w
@@ -48,7 +50,7 @@ list-framed kind n p c b o (nowErased k ok w) = same (listOf b)
 list-framed kind n p c b o (nowRenamed k ok w) = same (listOf b)
 list-framed kind n p c b o (nowRead k ok dma) = same (listOf b)
 list-framed kind n p c b o (nowWritten k ok w zeros) = same (listOf b)
-list-framed kind n p c b o (nowRewritten k ok w some v full) = same (listOf b)
+list-framed kind n p c b o (nowRewritten k ok w some v full from) = same (listOf b)
 list-framed kind n p c b o (nowLocked k ok w) =
     packed kind (listOf b) _ (b .image) (locked-shape kind p c b ok w)
     (let r = running kind (b .image) (listOf b) p (fileBy p b) (recordOf (b .fcb)) c (shape-of kind p c b ok) (list-of kind p c b ok) (takes-of kind p c b ok w) c (omega arith) in
@@ -73,7 +75,7 @@ image-framed kind n p c b o (nowRenamed k ok w) = all-renamed kind (b .image) (f
 image-framed kind n p c b o (nowRead k ok dma) = refl
 image-framed kind n p c b o (nowWritten k ok w zeros) =
     written-long kind (b .image) _ (fileBy p b) (recordOf (b .fcb)) (written-of kind p c b ok w zeros (b .dma) (let d = ok .ready .dma-long in omega arith))
-image-framed kind n p c b o (nowRewritten k ok w some v full) = written-long kind (b .image) _ (fileBy p b) (recordOf (b .fcb)) (written-of kind p c b ok w false v full)
+image-framed kind n p c b o (nowRewritten k ok w some v full from) = written-long kind (b .image) _ (fileBy p b) (recordOf (b .fcb)) (written-of kind p c b ok w false v full)
 image-framed kind n p c b o (nowLocked k ok w) = refl
 image-framed kind n p c b o (lockIdle k ok w) = refl
 image-framed kind n p c b o (nowUnlocked k ok w) = refl

@@ -21,7 +21,7 @@ use Rattle.rules.specs.Drive.{highest}
 use Rattle.rules.proofs.Sound.{SoundImage, sound-of}
 use Rattle.rules.proofs.SoundList.{SoundLocks, list-sound-of}
 use Rattle.soundness.proofs.Taken.{caller-user}
-use Rattle.history.specs.History.{Ask, State, Begun, outcomeOf}
+use Rattle.history.specs.History.{Ask, State, Begun, outcomeOf, lent}
 use Rattle.history.specs.Deeds.{fileBy}
 use Rattle.history.specs.Held.{sameItem, isAmong}
 use Rattle.history.specs.Groups.{Group}
@@ -31,7 +31,7 @@ use Rattle.history.proofs.Locking.{lock-listed, listed-lock}
 use Rattle.history.proofs.AddsUp.{adds-up}
 use Rattle.history.proofs.Dead.{NoneBy, kind-by}
 use Rattle.history.proofs.Full.{answered-11, answered-14}
-use Rattle.history.proofs.Done.{lent, file-meant}
+use Rattle.history.proofs.Done.{file-meant}
 use Rattle.history.proofs.Run.{Inv}
 
 module _ (kind : Kind) (g : Begun kind) (s : State) (items : List Item) (groups : List Group) (i : Inv kind g s items groups) where
@@ -73,15 +73,15 @@ module _ (kind : Kind) (g : Begun kind) (s : State) (items : List Item) (groups 
   pub full : (q : Ask) → Full (g .capacity) (g .users) items q (outcomeOf (callRun kind) q s .answer)
   unfolding outcomeOf isUnheld isNew
   full q = record {
-    no-place = λ h. let a = none-free (answered-11 kind (q .function) (q .process) (q .run) (lent q s) h) in let b = add-up .adds in omega arith;
+    no-place = λ h. let a = none-free (answered-11 kind (q .function) (q .process) (q .count) (lent q s) h) in let b = add-up .adds in omega arith;
     too-few = λ h.
         let f = callerFile (q .process) l (q .fcb) in
-        let a : freePlaces l < count (isNew l (q .process) f (recordOf (q .fcb))) (q .run) =
-        ltb-true _ _ (answered-14 kind (q .function) (q .process) (q .run) (lent q s) h) in
+        let a : freePlaces l < count (isNew l (q .process) f (recordOf (q .fcb))) (q .count) =
+        ltb-true _ _ (answered-14 kind (q .function) (q .process) (q .count) (lent q s) h) in
         let b = add-up .adds in
         let e : fileBy (g .users) q ≡ f = ap (λ (us : List ℕ). fileBy us q) (sym (i .users)) ∙ file-meant q l in
-        let k : count (isNew l (q .process) f (recordOf (q .fcb))) (q .run) ≡ count (isUnheld items (q .process) (f .name) (recordOf (q .fcb))) (q .run) =
-        count-ext (isNew l (q .process) f (recordOf (q .fcb))) (isUnheld items (q .process) (f .name) (recordOf (q .fcb))) (q .run)
+        let k : count (isNew l (q .process) f (recordOf (q .fcb))) (q .count) ≡ count (isUnheld items (q .process) (f .name) (recordOf (q .fcb))) (q .count) =
+        count-ext (isNew l (q .process) f (recordOf (q .fcb))) (isUnheld items (q .process) (f .name) (recordOf (q .fcb))) (q .count)
         (λ j m. ap not (held-same (q .process) f (recordOf (q .fcb) + j) (caller-user (q .process) l (q .fcb)))) in
         rw e (omega arith);
   }

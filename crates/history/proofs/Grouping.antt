@@ -25,13 +25,13 @@ use Rattle.soundness.proofs.Taken.{caller-long}
 use Rattle.soundness.proofs.Ends.{image-of, made-of, renamed-file, written-of}
 use Rattle.rules.proofs.Passed.{Passed}
 use Rattle.soundness.proofs.Leaves.{Leaf, MayMake, MayWrite, imageWritten, refused, reopened, newlyOpened, newlyMade, nowClosed, nowErased, nowRenamed, nowRead, nowWritten, nowRewritten, nowLocked, lockIdle, nowUnlocked, unlockIdle, nowTold, nowEnded}
-use Rattle.history.specs.History.{Ask, State, event}
+use Rattle.history.specs.History.{Ask, State, event, lent}
 use Rattle.history.specs.Deeds.{deedBy, deed}
 use Rattle.history.specs.Groups.{Group, group, touching, touchingAt, touchingRun, counting}
 use Rattle.history.proofs.Positions.{Counted}
 use Rattle.history.proofs.Served.{writes-serve}
 use Rattle.history.proofs.Counting.{counted-grown, counted-old, touched-old, touched-new, new-none, dropped, carried-over}
-use Rattle.history.proofs.Done.{lent, usersIn, deed-done, count-refused, file-meant, new-meant}
+use Rattle.history.proofs.Done.{usersIn, deed-done, count-refused, file-meant, new-meant}
 
 -- a run of one record touches its group; a run of one more touches the next one's too
 touching-one : (kind : Kind) (f : File) (r : ℕ) (g : List Group) → touchingRun kind f r 1 g ≡ touching (group f (r / blockRecords kind)) g
@@ -51,7 +51,7 @@ module _ (kind : Kind) (q : Ask) (s : State) (g : List Group) (t : Counted kind 
   p = q .process
 
   abbrev c : ℕ
-  c = q .run
+  c = q .count
 
   abbrev b : Buffers
   b = lent q s
@@ -104,7 +104,7 @@ module _ (kind : Kind) (q : Ask) (s : State) (g : List Group) (t : Counted kind 
       let h = written-counted ok w zeros (one (writes-serve (q .function) k)) in
       ⊎-elim (λ (e : chosen (q .function) ≡ Call Write). rw (deed-done (usersIn s) q _ e, file-meant q l) h)
       (λ (e : chosen (q .function) ≡ Call WriteZeros). rw (deed-done (usersIn s) q _ e, file-meant q l) h) k
-  count-step one o low (nowRewritten k ok w some v full) = rw (deed-done (usersIn s) q _ k) (rewritten-counted ok w v full some)
+  count-step one o low (nowRewritten k ok w some v full from) = rw (deed-done (usersIn s) q _ k) (rewritten-counted ok w v full some)
   count-step one o low (nowLocked k ok w) = rw (deed-done (usersIn s) q _ k) t
   count-step one o low (lockIdle k ok w) = rw (deed-done (usersIn s) q _ k) t
   count-step one o low (nowUnlocked k ok w) = rw (deed-done (usersIn s) q _ k) t

@@ -19,7 +19,7 @@ use Rattle.history.proofs.Opened.{history, listed}
 
 -- a call of process 1 with that FCB and count, and its answer; one of count 1
 doesRun : ℕ → List ℕ → ℕ → ℕ → Event
-doesRun function fcb count answer = event (record { function = function; process = 1; run = count; fcb = fcb; dma = [] }) answer
+doesRun function fcb count answer = event (record { function = function; process = 1; count = count; fcb = fcb; dma = [] }) answer
 
 does : ℕ → List ℕ → ℕ → Event
 does function fcb answer = doesRun function fcb 1 answer

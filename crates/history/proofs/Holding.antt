@@ -29,13 +29,13 @@ use Rattle.soundness.proofs.Taken.{caller-long, caller-user, own-open, own-good
 use Rattle.soundness.proofs.Ends.{shape-of, list-of, takes-of}
 use Rattle.rules.proofs.Passed.{Passed}
 use Rattle.soundness.proofs.Leaves.{Leaf, openBy, modeBy, Idle, refused, reopened, newlyOpened, newlyMade, nowClosed, nowErased, nowRenamed, nowRead, nowWritten, nowRewritten, nowLocked, lockIdle, nowUnlocked, unlockIdle, nowTold, nowEnded}
-use Rattle.history.specs.History.{Ask, State, event}
+use Rattle.history.specs.History.{Ask, State, event, lent}
 use Rattle.history.specs.Deeds.{Deed, deedBy, deed}
 use Rattle.history.specs.Held.{sameItem, isAmong, granting, grantingRun, isBy, holding}
 use Rattle.history.proofs.Items.{alike-of, alike-so, granting-held, granting-new}
 use Rattle.history.proofs.Tallied.{Tally, held-listed, not-held, tally-set, tally-gone, tally-idle}
 use Rattle.history.proofs.Locking.{tally-run}
-use Rattle.history.proofs.Done.{lent, usersIn, deed-done, held-refused, file-meant}
+use Rattle.history.proofs.Done.{usersIn, deed-done, held-refused, file-meant}
 
 alike-open : (p : ℕ) (name : List ℕ) (mode : ℕ) (x : Item) → sameItem (freshOpen p name mode) x ≡ true → IsOpen p name x
 alike-open p name mode x h =
@@ -53,7 +53,7 @@ module _ (kind : Kind) (q : Ask) (s : State) (g : List Item) (t : Tally (unpack 
   p = q .process
 
   abbrev c : ℕ
-  c = q .run
+  c = q .count
 
   abbrev b : Buffers
   b = lent q s
@@ -167,7 +167,7 @@ module _ (kind : Kind) (q : Ask) (s : State) (g : List Item) (t : Tally (unpack 
   held-step o (nowWritten k ok w zeros) =
       ⊎-elim (λ (e : chosen (q .function) ≡ Call Write). rw (deed-done (usersIn s) q _ e) t)
       (λ (e : chosen (q .function) ≡ Call WriteZeros). rw (deed-done (usersIn s) q _ e) t) k
-  held-step o (nowRewritten k ok w some v full) = rw (deed-done (usersIn s) q _ k) t
+  held-step o (nowRewritten k ok w some v full from) = rw (deed-done (usersIn s) q _ k) t
   held-step o (nowLocked k ok w) =
       let h = locked-shape kind p c b ok w in
       let m : isAmong (freshOpen p (f .name) 1) g ≡ true = rw (w .is-unlocked) at (open-held ok (w .is-open)) in

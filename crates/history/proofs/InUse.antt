@@ -13,7 +13,7 @@ use Rattle.words.proofs.Counts.{count-ext, count-one, count-yes, count-not, cou
 use Rattle.words.proofs.Sets.{and-both, and-left, not-of-false, count-none}
 use Rattle.rules.specs.declared.kind.Kind.{Kind}
 use Rattle.rules.specs.Kinds.{entries, numbers}
-use Rattle.rules.specs.Drive.{highest, blocks, mapNumber, holds, names, isUsed}
+use Rattle.rules.specs.Drive.{highest, blocks, mapNumber, holdsNumber, namesBlock, isUsed}
 use Rattle.rules.proofs.Sizes.{flat-entry, flat-place, flat-both, flat-below}
 use Rattle.rules.proofs.Sound.{Names, SoundImage}
 use Rattle.history.specs.Groups.{isNumbered, isInUse, blocksInUse, allNumbers}
@@ -72,11 +72,11 @@ module _ (kind : Kind) (s : List ℕ) (g : SoundImage kind highest s) where
   number i = mapNumber kind s (i / numbers kind) (i % numbers kind)
 
   used-met : (b : ℕ) → 2 ≤ b → isUsed kind s b ≡ met number (isNumbered kind s) (blocks kind s) (allNumbers kind) (allNumbers kind) b
-  unfolding isUsed names holds met isNumbered
+  unfolding isUsed namesBlock holdsNumber met isNumbered
   used-met b l = same-test _ _
       (λ h.
-      let e = any-some (names kind s b) (entries kind) h in
-      let k = any-some (holds kind s b (e .0)) (numbers kind) (and-snd _ _ (e .2)) in
+      let e = any-some (namesBlock kind s b) (entries kind) h in
+      let k = any-some (holdsNumber kind s b (e .0)) (numbers kind) (and-snd _ _ (e .2)) in
       let q : mapNumber kind s (e .0) (k .0) ≡ b = eqb-true _ _ (k .2) in
       let m : e .0 < entries kind = e .1 in
       let j : k .0 < numbers kind = k .1 in
@@ -87,9 +87,9 @@ module _ (kind : Kind) (s : List ℕ) (g : SoundImage kind highest s) where
       (λ h.
       let w = any-some (λ (i : ℕ). isNumbered kind s i and eqb (number i) b) (allNumbers kind) h in
       let n = numbered-names kind s (w .0) (w .1) (and-fst _ _ (w .2)) in
-      any-found (names kind s b) (entries kind) (w .0 / numbers kind) (n .entry-there)
+      any-found (namesBlock kind s b) (entries kind) (w .0 / numbers kind) (n .entry-there)
       (and-both _ _ (not-of-false _ (n .entry-used))
-      (any-found (holds kind s b (w .0 / numbers kind)) (numbers kind) (w .0 % numbers kind) (n .place-there) (and-snd _ _ (w .2)))))
+      (any-found (holdsNumber kind s b (w .0 / numbers kind)) (numbers kind) (w .0 % numbers kind) (n .place-there) (and-snd _ _ (w .2)))))
 
   pub in-use : blocksInUse kind s ≡ count (isNumbered kind s) (allNumbers kind)
   unfolding blocksInUse isInUse

@@ -29,6 +29,7 @@ pub mod Plain
 pub mod Spared
 pub mod First
 pub mod Demands
-pub mod Claims
-pub mod Wrong
+pub mod Alike
 pub mod Histories
+pub mod Wrong
+pub mod Claims

@@ -1,15 +1,16 @@
 -- `unfolding history` opens what the history tells, and `unfolding listed` the session as listed. Assumes nothing.
 use Rattle.session.specs.Session.{session, orders, fcbWith, dmaWith, firstImage, firstList, imageWith, unwritten, writtenWith, listWith, openBy, lockBy, none, list0, list1, list3, list11, list12, image0, image2, image5}
-use Rattle.history.specs.History.{outcomeOf, stateAfter, eventsOf, after, historyOf}
+use Rattle.words.specs.Bytes.{areBytes}
+use Rattle.history.specs.History.{isWord, isLendable, isPossible, arePossible, isKept, forgetful, outcomeOf, stateAfter, eventsOf, after, historyOf, outcomeAfter}
 use Rattle.history.specs.Deeds.{fileBy, newBy, deedBy, writesRun, deed}
 use Rattle.history.specs.Held.{sameItem, tally, isAmong, granting, grantingAt, grantingRun, without, isBy, holding, heldAfter}
 use Rattle.history.specs.Groups.{sameGroup, isCounted, hasBlock, isNumbered, groupAt, groupsBelow, groupsOf, isInUse, blocksInUse, touching, touchingAt, touchingRun, ofFile, carried, counting, countedAfter}
-use Rattle.history.specs.Demands.{itemsOf, groupsBy, listAfter, isItemAt, sumBelow, itemsBy, figureIn, isUnheld, outcomeAfter, deedAfter}
+use Rattle.history.specs.Demands.{itemsOf, groupsBy, isItemAt, sumBelow, itemsBy, figureIn, isUserOf, isUnheld}
 
 unfoldable pub history : Unit {0}
-unfolding outcomeOf stateAfter eventsOf after historyOf fileBy newBy deedBy writesRun deed sameItem tally isAmong granting grantingAt grantingRun
+unfolding areBytes isWord isLendable isPossible arePossible isKept forgetful outcomeOf stateAfter eventsOf after historyOf outcomeAfter fileBy newBy deedBy writesRun deed sameItem tally isAmong granting grantingAt grantingRun
     without isBy holding heldAfter sameGroup isCounted hasBlock isNumbered groupAt groupsBelow groupsOf isInUse blocksInUse touching touchingAt
-    touchingRun ofFile carried counting countedAfter itemsOf groupsBy listAfter isItemAt sumBelow itemsBy figureIn isUnheld outcomeAfter deedAfter
+    touchingRun ofFile carried counting countedAfter itemsOf groupsBy isItemAt sumBelow itemsBy figureIn isUserOf isUnheld
 history = tt
 
 unfoldable pub listed : Unit {0}

@@ -24,7 +24,7 @@ use Rattle.rules.proofs.SoundList.{GoodOpen, GoodLock, Used, Vacant, isPlain, u
 use Rattle.soundness.proofs.Blocks.{At, at-of, blocks-same}
 use Rattle.soundness.proofs.Kept.{SoundBoth, call-sound}
 use Rattle.soundness.proofs.Walk.{walk}
-use Rattle.history.specs.History.{Ask, State, Begun, outcomeOf}
+use Rattle.history.specs.History.{Ask, State, Begun, outcomeOf, lent}
 use Rattle.history.specs.Held.{isAmong}
 use Rattle.history.specs.Groups.{Group, hasBlock}
 use Rattle.history.specs.Demands.{Unchanged, isUnder, FilesApart, ItemsApart}
@@ -33,7 +33,6 @@ use Rattle.history.proofs.Tallied.{listed-held}
 use Rattle.history.proofs.Seen.{Seen}
 use Rattle.history.proofs.Unharmed.{seen-leaf, unchanged}
 use Rattle.history.proofs.Apart.{Others, others-leaf, items-leaf}
-use Rattle.history.proofs.Done.{lent}
 use Rattle.history.proofs.Grants.{image-sound, list-sound}
 use Rattle.history.proofs.Run.{Inv}
 use Rattle.history.proofs.Frame.{image-framed}
@@ -45,23 +44,23 @@ module _ (kind : Kind) (g : Begun kind) (s : State) (items : List Item) (groups 
   -- 7
   pub items-kept : (q : Ask) → ItemsApart (q .process) (unpack (s .list)) (unpack (outcomeOf (call kind) q s .left .list))
   unfolding outcomeOf
-  items-kept q = items-leaf kind (q .function) (q .process) (q .run) (lent q s) _ (walk kind (q .function) (q .process) (q .run) (lent q s))
+  items-kept q = items-leaf kind (q .function) (q .process) (q .count) (lent q s) _ (walk kind (q .function) (q .process) (q .count) (lent q s))
 
   -- the state after a call
   next : (q : Ask) → SoundBoth kind (outcomeOf (call kind) q s .left .list) (outcomeOf (call kind) q s .left .image)
   unfolding outcomeOf
-  next q = call-sound kind (q .function) (q .process) (q .run) (lent q s) (i .both)
+  next q = call-sound kind (q .function) (q .process) (q .count) (lent q s) (i .both)
 
   user-of : (p : ℕ) → userOf (unpack (s .list)) p ≡ byte (g .users) p
   user-of p = ap (λ (us : List ℕ). byte us p) (i .users)
 
   long-after : (q : Ask) → length (outcomeOf (call kind) q s .left .image) ≡ length (s .image)
   unfolding outcomeOf
-  long-after q = image-framed kind (q .function) (q .process) (q .run) (lent q s) _ (walk kind (q .function) (q .process) (q .run) (lent q s))
+  long-after q = image-framed kind (q .function) (q .process) (q .count) (lent q s) _ (walk kind (q .function) (q .process) (q .count) (lent q s))
 
   others : (q : Ask) → Others kind (s .image) (outcomeOf (call kind) q s .left .image) (userOf (unpack (s .list)) (q .process))
   unfolding outcomeOf
-  others q = others-leaf kind (q .function) (q .process) (q .run) (lent q s) sound _ (walk kind (q .function) (q .process) (q .run) (lent q s))
+  others q = others-leaf kind (q .function) (q .process) (q .count) (lent q s) sound _ (walk kind (q .function) (q .process) (q .count) (lent q s))
 
   entry-part : (t : List ℕ) (e : ℕ) → e < entries kind → length t ≡ length (s .image) → Same (s .image) e t e → part (32 * e) 32 t ≡ part (32 * e) 32 (s .image)
   entry-part t e m long h =
@@ -98,7 +97,7 @@ module _ (kind : Kind) (g : Begun kind) (s : State) (items : List Item) (groups 
   unfolding outcomeOf isPlain
   locked q p name r long among n =
       let l = unpack (s .list) in
-      let t = call kind (q .function) (q .process) (q .run) (lent q s) .left .image in
+      let t = call kind (q .function) (q .process) (q .count) (lent q s) .left .image in
       let f : File = record { user = byte (g .users) p; name = name } in
       let x = listed-held l items (i .tallied) (freshLock p name r) (λ (z : _≡_ {A = ℕ} 2 0). absurd (omega arith)) among in
       let j = x .0 in
@@ -116,14 +115,14 @@ module _ (kind : Kind) (g : Begun kind) (s : State) (items : List Item) (groups 
       let b = blockOf kind (s .image) (fileOf l (itemAt l j)) (itemAt l j .number) in
       let at = at-of kind (s .image) (fileOf l (itemAt l j)) (itemAt l j .number) nl (k .block) in
       let seen =
-      seen-leaf kind (q .function) (q .process) (q .run) (lent q s) j (x .1) (λ z. n (sym (w .processes ∙ z))) two sound b at _
-      (walk kind (q .function) (q .process) (q .run) (lent q s)) in
+      seen-leaf kind (q .function) (q .process) (q .count) (lent q s) j (x .1) (λ z. n (sym (w .processes ∙ z))) two sound b at _
+      (walk kind (q .function) (q .process) (q .count) (lent q s)) in
       let pl = v .plain in
       let p15 : itemAt l j .process ≤ 15 = leb-true _ _ (and-fst _ _ pl) in
       let p16 : p ≤ 15 = (let z : p ≡ itemAt l j .process = w .processes in omega arith) in
       let at′ = subst (λ (z : ℕ). At kind (s .image) f z b) er (subst (λ (h : File). At kind (s .image) h (itemAt l j .number) b) ef at) in
       let seen′ = subst (λ (z : ℕ). Seen kind (s .image) t f z b) er (subst (λ (h : File). Seen kind (s .image) t h (itemAt l j .number) b) ef seen) in
-      let after = call-sound kind (q .function) (q .process) (q .run) (lent q s) (i .both) .image-sound in
+      let after = call-sound kind (q .function) (q .process) (q .count) (lent q s) (i .both) .image-sound in
       unchanged kind (byte (g .users) p) name r b (s .image) t sound (sound-of kind highest t after) (i .both .image-sound) after
       (rw (← (user-of p)) (user-fits l p (list-sound kind g s items groups i .limits) (omega arith)))
       long (rw en at (and-fst _ _ (and-snd _ _ pl))) (rw en at (and-fst _ _ (and-snd _ _ (and-snd _ _ pl)))) at′ seen′

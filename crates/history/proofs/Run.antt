@@ -16,7 +16,7 @@ use Rattle.rules.specs.Call.{call}
 use Rattle.rules.specs.Several.{servesRun}
 use Rattle.soundness.proofs.Kept.{SoundBoth, call-sound}
 use Rattle.soundness.proofs.Walk.{walk}
-use Rattle.history.specs.History.{Ask, State, Begun, outcomeOf, kept, event, firstState}
+use Rattle.history.specs.History.{Ask, State, Begun, outcomeOf, kept, event, firstState, lent}
 use Rattle.history.specs.Deeds.{deed}
 use Rattle.history.specs.Held.{tally, holding}
 use Rattle.history.specs.Groups.{Group, counting, groupsOf}
@@ -26,7 +26,7 @@ use Rattle.history.proofs.Solid.{Solid, solid-holding}
 use Rattle.history.proofs.Tallied.{Tally, passesAt}
 use Rattle.history.proofs.Positions.{Counted, start-counted}
 use Rattle.history.proofs.Ways.{answer-low}
-use Rattle.history.proofs.Done.{lent, usersIn}
+use Rattle.history.proofs.Done.{usersIn}
 use Rattle.history.proofs.Holding.{held-step}
 use Rattle.history.proofs.Grouping.{count-step}
 use Rattle.history.proofs.Frame.{list-framed, image-framed}
@@ -36,6 +36,8 @@ pub record Inv (kind : Kind) (g : Begun kind) (s : State) (items : List Item) (g
   pub both : SoundBoth kind (s .list) (s .image)
   pub users : usersIn s ≡ g .users
   pub capacity : unpack (s .list) .capacity ≡ g .capacity
+  pub openlimit : unpack (s .list) .openlimit ≡ g .openlimit
+  pub locklimit : unpack (s .list) .locklimit ≡ g .locklimit
   pub long : length (s .image) ≡ length (g .image)
   pub tallied : Tally (unpack (s .list)) items
   pub once : Once items
@@ -55,6 +57,8 @@ module _ (kind : Kind) (g : Begun kind) where
     both = begun-sound kind g;
     users = ap (λ (l : LockList). l .users) (begun-list kind g);
     capacity = ap (λ (l : LockList). l .capacity) (begun-list kind g);
+    openlimit = ap (λ (l : LockList). l .openlimit) (begun-list kind g);
+    locklimit = ap (λ (l : LockList). l .locklimit) (begun-list kind g);
     long = refl;
     tallied = begun-tally;
     once = record { once = λ x. omega arith };
@@ -63,23 +67,25 @@ module _ (kind : Kind) (g : Begun kind) where
   }
 
   -- one plain call, of 33, 34 and 40 with count 1
-  pub step-inv : (q : Ask) (s : State) (items : List Item) (groups : List Group) → Inv kind g s items groups → (servesRun (q .function) ≡ true → q .run ≡ 1)
+  pub step-inv : (q : Ask) (s : State) (items : List Item) (groups : List Group) → Inv kind g s items groups → (servesRun (q .function) ≡ true → q .count ≡ 1)
       → Inv kind g (kept (outcomeOf (call kind) q s)) (holding (deed (g .users) (event q (outcomeOf (call kind) q s .answer))) items)
       (counting kind (deed (g .users) (event q (outcomeOf (call kind) q s .answer))) groups)
   unfolding outcomeOf
   step-inv q s items groups i one =
-      let o : Outcome = call kind (q .function) (q .process) (q .run) (lent q s) in
-      let w = walk kind (q .function) (q .process) (q .run) (lent q s) in
-      let f = list-framed kind (q .function) (q .process) (q .run) (lent q s) o w in
+      let o : Outcome = call kind (q .function) (q .process) (q .count) (lent q s) in
+      let w = walk kind (q .function) (q .process) (q .count) (lent q s) in
+      let f = list-framed kind (q .function) (q .process) (q .count) (lent q s) o w in
       record {
-        both = call-sound kind (q .function) (q .process) (q .run) (lent q s) (i .both);
+        both = call-sound kind (q .function) (q .process) (q .count) (lent q s) (i .both);
         users = f .users ∙ i .users;
         capacity = f .capacities ∙ i .capacity;
-        long = image-framed kind (q .function) (q .process) (q .run) (lent q s) o w ∙ i .long;
+        openlimit = f .openlimits ∙ i .openlimit;
+        locklimit = f .locklimits ∙ i .locklimit;
+        long = image-framed kind (q .function) (q .process) (q .count) (lent q s) o w ∙ i .long;
         tallied = subst (λ (us : List ℕ). Tally (unpack (o .left .list)) (holding (deed us (event q (o .answer))) items)) (i .users)
             (held-step kind q s items (i .tallied) o w);
         once = once-holding _ items (i .once);
         solid = solid-holding _ items (i .solid);
         counted = subst (λ (us : List ℕ). Counted kind (o .left .image) (counting kind (deed us (event q (o .answer))) groups)) (i .users)
-            (count-step kind q s groups (i .counted) one o (answer-low kind (q .function) (q .process) (q .run) (lent q s)) w);
+            (count-step kind q s groups (i .counted) one o (answer-low kind (q .function) (q .process) (q .count) (lent q s)) w);
       }

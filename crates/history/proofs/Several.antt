@@ -22,22 +22,19 @@ use Rattle.rules.proofs.Tables.{nonzero-all, answer-is}
 use Rattle.rules.proofs.Passed.{passed}
 use Rattle.rules.proofs.Singles.{Runs, isRead, isWrite, isZeros, run-chosen, fcb-number, fcb-from}
 use Rattle.rules.proofs.Several.{Steps, begun, done, stopped, idle, steps}
-use Rattle.history.specs.History.{Ask, State, Begun, state, outcomeOf, kept, event}
+use Rattle.history.specs.History.{Ask, State, withCount, Begun, state, outcomeOf, kept, event, lent}
 use Rattle.history.specs.Deeds.{Deed, nothing, touches, deedBy, doneIn, writesRun, deed, fileBy}
 use Rattle.history.specs.Held.{holding}
 use Rattle.history.specs.Groups.{Group, touchingRun, counting}
 use Rattle.history.proofs.Served.{of-three}
 use Rattle.history.proofs.Ways.{Ran}
-use Rattle.history.proofs.Done.{lent, deed-done, deed-refused}
+use Rattle.history.proofs.Done.{deed-done, deed-refused}
 use Rattle.history.proofs.Grouping.{touching-more}
 use Rattle.history.proofs.Run.{Inv, step-inv}
 
--- the call with another count; the single call for the record at distance i, from the buffers that the records before it left
-abbrev pub ofRun : ℕ → Ask → Ask
-ofRun n q = record { function = q .function; process = q .process; run = n; fcb = q .fcb; dma = q .dma }
-
+-- the single call for the record at distance i, from the buffers that the records before it left
 abbrev askAt : Ask → ℕ → Buffers → Ask
-askAt q i b = record { function = q .function; process = q .process; run = 1; fcb = fcbAt i (b .fcb); dma = dmaAt i (b .dma) }
+askAt q i b = record { function = q .function; process = q .process; count = 1; fcb = fcbAt i (b .fcb); dma = dmaAt i (b .dma) }
 
 abbrev pub stateIn : Buffers → State
 stateIn b = state (b .list) (b .image)
@@ -45,13 +42,13 @@ stateIn b = state (b .list) (b .image)
 -- ---- what it did is what an accepted call of just the records done does
 
 touched-or-none : (users : List ℕ) (q : Ask) (i n : ℕ) → servesRun n ≡ true
-    → (touches (fileBy users q) (recordOf (q .fcb)) i if writesRun n else nothing) ≡ deedBy (chosen n) users (ofRun i q)
+    → (touches (fileBy users q) (recordOf (q .fcb)) i if writesRun n else nothing) ≡ deedBy (chosen n) users (withCount i q)
 unfolding writesRun chosen deedBy fileBy _or_ _if_else_
 touched-or-none users q i n h =
-    of-three (λ (m : ℕ). (touches (fileBy users q) (recordOf (q .fcb)) i if writesRun m else nothing) ≡ deedBy (chosen m) users (ofRun i q)) refl refl refl n h
+    of-three (λ (m : ℕ). (touches (fileBy users q) (recordOf (q .fcb)) i if writesRun m else nothing) ≡ deedBy (chosen m) users (withCount i q)) refl refl refl n h
 
 pub deed-partly : (users : List ℕ) (q : Ask) (code i : ℕ) → servesRun (q .function) ≡ true → (code ≡ 0 → ⊥) → code < 4096
-    → deed users (event q (code + 0 ∕ (16 * i))) ≡ deedBy (chosen (q .function)) users (ofRun i q)
+    → deed users (event q (code + 0 ∕ (16 * i))) ≡ deedBy (chosen (q .function)) users (withCount i q)
 deed-partly users q code i h z low =
     let e : doneIn (code + 0 ∕ (16 * i)) ≡ i = omega arith in
     deed-refused users q (code + 0 ∕ (16 * i)) (λ (y : code + 0 ∕ (16 * i) ≡ 0). z (omega arith))
@@ -66,7 +63,7 @@ held-run k isWrite users q g = refl
 held-run k isZeros users q g = refl
 
 -- .. and counts record by record
-count-none : (kind : Kind) (k : Chosen) → Runs k → (users : List ℕ) (q : Ask) (g : List Group) → counting kind (deedBy k users (ofRun 0 q)) g ≡ g
+count-none : (kind : Kind) (k : Chosen) → Runs k → (users : List ℕ) (q : Ask) (g : List Group) → counting kind (deedBy k users (withCount 0 q)) g ≡ g
 unfolding counting deedBy touchingRun turns
 count-none kind k isRead users q g = refl
 count-none kind k isWrite users q g = refl
@@ -83,7 +80,7 @@ module _ (kind : Kind) (users : List ℕ) (q : Ask) (i : ℕ) (b : Buffers) (g :
       (touching-more kind (fileBy users q) (recordOf (q .fcb)) i g)
 
   count-more : (k : Chosen) → Runs k
-      → counting kind (deedBy k users (askAt q i b)) (counting kind (deedBy k users (ofRun i q)) g) ≡ counting kind (deedBy k users (ofRun (suc i) q)) g
+      → counting kind (deedBy k users (askAt q i b)) (counting kind (deedBy k users (withCount i q)) g) ≡ counting kind (deedBy k users (withCount (suc i) q)) g
   unfolding counting deedBy fileBy
   count-more k isRead = refl
   count-more k isWrite = touched-more
@@ -100,7 +97,7 @@ module _ (kind : Kind) (g : Begun kind) (q : Ask) (s : State) (items : List Item
 
   -- what i records done did
   abbrev deedTo : ℕ → Deed
-  deedTo i = deedBy (chosen n) (g .users) (ofRun i q)
+  deedTo i = deedBy (chosen n) (g .users) (withCount i q)
 
   module _ (h : servesRun n ≡ true) (long : length (q .fcb) ≡ 36) where
     one-more : (i : ℕ) (b : Buffers) → b .fcb ≡ q .fcb → call kind n p 1 (single i b) .answer ≡ 0 → Inv kind g (stateIn b) items (counting kind (deedTo i) groups)
@@ -134,17 +131,17 @@ module _ (kind : Kind) (g : Begun kind) (q : Ask) (s : State) (items : List Item
 
   -- ---- where i records of the call are done
 
-  module _ (i : ℕ) (left : Buffers) (w : Ran kind n p (q .run) (lent q s) i left) where
+  module _ (i : ℕ) (left : Buffers) (w : Ran kind n p (q .count) (lent q s) i left) where
     long : length (q .fcb) ≡ 36
     long =
-        let quiet = zero-none (rowsAll kind n p (q .run) (lent q s)) (nonzero-all kind n p (q .run) (lent q s)) (w .passes) in
-        passed kind n p (q .run) (lent q s) quiet .ready .fcb-long
+        let quiet = zero-none (rowsAll kind n p (q .count) (lent q s)) (nonzero-all kind n p (q .count) (lent q s)) (w .passes) in
+        passed kind n p (q .count) (lent q s) quiet .ready .fcb-long
 
     taken : Steps kind n p (lent q s) i (run 0 i left)
     taken = rw (w .is) at (steps kind n p (lent q s) i)
 
     pub ran-inv : Inv kind g (stateIn left) (holding (deedTo i) items) (counting kind (deedTo i) groups)
-    ran-inv = rw (held-run (chosen n) (run-chosen n (w .serves)) (g .users) (ofRun i q) items) (inv-to (w .serves) long i (run 0 i left) taken .1)
+    ran-inv = rw (held-run (chosen n) (run-chosen n (w .serves)) (g .users) (withCount i q) items) (inv-to (w .serves) long i (run 0 i left) taken .1)
 
     pub ran-each : (R : State → State → Type 0) → R s s → ((t v : State) → R s t → R t v → R s v)
         → ((a : Ask) (t : State) (gs : List Group) → a .process ≡ p → Inv kind g t items gs → R t (kept (outcomeOf (call kind) a t))) → R s (stateIn left)

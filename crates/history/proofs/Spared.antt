@@ -1,26 +1,31 @@
 -- Every call leaves alone what plain calls do: theorems 6 and 7. Assumes nothing.
 use Prim.Native.Nat.{ℕ, _+_, _*_}
 use mathlib.Core.Path.{_≡_, refl, sym, ap, subst, _∙_}
-use mathlib.Core.Bool.{true, not}
+use mathlib.Core.Bool.{true, false, not}
 use mathlib.Core.List.{List}
 use mathlib.Core.Logic.{inl, inr, ⊎-elim}
 use native.Mathlib.Omega.{arith}
 use lib.ListN.{length}
-use lib.Dec.{eqb}
+use lib.Dec.{leb, ltb, eqb}
+use borrow.Author.Tests.{ltb-false, eq-eqb, le-leb}
 use Rattle.words.specs.Tests.{_and_}
 use Rattle.words.specs.Bytes.{byte, part}
+use Rattle.words.proofs.Tests.{either, or-case}
+use Rattle.words.proofs.Sets.{and-both, or-left}
 use Rattle.words.proofs.Bytes.{part-byte}
 use Rattle.rules.specs.declared.kind.Kind.{Kind}
 use Rattle.rules.specs.declared.item.Item.{Item}
 use Rattle.rules.specs.declared.list.LockList.{LockList}
 use Rattle.rules.specs.Drive.{isEmpty, recordAt}
 use Rattle.rules.specs.Locks.{itemAt, unpack, freshLock}
+use Rattle.rules.specs.Codes.{badNumbers}
 use Rattle.rules.specs.Call.{call}
 use Rattle.rules.specs.Several.{callRun}
-use Rattle.history.specs.History.{Ask, State, Begun, outcomeOf}
+use Rattle.rules.proofs.Told.{bad-numbers}
+use Rattle.history.specs.History.{Ask, State, Begun, lent, outcomeOf}
 use Rattle.history.specs.Held.{isAmong}
 use Rattle.history.specs.Groups.{Group, hasBlock}
-use Rattle.history.specs.Demands.{Unchanged, isUnder, FilesApart, isAnothers, ItemsApart}
+use Rattle.history.specs.Demands.{Unchanged, isUnder, isUserOf, FilesApart, isAnothers, ItemsApart}
 use Rattle.history.proofs.Run.{Inv}
 use Rattle.history.proofs.Calls.{call-each}
 use Rattle.history.proofs.Plain.{locked, files-kept, items-kept}
@@ -38,6 +43,9 @@ under-same u s t e h =
   where
     first : (v : List ℕ) → byte (part (32 * e) 32 v) 0 ≡ byte v (32 * e)
     first v = let z : 32 * e + 0 ≡ 32 * e = omega arith in part-byte v (32 * e) 32 0 (omega arith) ∙ ap (λ (n : ℕ). byte v n) z
+
+files-same : (kind : Kind) (u : ℕ) (s : List ℕ) → FilesApart kind u s s
+files-same kind u s = record { entry-same = λ e m c. refl; block-same = λ f r e l. refl; bytes-same = λ f r e l h. refl }
 
 files-then : (kind : Kind) (u : ℕ) (s t v : List ℕ) → FilesApart kind u s t → FilesApart kind u t v → FilesApart kind u s v
 unfolding hasBlock
@@ -80,12 +88,23 @@ module _ (kind : Kind) (g : Begun kind) (s : State) (items : List Item) (groups 
       (λ a t gs e w. locked kind g t items gs w a p name r long among (λ z. n (sym e ∙ z)))
 
   -- 7
-  pub files-apart : (u : ℕ) → (byte (g .users) (q .process) ≡ u → ⊥) → FilesApart kind u (s .image) (outcomeOf (callRun kind) q s .left .image)
-  files-apart u n =
+  own-apart : (u : ℕ) → (byte (g .users) (q .process) ≡ u → ⊥) → FilesApart kind u (s .image) (outcomeOf (callRun kind) q s .left .image)
+  own-apart u n =
       call-each kind g q s items groups i (λ (t v : State). FilesApart kind u (t .image) (v .image))
-      (record { entry-same = λ e m c. refl; block-same = λ f r e l. refl; bytes-same = λ f r e l h. refl })
+      (files-same kind u (s .image))
       (λ t v. files-then kind u (s .image) (t .image) (v .image))
       (λ a t gs e w. files-kept kind g t items gs w a u (λ z. n (ap (λ (p : ℕ). byte (g .users) p) (sym e) ∙ z)))
+
+  -- a process over 15 has no user: its call is refused
+  pub files-apart : (u : ℕ) → (isUserOf (g .users) (q .process) u ≡ true → ⊥) → FilesApart kind u (s .image) (outcomeOf (callRun kind) q s .left .image)
+  unfolding isUserOf outcomeOf badNumbers
+  files-apart u n =
+      ⊎-elim
+      (λ (h : ltb (q .process) 16 ≡ true). own-apart u (λ e. n (and-both _ _ h (eq-eqb _ _ e))))
+      (λ (h : ltb (q .process) 16 ≡ false).
+      let over : badNumbers (q .function) (q .process) (q .count) (q .fcb) (q .dma) (s .list) ≡ true = or-case _ _ (λ z. or-left (leb 16 (q .process)) _ (le-leb 16 (q .process) (ltb-false (q .process) 16 h))) in
+      rw (bad-numbers kind (q .function) (q .process) (q .count) (lent q s) over) (files-same kind u (s .image)))
+      (either (ltb (q .process) 16))
 
   pub items-apart : ItemsApart (q .process) (unpack (s .list)) (unpack (outcomeOf (callRun kind) q s .left .list))
   items-apart =

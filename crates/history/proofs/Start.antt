@@ -10,7 +10,7 @@ use lib.Dec.{eqb}
 use borrow.Author.Tests.{eqb-true, eqb-false, le-leb, not-false, ne-eqb}
 use Rattle.words.specs.Tests.{_and_, _if_else_, all, count}
 use Rattle.words.specs.Lists.{tab, flat}
-use Rattle.words.specs.Bytes.{le}
+use Rattle.words.specs.Bytes.{le, areBytes}
 use Rattle.words.specs.Tables.{_∕_, firstOf}
 use Rattle.words.proofs.Tests.{either, any-never, or-fst, or-snd}
 use Rattle.words.proofs.Lists.{tab-getD}
@@ -24,6 +24,7 @@ use Rattle.rules.specs.Locks.{places, placeSize, blank, emptyPlace, itemAt, fir
 use Rattle.rules.proofs.Items.{clash-none}
 use Rattle.rules.proofs.SoundList.{Shape, Limits, SoundLocks, unpacked, list-sound-so}
 use Rattle.rules.proofs.Packing.{pack-long}
+use Rattle.soundness.proofs.InBytes.{pack-bytes}
 use Rattle.soundness.proofs.Kept.{SoundBoth}
 use Rattle.history.specs.History.{Begun, firstState}
 
@@ -104,8 +105,8 @@ module _ (kind : Kind) (g : Begun kind) where
   abbrev pub first : LockList
   first = fresh (g .capacity) (g .openlimit) (g .locklimit) (g .users)
 
-  abbrev told : Started (g .capacity) (g .openlimit) (g .locklimit) (g .users) (g .lent)
-  told = started (g .capacity) (g .openlimit) (g .locklimit) (g .users) (g .lent) (g .accepted)
+  abbrev told : Started (g .capacity) (g .openlimit) (g .locklimit) (g .users) (g .given)
+  told = started (g .capacity) (g .openlimit) (g .locklimit) (g .users) (g .given) (g .accepted)
 
   first-is : firstState kind g .list ≡ pack first
   first-is = told .written ∙ sym (fresh-packed (g .capacity) (g .openlimit) (g .locklimit) (g .users) (told .users-long))
@@ -125,6 +126,9 @@ module _ (kind : Kind) (g : Begun kind) where
     list-long = pack-long first (first-shape .items-long);
     list-sound = list-sound-so kind first (g .image) first-sound first-shape;
   })
+
+  pub begun-bytes : areBytes (firstState kind g .list) ≡ true
+  begun-bytes = rw first-is (pack-bytes kind first (g .image) first-sound first-shape)
 
   pub begun-empty : (i : ℕ) → i < 64 → itemAt first i .kind ≡ 0
   begun-empty i m = ap (λ (it : Item). it .kind) (fresh-at i m (g .capacity) (g .openlimit) (g .locklimit) (g .users))

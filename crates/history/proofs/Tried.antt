@@ -19,7 +19,7 @@ use Rattle.history.specs.Demands.{isItemAt, sumBelow, itemsBy, isUnheld,
 use Rattle.history.proofs.Opened.{history, listed}
 
 asked : Step → Ask
-asked x = record { function = x .function; process = x .process; run = x .count; fcb = fcbWith (x .number); dma = dmaWith (x .id) }
+asked x = record { function = x .function; process = x .process; count = x .count; fcb = fcbWith (x .recordNumber); dma = dmaWith (x .id) }
 
 told : Line → Event
 told x = event (asked (x .asks)) (x .gives .answer)

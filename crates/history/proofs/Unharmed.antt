@@ -104,7 +104,7 @@ module _ (kind : Kind) (n q c : ℕ) (b : Buffers) (i : ℕ) (inside : i < 64) (
       seen-all kind s _ f r block g (d .len) at (d .past) (at-forth kind s _ (fileBy q b) (newBy q b) f (renamed-touch kind q c b ok w) (apart ok (w .unopened)) r block at)
   seen-leaf o (nowRead k ok dma) = still
   seen-leaf o (nowWritten k ok w zeros) = seen-write ok w zeros (b .dma) (let d = ok .ready .dma-long in omega arith)
-  seen-leaf o (nowRewritten k ok w some v full) = seen-write ok w false v full
+  seen-leaf o (nowRewritten k ok w some v full from) = seen-write ok w false v full
   seen-leaf o (nowLocked k ok w) = still
   seen-leaf o (lockIdle k ok w) = still
   seen-leaf o (nowUnlocked k ok w) = still

@@ -1,46 +1,124 @@
--- What is claimed of an engine: a field for each promise, under the customer's sentence. Assumes nothing.
-use Prim.Native.Nat.{ℕ, _%_}
+-- What is claimed: a field for each promise, under the customer's sentence, in the customer's numbering. `proofs/Claims` gives the whole record.
+-- What goes beyond the customer's text is marked with a plus. Assumes nothing.
+use Prim.Native.Nat.{ℕ, _+_, _*_, _%_, _≤_, _<_}
 use mathlib.Core.Path.{_≡_}
-use mathlib.Core.Bool.{true}
+use mathlib.Core.Bool.{true, false}
+use mathlib.Core.List.{List, _∷_, _++_}
 use mathlib.Core.Logic.{_⊎_}
-use Rattle.words.specs.Tables.{_∕_}
+use lib.ListN.{length, replicate}
+use Rattle.words.specs.Bytes.{areBytes}
+use Rattle.words.specs.Tables.{Row, _∕_, _when_, firstOf, anyRow}
 use Rattle.rules.specs.declared.kind.Kind.{Kind}
 use Rattle.rules.specs.declared.kind.Kind.the-variants.{Small, Large}
-use Rattle.rules.specs.Serves.{Buffers, outcome}
-use Rattle.rules.specs.Drive.{highest, soundImage}
-use Rattle.rules.specs.Call.{call}
+use Rattle.rules.specs.declared.kind.Told.the-variants.{Known}
+use Rattle.rules.specs.declared.list.LockList.{LockList}
+use Rattle.rules.specs.Kinds.{toldKind, entries}
+use Rattle.rules.specs.Serves.{Buffers, Outcome, outcome, Did, chosen, listSize}
+use Rattle.rules.specs.Drive.{highest, entrySize, recordSize, fileFrom, soundImage}
+use Rattle.rules.specs.Locks.{Started, pack, unpack, soundLocks, soundList, start}
+use Rattle.rules.specs.Call.{asked, rowsCall, effectOf, call}
 use Rattle.rules.specs.Several.{callSingly}
-use Rattle.history.specs.History.{Engine}
+use Rattle.rules.specs.Look.{lookAt}
+use Rattle.rules.specs.Told.{callTold, checkTold, lookTold}
+use Rattle.session.specs.Session.{AsListed, session, firstImage, firstList}
+use Rattle.history.specs.History.{Ask, State, Engine, isWord, EachCall, lent, outcomeOf, withCount}
 use Rattle.history.specs.Demands.{Demand1, Demand2, Demand3}
+use Rattle.history.specs.Wrong.{refusing, accepting, idle, pretending, madeUp, unbitted, lavish, promoting}
 
--- ---- of an engine on drives of one kind
+-- ---- Of an engine on drives of one kind
 
 pub record Claims (kind : Kind) (e : Engine) : Type 0 where
-  -- "A refusal leaves all buffers unchanged." T-07: "the refused record and those after it leave no trace".
+  -- 1. "A refusal leaves all buffers unchanged." T-07: "the refused record and those after it leave no trace".
   pub demand-1 : Demand1 e
-  -- "A call is accepted exactly when none of the refusals applies, and then has exactly the effect given there; otherwise it
+  -- 2. "A call is accepted exactly when none of the refusals applies, and then has exactly the effect given there; otherwise it
   -- gives the first refusal that applies."
   pub demand-2 : Demand2 kind e
-  -- "From a sound image and a fresh list, after every sequence of calls .." T-07: "demand 3 counts the records done".
+  -- 3. "From a sound image and a fresh list, after every sequence of calls .." T-07: "demand 3 counts the records done".
   pub demand-3 : Demand3 kind e
   -- T-07: "Those four bits apart, its answer and all buffers must equal those of single calls made one after another", ..
-  pub as-singly-left : (n p c : ℕ) (b : Buffers) → e n p c b .left ≡ callSingly kind n p c b .left
-  pub as-singly-code : (n p c : ℕ) (b : Buffers) → e n p c b .answer % (0 ∕ 16) ≡ callSingly kind n p c b .answer
-  -- .. and with count 1 it is the single call.
-  pub one-record : (n p : ℕ) (b : Buffers) → e n p 1 b ≡ call kind n p 1 b
+  pub as-singly-left : EachCall (λ (before : List Ask) (q : Ask) (s : State). outcomeOf (e before) q s .left ≡ outcomeOf (callSingly kind) q s .left)
+  pub as-singly-code : EachCall (λ (before : List Ask) (q : Ask) (s : State). outcomeOf (e before) q s .answer % (0 ∕ 16) ≡ outcomeOf (callSingly kind) q s .answer)
+  -- .. + and with count 1 it is the single call.
+  pub one-record : EachCall (λ (before : List Ask) (q : Ask) (s : State). outcomeOf (e before) (withCount 1 q) s ≡ outcomeOf (call kind) (withCount 1 q) s)
 
--- ---- of the engine that is told the kind by a number
+-- ---- Of an engine that is told the kind by a number
 
--- told the number k, it refuses the buffers as they stand, with 255/13 or 255/1
-unfoldable pub Refuses : (ℕ → Engine) → ℕ → Buffers → Type 0
-Refuses e k b = (n p c : ℕ) → (e k n p c b ≡ outcome (255 ∕ 13) b) ⊎ (e k n p c b ≡ outcome (255 ∕ 1) b)
+-- What `mpm_call` promises, word for word, of numbers of 32 bits and buffers of bytes.
+unfoldable pub KeepsContract : (ℕ → Engine) → Type 0
+KeepsContract e = (k : ℕ) → isWord k ≡ true → EachCall (λ (before : List Ask) (q : Ask) (s : State).
+    Did (callTold (toldKind k) (q .function) (q .process) (q .count) (lent q s)) (outcomeOf (e k before) q s .answer)
+    (outcomeOf (e k before) q s .left .fcb) (outcomeOf (e k before) q s .left .dma) (outcomeOf (e k before) q s .left .list) (outcomeOf (e k before) q s .left .image))
+
+-- told the number k, it refuses the call, with 255/13 or 255/1, and leaves all buffers as they were
+unfoldable pub Refuses : (ℕ → Engine) → ℕ → List Ask → Ask → State → Type 0
+Refuses e k before q s = (outcomeOf (e k before) q s ≡ outcome (255 ∕ 13) (lent q s)) ⊎ (outcomeOf (e k before) q s ≡ outcome (255 ∕ 1) (lent q s))
 
 pub record ToldClaims (e : ℕ → Engine) : Type 0 where
   -- T-09: "0 the first, 1 this one"
   pub first-kind : Claims Small (e 0)
   pub second-kind : Claims Large (e 1)
   -- "255/13 also for an unknown kind"
-  pub unknown-kind : (k : ℕ) → (k ≡ 0 → ⊥) → (k ≡ 1 → ⊥) → (n p c : ℕ) (b : Buffers) → e k n p c b ≡ outcome (255 ∕ 13) b
+  pub unknown-kind : (k : ℕ) → (k ≡ 0 → ⊥) → (k ≡ 1 → ⊥) → isWord k ≡ true
+      → EachCall (λ (before : List Ask) (q : Ask) (s : State). outcomeOf (e k before) q s ≡ outcome (255 ∕ 13) (lent q s))
   -- "A book of one kind must never be read as the other"
-  pub first-as-second : (b : Buffers) → soundImage Small highest (b .image) ≡ true → Refuses e 1 b
-  pub second-as-first : (b : Buffers) → soundImage Large highest (b .image) ≡ true → Refuses e 0 b
+  pub first-as-second : EachCall (λ (before : List Ask) (q : Ask) (s : State). soundImage Small highest (s .image) ≡ true → Refuses e 1 before q s)
+  pub second-as-first : EachCall (λ (before : List Ask) (q : Ask) (s : State). soundImage Large highest (s .image) ≡ true → Refuses e 0 before q s)
+
+-- ---- Of the rules
+
+-- "Shut out by demand 2: an engine refusing everything, one answering 0/0 to everything, one that answers well but stores nothing.
+-- Demand 3 too stops the last, at the first Make, and one that does the first call's work and then pretends. A made-up figure from
+-- 46 fails demand 2, and demand 3 ties the true one to the history."
+pub record WrongFall : Type 0 where
+  pub refusing-differs : Demand2 Small refusing → ⊥
+  pub accepting-differs : Demand2 Small accepting → ⊥
+  pub idle-differs : Demand2 Small (idle Small) → ⊥
+  pub not-idle : Demand3 Small (idle Small) → ⊥
+  pub not-pretending : Demand3 Small (pretending Small) → ⊥
+  pub made-up-differs : (figure : ℕ) → figure < 16777216 → Demand2 Small (madeUp Small figure) → ⊥
+  pub not-made-up : (figure : ℕ) → figure < 16777216 → Demand3 Small (madeUp Small figure) → ⊥
+  -- + (T-07) the four bits are needed; "let only the engine change them" (the limits and users of the list) means: as Start wrote them
+  pub not-unbitted : Demand3 Small (unbitted Small) → ⊥
+  pub not-lavish : Demand3 Small (lavish Small) → ⊥
+  pub not-promoting : Demand3 Small (promoting Small) → ⊥
+
+-- "Calls S0 to S13 below are proved as one listed session over the written rules"; the list is the one that Start gives for 3, 2, 2
+-- and sixteen zeros, whatever stood in it.
+pub record TheSession : Type 0 where
+  pub first-list : (list : List ℕ) → length list ≡ listSize → start 3 2 2 (replicate 16 0) list ≡ record { answer = 0 ∕ 0; list = firstList }
+  pub as-listed : AsListed firstList firstImage session
+
+-- "Codes, in the order tested": a call is one table and one effect.
+pub record Tables : Type 0 where
+  pub accepted : (kind : Kind) (n p c : ℕ) (b : Buffers) → anyRow (rowsCall kind n p c b) ≡ false → call kind n p c b ≡ effectOf (chosen n) (asked kind p c b) b
+  pub accepted-zero : (kind : Kind) (n p c : ℕ) (b : Buffers) → anyRow (rowsCall kind n p c b) ≡ false → call kind n p c b .answer ≡ 0 ∕ 0
+  pub refused : (kind : Kind) (n p c : ℕ) (b : Buffers) → anyRow (rowsCall kind n p c b) ≡ true → call kind n p c b ≡ outcome (firstOf (rowsCall kind n p c b)) b
+  pub zero-accepted : (kind : Kind) (n p c : ℕ) (b : Buffers) → call kind n p c b .answer ≡ 0 ∕ 0 → anyRow (rowsCall kind n p c b) ≡ false
+
+-- + What is packed and unpacked again is the same, of the lists that a sound list can be.
+pub record RoundTrips : Type 0 where
+  pub pack-unpack : (kind : Kind) (list s : List ℕ) → length list ≡ listSize → areBytes list ≡ true → soundList kind highest list s ≡ true → pack (unpack list) ≡ list
+  pub unpack-pack : (kind : Kind) (list s : List ℕ) → soundList kind highest list s ≡ true → unpack (pack (unpack list)) ≡ unpack list
+
+-- "Look .. out comes that 128-byte part of the image itself": it lies past the directory and inside the image, ..
+pub record LookClaims : Type 0 where
+  pub inside : (kind : Kind) (user : ℕ) (name : List ℕ) (r : ℕ) (s : List ℕ) → (lookAt kind highest user name r s ≡ 0 → ⊥)
+      → (entrySize * entries kind ≤ lookAt kind highest user name r s) × (lookAt kind highest user name r s + recordSize ≤ length s)
+  -- .. + and two of them do not overlap, unless they are the same record of the same file.
+  pub apart : (kind : Kind) (u v : ℕ) (m n : List ℕ) (r q : ℕ) (s : List ℕ) → (lookAt kind highest u m r s ≡ 0 → ⊥) → (lookAt kind highest v n q s ≡ 0 → ⊥)
+      → ((fileFrom u m 0 ≡ fileFrom v n 0) × (r ≡ q))
+      ⊎ ((lookAt kind highest u m r s + recordSize ≤ lookAt kind highest v n q s) ⊎ (lookAt kind highest v n q s + recordSize ≤ lookAt kind highest u m r s))
+  -- T-09: told the other kind, the image check answers 1 and Look shows an empty part.
+  pub other-check : (own other : Kind) → (own ≡ other → ⊥) → (s : List ℕ) → soundImage own highest s ≡ true → checkTold (Known other) s ≡ 1
+  pub other-look : (own other : Kind) → (own ≡ other → ⊥) → (s : List ℕ) → soundImage own highest s ≡ true
+      → (user : ℕ) (name : List ℕ) (r : ℕ) → lookTold (Known other) user name r s ≡ 0
+
+-- ---- All of it
+
+pub record AllClaims : Type 0 where
+  pub engine : (e : ℕ → Engine) → KeepsContract e → ToldClaims e
+  pub wrong-fall : WrongFall
+  pub the-session : TheSession
+  pub tables : Tables
+  pub round-trips : RoundTrips
+  pub looks : LookClaims

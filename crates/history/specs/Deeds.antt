@@ -1,4 +1,4 @@
--- What a call did, told by the call and its answer alone. Nothing else asks whether an answer is 0/0 to know what a call did. Assumes nothing.
+-- What a call did, told by the call and its answer alone. Assumes nothing.
 use Prim.Native.Nat.{ℕ, _/_}
 use mathlib.Core.Bool.{Bool}
 use mathlib.Core.List.{List}
@@ -45,11 +45,11 @@ deedBy (Call Delete) users q = drops (fileBy users q)
 deedBy (Call Make) users q = opens (q .process) (fileBy users q) (makeMode (q .fcb))
 deedBy (Call Rename) users q = carries (fileBy users q) (newBy users q)
 deedBy (Call Read) users q = nothing
-deedBy (Call Write) users q = touches (fileBy users q) (recordOf (q .fcb)) (q .run)
-deedBy (Call WriteZeros) users q = touches (fileBy users q) (recordOf (q .fcb)) (q .run)
+deedBy (Call Write) users q = touches (fileBy users q) (recordOf (q .fcb)) (q .count)
+deedBy (Call WriteZeros) users q = touches (fileBy users q) (recordOf (q .fcb)) (q .count)
 deedBy (Call TestWrite) users q = nothing
-deedBy (Call Lock) users q = locks (q .process) (fileBy users q) (recordOf (q .fcb)) (q .run)
-deedBy (Call Unlock) users q = unlocks (q .process) (fileBy users q) (recordOf (q .fcb)) (q .run)
+deedBy (Call Lock) users q = locks (q .process) (fileBy users q) (recordOf (q .fcb)) (q .count)
+deedBy (Call Unlock) users q = unlocks (q .process) (fileBy users q) (recordOf (q .fcb)) (q .count)
 deedBy (Call FreeSpace) users q = tells
 deedBy (Call Terminate) users q = ends (q .process)
 deedBy Unknown users q = nothing

@@ -4,8 +4,8 @@ use mathlib.Core.Path.{_≡_}
 use mathlib.Core.Bool.{Bool, true, false, not}
 use mathlib.Core.List.{List, [], _∷_, _++_}
 use mathlib.Core.Logic.{_⊎_}
-use lib.ListN.{length}
-use lib.Dec.{eqb}
+use lib.ListN.{length, take}
+use lib.Dec.{ltb, eqb}
 use Rattle.words.specs.Tests.{_and_, count}
 use Rattle.words.specs.Bytes.{byte, part, put, le}
 use Rattle.words.specs.Tables.{_∕_}
@@ -16,42 +16,40 @@ use Rattle.rules.specs.declared.item.Item.{Item}
 use Rattle.rules.specs.declared.list.LockList.{LockList}
 use Rattle.rules.specs.Serves.{Buffers, Outcome, outcome, processes, listSize}
 use Rattle.rules.specs.Drive.{highest, entrySize, blocks, recordSize, recordAt, isEmpty, userByte, blockOf, freeBlocks, soundImage}
-use Rattle.rules.specs.Locks.{places, itemAt, unpack, freshLock, isKindBy, opensBy, locksBy, isEmptyAt, freePlaces, soundList}
+use Rattle.rules.specs.Locks.{anEmpty, anOpen, aLock, places, itemAt, unpack, freshLock, isKindBy, opensBy, locksBy, isEmptyAt, freePlaces, soundList}
 use Rattle.rules.specs.Asks.{recordOf}
 use Rattle.rules.specs.Look.{look}
 use Rattle.rules.specs.Several.{callRun}
-use Rattle.history.specs.History.{Engine, Ask, State, Begun, outcomeOf, kept, eventsOf, after, historyOf, event}
-use Rattle.history.specs.Deeds.{Deed, ends, tells, deed, doneIn, fileBy}
+use Rattle.history.specs.History.{Ask, State, Serving, Engine, Event, Begun, withCount, isPossible, arePossible, EachCall, lent, outcomeOf, kept, eventsOf, event, after, historyOf, outcomeAfter}
+use Rattle.history.specs.Deeds.{ends, tells, deed, doneIn, fileBy}
 use Rattle.history.specs.Held.{sameItem, tally, isAmong, isBy, heldAfter, anyOpenBy}
 use Rattle.history.specs.Groups.{Group, groupOf, hasBlock, isCounted, groupsOf, blocksInUse, countedAfter}
 
 -- ---- Demand 1: a refusal leaves all four buffers unchanged. Of several records the refused one and those after it leave no
 -- trace: what is left is what a call of just the records done leaves, and that call is accepted.
 
-pub record Demand1 (e : Engine) : Type 0 where
-  pub unchanged : (n p c : ℕ) (b : Buffers)
-      → (e n p c b .answer ≡ 0 ∕ 0 → ⊥) → doneIn (e n p c b .answer) ≡ 0 → e n p c b .left ≡ b
-  pub no-trace : (n p c : ℕ) (b : Buffers)
-      → (doneIn (e n p c b .answer) ≡ 0 → ⊥) → e n p (doneIn (e n p c b .answer)) b ≡ outcome (0 ∕ 0) (e n p c b .left)
+pub record NoTrace (e : Serving) (q : Ask) (s : State) : Type 0 where
+  pub unchanged : (outcomeOf e q s .answer ≡ 0 ∕ 0 → ⊥) → doneIn (outcomeOf e q s .answer) ≡ 0 → outcomeOf e q s .left ≡ lent q s
+  pub no-trace : (doneIn (outcomeOf e q s .answer) ≡ 0 → ⊥)
+      → outcomeOf e (withCount (doneIn (outcomeOf e q s .answer)) q) s ≡ outcome (0 ∕ 0) (outcomeOf e q s .left)
+
+unfoldable pub Demand1 : Engine → Type 0
+Demand1 e = EachCall (λ (before : List Ask) (q : Ask) (s : State). NoTrace (e before) q s)
 
 -- ---- Demand 2: for each input one outcome, that of the rules
 
 unfoldable pub Demand2 : Kind → Engine → Type 0
-Demand2 kind e = (n p c : ℕ) (b : Buffers) → e n p c b ≡ callRun kind n p c b
+Demand2 kind e = EachCall (λ (before : List Ask) (q : Ask) (s : State). outcomeOf (e before) q s ≡ outcomeOf (callRun kind) q s)
 
--- ---- What the history says
+-- ---- What a history says
 
 -- the items that it holds
-unfoldable pub itemsOf : (kind : Kind) → Engine → Begun kind → List Ask → List Item
-itemsOf kind e g qs = heldAfter (g .users) (historyOf kind e g qs) []
+unfoldable pub itemsOf : (kind : Kind) → Begun kind → List Event → List Item
+itemsOf kind g es = heldAfter (g .users) es []
 
 -- the groups that it counts
-unfoldable pub groupsBy : (kind : Kind) → Engine → Begun kind → List Ask → List Group
-groupsBy kind e g qs = countedAfter kind (g .users) (historyOf kind e g qs) (groupsOf kind (g .image))
-
--- the list that stands after the calls
-unfoldable pub listAfter : (kind : Kind) → Engine → Begun kind → List Ask → LockList
-listAfter kind e g qs = unpack (after kind e g qs .list)
+unfoldable pub groupsBy : (kind : Kind) → Begun kind → List Event → List Group
+groupsBy kind g es = countedAfter kind (g .users) es (groupsOf kind (g .image))
 
 -- ---- 1. Sound stays sound: after every call the image and the list are sound again.
 
@@ -60,7 +58,12 @@ pub record SoundState (kind : Kind) (s : State) : Type 0 where
   pub list-long : length (s .list) ≡ listSize
   pub list-sound : soundList kind highest (s .list) (s .image) ≡ true
 
--- ---- 2. The list holds just the opens and record locks that the history granted and no later Close, Unlock or process end took
+-- ---- 2. Bytes 0 to 18 of the list are those that Start wrote: the three limits and the users. ..
+
+pub record HeadStays {kind : Kind} (g : Begun kind) (s : State) : Type 0 where
+  pub head : take 19 (s .list) ≡ g .capacity ∷ g .openlimit ∷ g .locklimit ∷ g .users
+
+-- .. The list holds just the opens and record locks that the history granted and no later Close, Unlock or process end took
 -- back, each as often as the history holds it, that is once.
 
 unfoldable pub isItemAt : Item → LockList → ℕ → Bool
@@ -85,8 +88,8 @@ itemsBy l p = opensBy l p + locksBy l p
 pub record AddUp (capacity : ℕ) (l : LockList) (items : List Item) : Type 0 where
   pub adds : length items + freePlaces l ≡ capacity
   pub beyond : (i : ℕ) → capacity ≤ i → i < places → isEmptyAt l i ≡ true
-  pub opens-by : (p : ℕ) → opensBy l p ≡ tally (isKindBy 1 p) items
-  pub locks-by : (p : ℕ) → locksBy l p ≡ tally (isKindBy 2 p) items
+  pub opens-by : (p : ℕ) → opensBy l p ≡ tally (isKindBy anOpen p) items
+  pub locks-by : (p : ℕ) → locksBy l p ≡ tally (isKindBy aLock p) items
   pub sum : length items ≡ sumBelow (itemsBy l) processes
 
 -- ---- 4. The blocks in use are as many as the groups that the history counts, and a group has a block exactly when the history
@@ -120,7 +123,11 @@ pub record Unchanged (kind : Kind) (user : ℕ) (name : List ℕ) (r : ℕ) (s t
 unfoldable pub isUnder : ℕ → List ℕ → ℕ → Bool
 isUnder u s e = not (isEmpty s e) and eqb (userByte s e) u
 
--- s before a call of a process whose user is another than u, t after it
+-- the process is one of the sixteen, and its user is u
+unfoldable pub isUserOf : List ℕ → ℕ → ℕ → Bool
+isUserOf users p u = ltb p processes and eqb (byte users p) u
+
+-- s before a call of a process whose user is not u, t after it
 pub record FilesApart (kind : Kind) (u : ℕ) (s t : List ℕ) : Type 0 where
   pub entry-same : (e : ℕ) → e < entries kind → (isUnder u s e ≡ true) ⊎ (isUnder u t e ≡ true)
       → part (entrySize * e) entrySize t ≡ part (entrySize * e) entrySize s
@@ -130,7 +137,7 @@ pub record FilesApart (kind : Kind) (u : ℕ) (s t : List ℕ) : Type 0 where
 
 -- .. and no item of another process.
 unfoldable pub isAnothers : ℕ → Item → Bool
-isAnothers p it = not (eqb (it .kind) 0) and not (eqb (it .process) p)
+isAnothers p it = not (eqb (it .kind) anEmpty) and not (eqb (it .process) p)
 
 -- l before a call of process p, k after it
 pub record ItemsApart (p : ℕ) (l k : LockList) : Type 0 where
@@ -153,46 +160,47 @@ isUnheld items p name r k = not (isAmong (freshLock p name (r + k)) items)
 pub record Full (capacity : ℕ) (users : List ℕ) (items : List Item) (q : Ask) (answer : ℕ) : Type 0 where
   pub no-place : answer ≡ 255 ∕ 11 → length items ≡ capacity
   pub too-few : answer ≡ 14 ∕ 0
-      → capacity < length items + count (isUnheld items (q .process) (fileBy users q .name) (recordOf (q .fcb))) (q .run)
+      → capacity < length items + count (isUnheld items (q .process) (fileBy users q .name) (recordOf (q .fcb))) (q .count)
 
--- ---- Demand 3: for every beginning g, every list of calls qs, and every call q after them
+-- ---- Demand 3
 
--- the image after the calls, and after one more; the answer of that one, and what it did
-abbrev pub imageAfter : (kind : Kind) → Engine → Begun kind → List Ask → List ℕ
-imageAfter kind e g qs = after kind e g qs .image
-
-unfoldable pub outcomeAfter : (kind : Kind) → Engine → Begun kind → List Ask → Ask → Outcome
-outcomeAfter kind e g qs q = outcomeOf e q (after kind e g qs)
-
-unfoldable pub deedAfter : (kind : Kind) → Engine → Begun kind → List Ask → Ask → Deed
-deedAfter kind e g qs q = deed (g .users) (event q (outcomeAfter kind e g qs q .answer))
-
-pub record Demand3 (kind : Kind) (e : Engine) : Type 0 where
+-- what stands after the events es of a history that began with g: the list and the image in s
+pub record Stands (kind : Kind) (g : Begun kind) (es : List Event) (s : State) : Type 0 where
   -- 1
-  pub sound-stays : (g : Begun kind) (qs : List Ask) → SoundState kind (after kind e g qs)
+  pub sound-stays : SoundState kind s
   -- 2
-  pub list-is-grants : (g : Begun kind) (qs : List Ask) (x : Item)
-      → (x .kind ≡ 0 → ⊥) → Holds x (listAfter kind e g qs) (itemsOf kind e g qs)
+  pub head-stays : HeadStays g s
+  pub list-is-grants : (x : Item) → (x .kind ≡ anEmpty → ⊥) → Holds x (unpack (s .list)) (itemsOf kind g es)
   -- 3
-  pub places-add-up : (g : Begun kind) (qs : List Ask) → AddUp (g .capacity) (listAfter kind e g qs) (itemsOf kind e g qs)
+  pub places-add-up : AddUp (g .capacity) (unpack (s .list)) (itemsOf kind g es)
   -- 4
-  pub blocks-are-groups : (g : Begun kind) (qs : List Ask) → Groups kind (imageAfter kind e g qs) (groupsBy kind e g qs)
+  pub blocks-are-groups : Groups kind (s .image) (groupsBy kind g es)
   -- 5
-  pub figure-fixed : (g : Begun kind) (qs : List Ask) → Figure kind (blocks kind (g .image)) (imageAfter kind e g qs) (groupsBy kind e g qs)
-  pub figure-told : (g : Begun kind) (qs : List Ask) (q : Ask)
-      → deedAfter kind e g qs q ≡ tells → outcomeAfter kind e g qs q .left .dma ≡ figureIn kind (blocks kind (g .image)) (groupsBy kind e g qs) (q .dma)
+  pub figure-fixed : Figure kind (blocks kind (g .image)) (s .image) (groupsBy kind g es)
+
+-- and of one more call q, whose outcome is o
+pub record Next (kind : Kind) (g : Begun kind) (es : List Event) (s : State) (q : Ask) (o : Outcome) : Type 0 where
+  -- 5
+  pub figure-told : deed (g .users) (event q (o .answer)) ≡ tells
+      → o .left .dma ≡ figureIn kind (blocks kind (g .image)) (groupsBy kind g es) (q .dma)
   -- 6
-  pub locked-stays : (g : Begun kind) (qs : List Ask) (q : Ask) (p : ℕ) (name : List ℕ) (r : ℕ)
-      → length name ≡ 11 → isAmong (freshLock p name r) (itemsOf kind e g qs) ≡ true → (q .process ≡ p → ⊥)
-      → Unchanged kind (byte (g .users) p) name r (imageAfter kind e g qs) (outcomeAfter kind e g qs q .left .image)
+  pub locked-stays : (p : ℕ) (name : List ℕ) (r : ℕ)
+      → length name ≡ 11 → isAmong (freshLock p name r) (itemsOf kind g es) ≡ true → (q .process ≡ p → ⊥)
+      → Unchanged kind (byte (g .users) p) name r (s .image) (o .left .image)
   -- 7
-  pub files-apart : (g : Begun kind) (qs : List Ask) (q : Ask) (u : ℕ)
-      → (byte (g .users) (q .process) ≡ u → ⊥) → FilesApart kind u (imageAfter kind e g qs) (outcomeAfter kind e g qs q .left .image)
-  pub items-apart : (g : Begun kind) (qs : List Ask) (q : Ask)
-      → ItemsApart (q .process) (listAfter kind e g qs) (unpack (outcomeAfter kind e g qs q .left .list))
+  pub files-apart : (u : ℕ) → (isUserOf (g .users) (q .process) u ≡ true → ⊥) → FilesApart kind u (s .image) (o .left .image)
+  pub items-apart : ItemsApart (q .process) (unpack (s .list)) (unpack (o .left .list))
+  -- 8
+  pub full-when : Full (g .capacity) (g .users) (itemsOf kind g es) q (o .answer)
+
+-- for every beginning g, every list of calls qs, every call q after them and all calls later than that
+pub record Demand3 (kind : Kind) (e : Engine) : Type 0 where
+  pub stands : (g : Begun kind) (qs : List Ask) → arePossible qs ≡ true → Stands kind g (historyOf kind e g qs) (after kind e g qs)
+  pub next : (g : Begun kind) (qs : List Ask) (q : Ask) → arePossible qs ≡ true → isPossible q ≡ true
+      → Next kind g (historyOf kind e g qs) (after kind e g qs) q (outcomeAfter kind e g qs q)
   -- 8
   pub dead-hold-nothing : (g : Begun kind) (qs later : List Ask) (q : Ask) (p : ℕ)
-      → deedAfter kind e g qs q ≡ ends p → anyOpenBy (g .users) p (eventsOf e later (kept (outcomeAfter kind e g qs q))) ≡ false
-      → NoneLeft p (listAfter kind e g (qs ++ (q ∷ later))) (itemsOf kind e g (qs ++ (q ∷ later)))
-  pub full-when : (g : Begun kind) (qs : List Ask) (q : Ask)
-      → Full (g .capacity) (g .users) (itemsOf kind e g qs) q (outcomeAfter kind e g qs q .answer)
+      → arePossible (qs ++ (q ∷ later)) ≡ true
+      → deed (g .users) (event q (outcomeAfter kind e g qs q .answer)) ≡ ends p
+      → anyOpenBy (g .users) p (eventsOf e (qs ++ (q ∷ [])) later (kept (outcomeAfter kind e g qs q))) ≡ false
+      → NoneLeft p (unpack (after kind e g (qs ++ (q ∷ later)) .list)) (itemsOf kind g (historyOf kind e g (qs ++ (q ∷ later))))

@@ -6,7 +6,7 @@ use lib.Dec.{eqb}
 use Rattle.words.specs.Tests.{_and_, _or_, _if_else_}
 use Rattle.words.specs.Lists.{turns}
 use Rattle.rules.specs.declared.item.Item.{Item}
-use Rattle.rules.specs.Locks.{freshOpen, freshLock, unlocked, sameName}
+use Rattle.rules.specs.Locks.{freshOpen, freshLock, modeUnlocked, sameName}
 use Rattle.rules.specs.Effects.{isOfFile, isInRun}
 use Rattle.history.specs.History.{Event}
 use Rattle.history.specs.Deeds.{Deed, nothing, opens, closes, locks, unlocks, ends, touches, drops, carries, tells, deed}
@@ -49,7 +49,7 @@ unfoldable pub holding : Deed → List Item → List Item
 holding nothing g = g
 holding (opens p f mode) g = granting (freshOpen p (f .name) mode) g
 holding (closes p f) g = without (isOfFile p f) g
-holding (locks p f r n) g = grantingRun p (f .name) r n g if isAmong (freshOpen p (f .name) unlocked) g else g
+holding (locks p f r n) g = grantingRun p (f .name) r n g if isAmong (freshOpen p (f .name) modeUnlocked) g else g
 holding (unlocks p f r n) g = without (isInRun p f r n) g
 holding (ends p) g = without (isBy p) g
 holding (touches f r n) g = g

@@ -11,7 +11,7 @@ use Rattle.rules.specs.declared.file.File.{File}
 use Rattle.rules.specs.declared.item.Item.{Item}
 use Rattle.rules.specs.declared.list.LockList.{LockList}
 use Rattle.rules.specs.Drive.{highest, legalName, lookUp, missing, blockOf}
-use Rattle.rules.specs.Locks.{unlocked, itemAt, fileOf, isLow, goodEmpty, openOf, opensUnlocked, isKindByAt, isLimit, isUser}
+use Rattle.rules.specs.Locks.{anEmpty, anOpen, aLock, modeUnlocked, itemAt, fileOf, isLow, goodEmpty, openOf, opensUnlocked, isKindByAt, isLimit, isUser}
 use Rattle.rules.specs.declared.kind.Kind.{Kind}
 
 -- the file that an item names, of each process's user
@@ -24,25 +24,25 @@ openAlone kind s users it = leb (it .mode) 2 and eqb (it .number) 0 and not (mis
 
 -- a lock: mode 1, its record has a block
 unfoldable pub lockAlone : Kind → List ℕ → List ℕ → Item → Bool
-lockAlone kind s users it = eqb (it .mode) unlocked and not (eqb (blockOf kind s (fileBy users it) (it .number)) 0)
+lockAlone kind s users it = eqb (it .mode) modeUnlocked and not (eqb (blockOf kind s (fileBy users it) (it .number)) 0)
 
 -- an item: a process to 15, a legal name with high bits zero, a record below 262,144
 unfoldable pub itemAlone : Kind → List ℕ → List ℕ → Item → Bool
 itemAlone kind s users it =
     leb (it .process) 15 and legalName (it .name) 0 and all (isLow (it .name)) 11 and leb (it .number) highest
-    and (openAlone kind s users it if eqb (it .kind) 1 else lockAlone kind s users it)
+    and (openAlone kind s users it if eqb (it .kind) anOpen else lockAlone kind s users it)
 
 -- a place: empty, or below the capacity with an item
 unfoldable pub placeAlone : Kind → List ℕ → List ℕ → ℕ → ℕ → Item → Bool
 placeAlone kind s users capacity i it =
-    goodEmpty it if eqb (it .kind) 0 else (ltb i capacity and leb (it .kind) 2 and itemAlone kind s users it)
+    goodEmpty it if eqb (it .kind) anEmpty else (ltb i capacity and leb (it .kind) aLock and itemAlone kind s users it)
 
 unfoldable pub placeAloneAt : Kind → List ℕ → LockList → ℕ → Bool
 placeAloneAt kind s l i = placeAlone kind s (l .users) (l .capacity) i (itemAt l i)
 
 -- a lock's process has that file open unlocked
 unfoldable pub lockOpened : LockList → Item → Bool
-lockOpened l it = opensUnlocked l (openOf l (it .process) (fileOf l it)) if eqb (it .kind) 2 else true
+lockOpened l it = opensUnlocked l (openOf l (it .process) (fileOf l it)) if eqb (it .kind) aLock else true
 
 unfoldable pub lockOpenedAt : LockList → ℕ → Bool
 lockOpenedAt l i = lockOpened l (itemAt l i)

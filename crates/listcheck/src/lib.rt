@@ -1,5 +1,5 @@
 // The list check: the lock list is sound against the image.
-pub mod apart;
+mod apart;
 pub mod check;
-pub mod limits;
-pub mod place;
+mod limits;
+mod place;

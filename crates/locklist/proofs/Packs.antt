@@ -13,7 +13,7 @@ use Rattle.words.proofs.Bytes.{length-put}
 use Rattle.words.proofs.Items.{take-put, flat-more}
 use Rattle.rules.specs.declared.item.Item.{Item}
 use Rattle.rules.specs.declared.list.LockList.{LockList}
-use Rattle.rules.specs.Locks.{blank, itemAt, withItems, itemFrom, placeOf, packItem, pack, unpack}
+use Rattle.rules.specs.Locks.{blank, itemAt, withItems, itemFrom, itemIn, packItem, pack, unpack}
 use Rattle.rules.proofs.Packing.{packed-long}
 use Rattle.locklist.specs.Heads.{heads}
 
@@ -63,8 +63,8 @@ packed-ends l s i m g h k =
 pub ruleset packs = (needs, length-mapped, packed-none, packed-more, packed-ends)
 
 -- the item that a place's part of the list says
-pub place-as : (s : List ℕ) (i : ℕ) (r : Item) → r ≡ itemFrom (take (19 + 20 * i + 20 - (19 + 20 * i)) (drop (19 + 20 * i) s)) → r ≡ placeOf s i
-unfolding placeOf
+pub place-as : (s : List ℕ) (i : ℕ) (r : Item) → r ≡ itemFrom (take (19 + 20 * i + 20 - (19 + 20 * i)) (drop (19 + 20 * i) s)) → r ≡ itemIn s i
+unfolding itemIn
 place-as s i r h = let q : 19 + 20 * i + 20 - (19 + 20 * i) ≡ 20 = omega arith in rw q at h
 
 -- ---- a list that is read place by place
@@ -72,7 +72,7 @@ place-as s i r h = let q : 19 + 20 * i + 20 - (19 + 20 * i) ≡ 20 = omega arith
 -- l is l₀ with its first i places those of the bytes
 pub record Placed (s : List ℕ) (l₀ l : LockList) (i : ℕ) : Type 0 where
   pub long : length (l₀ .items) ≡ 64
-  pub so : l ≡ withItems l₀ (filled (placeOf s) i (l₀ .items))
+  pub so : l ≡ withItems l₀ (filled (itemIn s) i (l₀ .items))
 
 module _ (s : List ℕ) (l₀ : LockList) where
   pub placed-none : length (l₀ .items) ≡ 64 → Placed s l₀ l₀ 0
@@ -80,14 +80,14 @@ module _ (s : List ℕ) (l₀ : LockList) where
   placed-none h = record { long = h; so = refl }
 
   module _ (l : LockList) (i : ℕ) (p : Placed s l₀ l i) where
-    pub placed-more : (x : Item) → i < 64 → x ≡ placeOf s i → Placed s l₀ (withItems l (set (l .items) i x)) (i + 1)
+    pub placed-more : (x : Item) → i < 64 → x ≡ itemIn s i → Placed s l₀ (withItems l (set (l .items) i x)) (i + 1)
     placed-more x h e =
         let k : i < length (l₀ .items) = omega (arith, p .long) in
         record {
           long = p .long;
           so =
               ap (λ (m : LockList). withItems m (set (m .items) i x)) (p .so)
-              ∙ ap (withItems l₀) (filled-turn (placeOf s) i (l₀ .items) _ x k refl e);
+              ∙ ap (withItems l₀) (filled-turn (itemIn s) i (l₀ .items) _ x k refl e);
         }
 
 -- it began with the limits and the users
@@ -95,7 +95,7 @@ pub placed-ends : (s users : List ℕ) (items : List Item) (l : LockList) (i : �
 unfolding unpack
 placed-ends s users items l i u p g h =
     let q : i ≡ 64 = omega arith in
-    let e : filled (placeOf s) i items ≡ tab (placeOf s) 64 = ap (λ (n : ℕ). filled (placeOf s) n items) q ∙ filled-all (placeOf s) 64 items (p .long) in
+    let e : filled (itemIn s) i items ≡ tab (itemIn s) 64 = ap (λ (n : ℕ). filled (itemIn s) n items) q ∙ filled-all (itemIn s) 64 items (p .long) in
     p .so ∙ rw (e, u)
 
 pub ruleset placing = (needs, place-as, placed-none, placed-more, placed-ends)

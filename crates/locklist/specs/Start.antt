@@ -10,6 +10,8 @@ pub record DidStart (o : Started) (answer : ℕ) (list : List ℕ) : Type 0 wher
   pub gives : answer ≡ o .answer
   pub leaves : list ≡ o .list
 
+-- ---- What only proofs need
+
 -- what Start's refusal leaves to rely on
 pub record MayStart (c o k : ℕ) (users list : List ℕ) : Type 0 where
   pub capacity-fits : c ≤ 64

@@ -1,18 +1,12 @@
 // Runs the records of standard input against DISK.IMG, prints a line for each call, and writes DISK.OUT.
 use libc::STDIN_FILENO;
 use libc::STDOUT_FILENO;
+use script::caller;
 use script::line;
 use script::record;
 ghost use Prim.Native.Nat.{_≤_};
 ghost use lib.ListN.{length};
 ghost use Rattle.io.specs.Counts.{Counts};
-
-// The kind of drive that DISK.IMG is of.
-const FIRST_KIND: u32 = 0;
-
-fn wide(x: u8) -> u32 {
-    x as u32
-}
 
 // Writes a line to standard output. Where that fails it says so on standard error and answers false.
 fn print(line: &[u8]) -> bool {
@@ -29,9 +23,9 @@ fn print_header() -> bool {
     print(&text[..n])
 }
 
-fn print_call(number: u64, process: u8, function: u8, answer: u32) -> bool {
+fn print_call(number: u64, input: &[u8], answer: u32) -> bool {
     let mut text = [0u8; 128];
-    let n = line::call_line(&mut text, number, process, function, answer);
+    let n = line::call_line(&mut text, number, input, answer);
     print(&text[..n])
 }
 
@@ -100,35 +94,13 @@ fn start(list: &mut [u8]) -> bool {
     if !record::is_start(&input[..n]) {
         return false;
     }
-    let answer = engine::mpm_start(
-        FIRST_KIND,
-        wide(record::first_number(&input)),
-        wide(record::second_number(&input)),
-        wide(record::third_number(&input)),
-        record::users_in(&input),
-        list,
-    );
-    answer == 0
+    caller::start_by(&input, list) == 0
 }
 
 // Makes the call of a record and prints its line.
 fn serve(calls: u64, input: &[u8; record::CALL_SIZE], list: &mut [u8], image: &mut [u8]) -> bool {
-    let function = record::first_number(input);
-    let process = record::second_number(input);
-    let count = record::third_number(input);
-    let mut fcb = record::fcb_of(input);
-    let mut dma = record::dma_of(input);
-    let answer = engine::mpm_call(
-        FIRST_KIND,
-        wide(function),
-        wide(process),
-        wide(count),
-        &mut fcb,
-        &mut dma,
-        list,
-        image,
-    );
-    print_call(calls, process, function, answer)
+    let answer = caller::call_by(input, list, image);
+    print_call(calls, input, answer)
 }
 
 // Reads on where n bytes of a record are there, and answers how many are there then.

@@ -3,5 +3,5 @@ pub mod may;
 pub mod read;
 pub mod space;
 pub mod test;
-pub mod there;
+mod there;
 pub mod write;

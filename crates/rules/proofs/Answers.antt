@@ -1,4 +1,4 @@
--- The paper's numbers tell an enum's cases apart. Assumes nothing.
+-- Document 01's numbers tell an enum's cases apart. Assumes nothing.
 use Prim.Native.Nat.{ℕ, _<_}
 use mathlib.Core.Path.{_≡_, refl, sym, ap, _∙_}
 use mathlib.Core.List.{List}

@@ -14,7 +14,7 @@ use Rattle.rules.specs.declared.list.LockList.{LockList}
 use Rattle.rules.specs.declared.routine.Chosen.{Chosen}
 use Rattle.rules.specs.Locks.{unpack}
 use Rattle.rules.specs.Asks.{callerFile, recordOf}
-use Rattle.rules.specs.Call.{ends, unless, askedBy, asked, rowsOf, effectOf, served}
+use Rattle.rules.specs.Call.{decided, unless, askedBy, asked, rowsOf, effectOf, served}
 
 -- an outcome by another name
 pub did-as : (o o′ : Outcome) (r : ℕ) (fcb dma list image : List ℕ) → o ≡ o′ → Did o r fcb dma list image → Did o′ r fcb dma list image
@@ -27,12 +27,12 @@ did-none code b = record { gives = refl; leaves-fcb = refl; leaves-dma = refl; l
 module _ (rows : List Row) (b : Buffers) (o : Outcome) (code : ℕ) (e : code ≡ firstOf rows) where
   -- some row applies
   pub did-refuse : (code ≡ 0 → ⊥) → Did (unless rows b o) code (b .fcb) (b .dma) (b .list) (b .image)
-  unfolding unless ends _if_else_
+  unfolding unless decided _if_else_
   did-refuse n = rw (ne-eqb (firstOf rows) 0 (λ q. n (e ∙ q)), ← e) (did-none code b)
 
   -- none does
   pub did-pass : (r : ℕ) (fcb dma list image : List ℕ) → code ≡ 0 → Did o r fcb dma list image → Did (unless rows b o) r fcb dma list image
-  unfolding unless ends _if_else_
+  unfolding unless decided _if_else_
   did-pass r fcb dma list image z d = rw (eq-eqb (firstOf rows) 0 (sym e ∙ z)) d
 
 -- a table in two parts
@@ -43,7 +43,7 @@ module _ (xs ys : List Row) (b : Buffers) (o : Outcome) (code : ℕ) (e : code �
   pub did-go-on : (r : ℕ) (fcb dma list image : List ℕ) → code ≡ 0 → noneZero xs ≡ true → Did (unless ys b o) r fcb dma list image → Did (unless (xs ++ ys) b o) r fcb dma list image
   unfolding unless
   did-go-on r fcb dma list image z h d =
-      did-as _ _ r fcb dma list image (ap (λ (c : ℕ). ends c b o) (sym (first-then xs ys (sym e ∙ z) h))) d
+      did-as _ _ r fcb dma list image (ap (λ (c : ℕ). decided c b o) (sym (first-then xs ys (sym e ∙ z) h))) d
 
 -- ---- a call on the buffers, from what its routine found in them
 

@@ -17,7 +17,7 @@ use Rattle.words.proofs.Lists.{tab-ext, tab-getD, tab-at, flat-block, flat-cut,
 use Rattle.words.proofs.Bytes.{part-byte, word-back, word-first, word-second, word-third, word-fourth}
 use Rattle.rules.specs.declared.item.Item.{Item}
 use Rattle.rules.specs.declared.list.LockList.{LockList}
-use Rattle.rules.specs.Locks.{blank, kindOf, firstMark, secondMark, itemFrom, placeOf, placeAt, packItem, pack, unpack, itemAt, goodPlace, zeroAt, soundLocks, soundList}
+use Rattle.rules.specs.Locks.{blank, kindOf, firstMark, secondMark, itemFrom, itemIn, placeAt, packItem, pack, unpack, itemAt, goodPlace, zeroAt, soundLocks, soundList}
 use Rattle.rules.specs.declared.kind.Kind.{Kind}
 
 -- ---- unpack (pack k) ≡ k
@@ -65,10 +65,10 @@ place-part l g k h =
     ∙ flat-block packItem 20 packed-long k (l .items) blank (omega arith)
 
 pub unpack-pack : (l : LockList) → ListInRange l → unpack (pack l) ≡ l
-unfolding unpack pack tab placeOf
+unfolding unpack pack tab itemIn
 unpack-pack l g =
-    let e : tab (placeOf (pack l)) 64 ≡ l .items =
-    tab-ext (placeOf (pack l)) (itemAt l) 64
+    let e : tab (itemIn (pack l)) 64 ≡ l .items =
+    tab-ext (itemIn (pack l)) (itemAt l) 64
     (λ k h. ap itemFrom (place-part l (g .items-long) k h) ∙ item-back (itemAt l k) (g .each k h))
     ∙ tab-getD (l .items) blank 64 (g .items-long) in
     λ i. record {
@@ -136,9 +136,9 @@ bytes-back b t =
 
 -- a list whose places each say an item
 pub pack-twenty : (s : List ℕ) → length s ≡ 1299 → ((i : ℕ) → i < 64 → Twenty (part (placeAt i) 20 s)) → pack (unpack s) ≡ s
-unfolding pack unpack tab placeOf
+unfolding pack unpack tab itemIn
 pack-twenty s h t =
-    let e : flat packItem (tab (placeOf s) 64) ≡ drop 19 s = flat-cut packItem itemFrom 20 64 19 s h (λ i l. bytes-back _ (t i l)) in
+    let e : flat packItem (tab (itemIn s) 64) ≡ drop 19 s = flat-cut packItem itemFrom 20 64 19 s h (λ i l. bytes-back _ (t i l)) in
     let m : length (take 19 s) ≡ 19 = length-take-le 19 s (omega arith) in
     let g : ℕ → ℕ = λ (k : ℕ). getD s k 0 in
     let f : tab g 19 ≡ take 19 s =
@@ -157,9 +157,9 @@ part-small s at n k w =
     (either (leb n k))
 
 -- place i of a list that was unpacked
-pub unpack-at : (list : List ℕ) (i : ℕ) → i < 64 → itemAt (unpack list) i ≡ placeOf list i
+pub unpack-at : (list : List ℕ) (i : ℕ) → i < 64 → itemAt (unpack list) i ≡ itemIn list i
 unfolding unpack
-unpack-at list i l = tab-at (placeOf list) 64 i blank l
+unpack-at list i l = tab-at (itemIn list) 64 i blank l
 
 -- every sound list of 1,299 bytes, each below 256
 module _ (kind : Kind) (top : ℕ) (list s : List ℕ) (long : length list ≡ 1299) (small : (i : ℕ) → byte list i < 256) (h : soundList kind top list s ≡ true) where
@@ -182,7 +182,7 @@ module _ (kind : Kind) (top : ℕ) (list s : List ℕ) (long : length list ≡ 1
       (either (eqb (itemAt (unpack list) i .kind) 0))
 
   twenty : (i : ℕ) → i < 64 → Twenty (part (placeAt i) 20 list)
-  unfolding soundList zeroAt placeOf itemFrom
+  unfolding soundList zeroAt itemIn itemFrom
   twenty i l = record {
     long = length-take-le 20 (drop (placeAt i) list) (simp length-drop (omega arith));
     small = λ k. part-small list (placeAt i) 20 k small;

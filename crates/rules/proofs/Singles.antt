@@ -130,7 +130,7 @@ asked-single kind i p b long =
     ∙ ap (λ (r : ℕ). askedBy kind p 1 (unpack (b .list)) (callerFile p (unpack (b .list)) (b .fcb)) r (b .image)) (fcb-number i (b .fcb) long)
 
 -- a record that is done is not past the end
-end-of : (k : Chosen) → Runs k → (a : Asked) (b : Buffers) → firstOf (rowsOf k a b) ≡ 0 → a .number ≤ highest
+end-of : (k : Chosen) → Runs k → (a : Asked) (b : Buffers) → firstOf (rowsOf k a b) ≡ 0 → a .recordNumber ≤ highest
 unfolding rowsOf rows33 rows34 rowsMay
 end-of k isRead a b z = ltb-false highest _ (row-off 6 _ _ (λ y. omega arith) (row-rest 10 _ _ (λ y. omega arith) z))
 end-of k isWrite a b z = ltb-false highest _ (row-off 6 _ _ (λ y. omega arith) (row-rest 1023 _ _ (λ y. omega arith) (row-rest 10 _ _ (λ y. omega arith) z)))
@@ -142,8 +142,8 @@ done-within kind n p i b runs long z =
     let own = both-zero (rowsAll kind n p 1 (single i b)) _ (nonzero-all kind n p 1 (single i b)) z .1 in
     ap-le (asked-single kind i p b long) (end-of (chosen n) runs (asked kind p 1 (single i b)) (single i b) own)
   where
-    ap-le : asked kind p 1 (single i b) ≡ askedAt kind p i b → asked kind p 1 (single i b) .number ≤ highest → recordOf (b .fcb) + i ≤ highest
-    ap-le e h = let q : asked kind p 1 (single i b) .number ≡ recordOf (b .fcb) + i = ap (λ (a : Asked). a .number) e in omega arith
+    ap-le : asked kind p 1 (single i b) ≡ askedAt kind p i b → asked kind p 1 (single i b) .recordNumber ≤ highest → recordOf (b .fcb) + i ≤ highest
+    ap-le e h = let q : asked kind p 1 (single i b) .recordNumber ≡ recordOf (b .fcb) + i = ap (λ (a : Asked). a .recordNumber) e in omega arith
 
 -- ---- the general table lets it pass
 

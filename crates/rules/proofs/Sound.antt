@@ -19,7 +19,7 @@ use Rattle.rules.specs.declared.answer.ImageAnswer.the-variants.{Sound}
 use Rattle.rules.specs.declared.file.File.{File}
 use Rattle.rules.specs.declared.kind.Kind.{Kind}
 use Rattle.rules.specs.Kinds.{blockSize, most, entries, numbers}
-use Rattle.rules.specs.Drive.{goodLength, blocks, isEmpty, nameAt, extentAt, mapNumber, mapPlace, sameLow, isNamed, fileFrom, fileAt, isEntry, entryOf, holds, names, isUsed, isFree, freeBlocks, goodFields, inRange, namedBefore, isFirst, isRepeat, goodEntry, isBegun, soundDirectory, soundImage, imageCheck, userByte, blockIn, blockOf}
+use Rattle.rules.specs.Drive.{goodLength, blocks, isEmpty, nameAt, extentAt, mapNumber, mapPlace, sameLow, isNamed, fileFrom, fileAt, isEntry, entryOf, holdsNumber, namesBlock, isUsed, isFree, freeBlocks, goodFields, inRange, namedBefore, isFirst, isRepeat, goodEntry, hasFirst, soundDirectory, soundImage, imageCheck, userByte, blockIn, blockOf}
 use Rattle.rules.proofs.Sizes.{size-whole, size-long, place-fits}
 
 -- ---- entries
@@ -131,8 +131,8 @@ module _ (kind : Kind) (top : ℕ) (s : List ℕ) (h : soundImage kind top s ≡
   entry-of e l u = or-so _ _ (all-at (goodEntry kind top s) (entries kind) e (and-fst _ _ (and-snd _ _ h)) l) u
 
   begun-of : (e : ℕ) → e < entries kind → isEmpty s e ≡ false → any (isEntry s (fileAt s e) 0) (entries kind) ≡ true
-  unfolding soundImage soundDirectory isBegun
-  begun-of e l u = or-so _ _ (all-at (isBegun kind s) (entries kind) e (and-snd _ _ (and-snd _ _ h)) l) u
+  unfolding soundImage soundDirectory hasFirst
+  begun-of e l u = or-so _ _ (all-at (hasFirst kind s) (entries kind) e (and-snd _ _ (and-snd _ _ h)) l) u
 
   range-of : (e k : ℕ) → Names kind s e k → (leb 2 (mapNumber kind s e k) and ltb (mapNumber kind s e k) (blocks kind s)) ≡ true
   unfolding inRange
@@ -151,16 +151,16 @@ module _ (kind : Kind) (top : ℕ) (s : List ℕ) (h : soundImage kind top s ≡
 
   -- a number that stands before place k of entry e is another
   not-before : (d j e k : ℕ) → Names kind s d j → Names kind s e k → mapNumber kind s d j ≡ mapNumber kind s e k → d < e → ⊥
-  unfolding namedBefore names holds
+  unfolding namedBefore namesBlock holdsNumber
   not-before d j e k m n q l =
-      let g = any-at (names kind s (mapNumber kind s e k)) e d (or-fst _ _ (before-of e k n)) l in
-      let y = any-found (holds kind s (mapNumber kind s e k) d) (numbers kind) j (m .place-there) (eq-eqb _ _ q) in
+      let g = any-at (namesBlock kind s (mapNumber kind s e k)) e d (or-fst _ _ (before-of e k n)) l in
+      let y = any-found (holdsNumber kind s (mapNumber kind s e k) d) (numbers kind) j (m .place-there) (eq-eqb _ _ q) in
       never (and-both _ _ (not-of-false _ (m .entry-used)) y) g
 
   not-within : (e j k : ℕ) → Names kind s e k → mapNumber kind s e j ≡ mapNumber kind s e k → j < k → ⊥
-  unfolding namedBefore holds
+  unfolding namedBefore holdsNumber
   not-within e j k n q l =
-      never (eq-eqb _ _ q) (any-at (holds kind s (mapNumber kind s e k) e) k j (or-snd _ _ (before-of e k n)) l)
+      never (eq-eqb _ _ q) (any-at (holdsNumber kind s (mapNumber kind s e k) e) k j (or-snd _ _ (before-of e k n)) l)
 
   once-of : (d j e k : ℕ) → Names kind s d j → Names kind s e k → mapNumber kind s d j ≡ mapNumber kind s e k → (d ≡ e) × (j ≡ k)
   once-of d j e k m n q =
@@ -211,19 +211,19 @@ module _ (kind : Kind) (top : ℕ) (s : List ℕ) (g : SoundImage kind top s) wh
       let r = g .maps .range e k (named e k l m u z) in and-both _ _ (le-leb _ _ (r .0)) (lt-ltb _ _ (r .1))))
 
   first-so : (e : ℕ) → e < entries kind → isEmpty s e ≡ false → all (isFirst kind s e) (numbers kind) ≡ true
-  unfolding isFirst namedBefore names holds
+  unfolding isFirst namedBefore namesBlock holdsNumber
   first-so e l u =
       all-make (isFirst kind s e) (numbers kind) (λ k m. or-case _ _ (λ z.
       let n = named e k l m u z in
       not-of-false _ (or-none _ _
-      (any-never (names kind s (mapNumber kind s e k)) e (λ d i. ⊎-elim
-      (λ (y : names kind s (mapNumber kind s e k) d ≡ true).
-      let w = any-some (holds kind s (mapNumber kind s e k) d) (numbers kind) (and-snd _ _ y) in
+      (any-never (namesBlock kind s (mapNumber kind s e k)) e (λ d i. ⊎-elim
+      (λ (y : namesBlock kind s (mapNumber kind s e k) d ≡ true).
+      let w = any-some (holdsNumber kind s (mapNumber kind s e k) d) (numbers kind) (and-snd _ _ y) in
       let q = eqb-true _ _ (w .2) in
       let v : Names kind s d (w .0) = record { entry-there = omega arith; place-there = w .1; entry-used = not-true _ (and-fst _ _ y); some = λ (x : mapNumber kind s d (w .0) ≡ 0). n .some (sym q ∙ x) } in
       let o : d ≡ e = g .maps .once d (w .0) e k v n q .0 in absurd (omega arith))
-      (λ (y : names kind s (mapNumber kind s e k) d ≡ false). y) (either (names kind s (mapNumber kind s e k) d))))
-      (any-never (holds kind s (mapNumber kind s e k) e) k (λ j i. ne-eqb _ _ (λ (q : mapNumber kind s e j ≡ mapNumber kind s e k).
+      (λ (y : namesBlock kind s (mapNumber kind s e k) d ≡ false). y) (either (namesBlock kind s (mapNumber kind s e k) d))))
+      (any-never (holdsNumber kind s (mapNumber kind s e k) e) k (λ j i. ne-eqb _ _ (λ (q : mapNumber kind s e j ≡ mapNumber kind s e k).
       let v : Names kind s e j = record { entry-there = l; place-there = omega arith; entry-used = u; some = λ (x : mapNumber kind s e j ≡ 0). n .some (sym q ∙ x) } in
       let o : j ≡ k = g .maps .once e j e k v n q .1 in absurd (omega arith)))))))
 
@@ -235,12 +235,12 @@ module _ (kind : Kind) (top : ℕ) (s : List ℕ) (g : SoundImage kind top s) wh
       (λ (q : isEntry s (fileAt s e) (extentAt s e) d ≡ false). q) (either (isEntry s (fileAt s e) (extentAt s e) d)))
 
   pub sound-so : soundImage kind top s ≡ true
-  unfolding soundImage soundDirectory goodEntry isBegun
+  unfolding soundImage soundDirectory goodEntry hasFirst
   sound-so =
       and-both _ _ (g .long) (and-both _ _
       (all-make (goodEntry kind top s) (entries kind) (λ e l. or-case _ _ (λ u.
       and-both _ _ (g .files .fields e l u) (and-both _ _ (range-so e l u) (and-both _ _ (first-so e l u) (not-of-false _ (repeat-so e l u)))))))
-      (all-make (isBegun kind s) (entries kind) (λ e l. or-case _ _ (λ u.
+      (all-make (hasFirst kind s) (entries kind) (λ e l. or-case _ _ (λ u.
       let k = g .files .begun e l u in
       any-found (isEntry s (fileAt s e) 0) (entries kind) (k .0) (k .1) (entry-so s (fileAt s e) 0 (k .0) (k .2))))))
 

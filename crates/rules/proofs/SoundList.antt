@@ -18,7 +18,7 @@ use Rattle.rules.specs.declared.file.File.{File}
 use Rattle.rules.specs.declared.item.Item.{Item}
 use Rattle.rules.specs.declared.list.LockList.{LockList}
 use Rattle.rules.specs.Drive.{highest, legalName, entryOf, lookUp, missing, blockOf}
-use Rattle.rules.specs.Locks.{itemAt, userOf, fileOf, sameFile, opensName, opensNameAt, openOf, isOpened, isLimit, isUser, isLow, goodEmpty, goodOpen, opensUnlocked, goodLock, goodItem, goodPlace, clashAt, isApart, keepsLimits, soundLocks, soundList, placeOf, itemFrom, pack, unpack}
+use Rattle.rules.specs.Locks.{itemAt, userOf, fileOf, sameFile, opensName, opensNameAt, openOf, isOpened, isLimit, isUser, isLow, goodEmpty, goodOpen, opensUnlocked, goodLock, goodItem, goodPlace, clashAt, isApart, keepsLimits, soundLocks, soundList, itemIn, itemFrom, pack, unpack}
 use Rattle.rules.proofs.Items.{name-sym, name-then, clash-at-sym, clash-opens, open-is}
 use Rattle.rules.proofs.Packing.{ListInRange, unpack-pack, unpack-at, zero-packed}
 
@@ -36,8 +36,8 @@ unpack-shape list = record {
   names-long = λ i l. ap (λ (it : Item). length (it .name)) (unpack-at list i l) ∙ from-name list i;
 }
   where
-    from-name : (s : List ℕ) (i : ℕ) → length (placeOf s i .name) ≡ 11
-    from-name s i = unfold placeOf itemFrom in length-tab _ 11
+    from-name : (s : List ℕ) (i : ℕ) → length (itemIn s i .name) ≡ 11
+    from-name s i = unfold itemIn itemFrom in length-tab _ 11
 
 -- the process has an open of that name, unlocked
 pub record Holder (l : LockList) (p : ℕ) (name : List ℕ) : Type 0 where

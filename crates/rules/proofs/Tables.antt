@@ -16,10 +16,10 @@ use Rattle.rules.specs.declared.routine.Routine.the-variants.{Open, Clos
 use Rattle.rules.specs.declared.routine.Chosen.{Chosen}
 use Rattle.rules.specs.declared.routine.Chosen.the-variants.{Call, Unknown}
 use Rattle.rules.specs.Serves.{Buffers, Outcome, Did, buffers, outcome, chosen}
-use Rattle.rules.specs.Locks.{itemAt, unlocked, isOpened}
+use Rattle.rules.specs.Locks.{itemAt, modeUnlocked, isOpened}
 use Rattle.rules.specs.Codes.{rowsInside, rowsAll, rowsNew, rows15, rows16, rows19, rows22, rows23, rows33, rows34, rows41, rows42, rows43, rowsThere, rowsMay, rowsRoom, rowsDiffer, rowsRun, rowsLacking, rowsTake}
 use Rattle.rules.specs.Effects.{does15, does16, does19, does22, makes, does23, does33, does34, does41, does42, does43, does46, does143}
-use Rattle.rules.specs.Call.{Asked, ends, unless, asked, rowsOf, effectOf, served, rowsCall, call}
+use Rattle.rules.specs.Call.{Asked, decided, unless, asked, rowsOf, effectOf, served, rowsCall, call}
 
 -- ---- no row has the answer 0/0
 
@@ -86,12 +86,12 @@ call-below kind n p c b = first-below 4096 _ (omega arith) (below-append 4096 (r
 module _ (rows : List Row) (b : Buffers) (done : Outcome) where
   -- accepted where no row applies
   pub accepts : firstOf rows ≡ 0 → unless rows b done ≡ done
-  unfolding unless ends _if_else_
+  unfolding unless decided _if_else_
   accepts h = rw h
 
   -- refused where one does, with nothing changed
   pub refuses : (firstOf rows ≡ 0 → ⊥) → unless rows b done ≡ outcome (firstOf rows) b
-  unfolding unless ends _if_else_
+  unfolding unless decided _if_else_
   refuses h = rw (ne-eqb _ _ h)
 
 -- ---- every call
@@ -131,8 +131,8 @@ effect-zero (Call Read) a b = refl
 effect-zero (Call Write) a b = refl
 effect-zero (Call WriteZeros) a b = refl
 effect-zero (Call TestWrite) a b = refl
-effect-zero (Call Lock) a b = if-zero (eqb (itemAt (a .list) (a .place) .mode) unlocked) _ _ refl refl
-effect-zero (Call Unlock) a b = if-zero (eqb (itemAt (a .list) (a .place) .mode) unlocked) _ _ refl refl
+effect-zero (Call Lock) a b = if-zero (eqb (itemAt (a .list) (a .place) .mode) modeUnlocked) _ _ refl refl
+effect-zero (Call Unlock) a b = if-zero (eqb (itemAt (a .list) (a .place) .mode) modeUnlocked) _ _ refl refl
 effect-zero (Call FreeSpace) a b = refl
 effect-zero (Call Terminate) a b = refl
 effect-zero Unknown a b = refl
@@ -166,7 +166,7 @@ module _ (kind : Kind) (n p c : ℕ) (b : Buffers) where
   pub call-served : firstOf (rowsAll kind n p c b) ≡ 0 → call kind n p c b ≡ served kind (chosen n) p c b
   unfolding call rowsCall served unless
   call-served h =
-      ap (λ (a : ℕ). ends a b (effectOf (chosen n) (asked kind p c b) b))
+      ap (λ (a : ℕ). decided a b (effectOf (chosen n) (asked kind p c b) b))
       (first-then (rowsAll kind n p c b) (rowsOf (chosen n) (asked kind p c b) b) h (nonzero-all kind n p c b))
 
 -- ---- a contract that says `Did` leaves one outcome

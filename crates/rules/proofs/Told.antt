@@ -21,6 +21,19 @@ use Rattle.rules.proofs.Sound.{sound-length}
 use Rattle.rules.proofs.Tables.{call-refused}
 use Rattle.rules.proofs.Several.{run-plain, run-refused}
 
+-- a call that the general table refuses, of one record or of several
+module _ (kind : Kind) (n p c : ℕ) (b : Buffers) where
+  pub barred : (code : ℕ) → (code ≡ 0 → ⊥) → firstOf (rowsAll kind n p c b) ≡ code → callRun kind n p c b ≡ outcome code b
+  barred code some h =
+      let z : firstOf (rowsAll kind n p c b) ≡ 0 → ⊥ = λ q. some (sym h ∙ q) in
+      ⊎-elim (λ (q : servesRun n ≡ true). run-refused kind n p c b q z) (λ (q : servesRun n ≡ false). run-plain kind n p c b q ∙ call-refused kind n p c b z)
+      (either (servesRun n))
+      ∙ ap (λ (a : ℕ). outcome a b) h
+
+  pub bad-numbers : badNumbers n p c (b .fcb) (b .dma) (b .list) ≡ true → callRun kind n p c b ≡ outcome (255 ∕ 13) b
+  unfolding rowsAll
+  bad-numbers h = barred (255 ∕ 13) (λ q. omega arith) (sym (row-yes _ _ _ _ h refl))
+
 -- no image is sound for both kinds
 pub one-kind : (a b : Kind) (s : List ℕ) → soundImage a highest s ≡ true → soundImage b highest s ≡ true → a ≡ b
 one-kind a b s h g = one-length a b s (sound-length a highest s h) (sound-length b highest s g)
@@ -58,12 +71,5 @@ module _ (own kind : Kind) (other : own ≡ kind → ⊥) (s : List ℕ) (sound 
         (λ (h : badNumbers n p c (b .fcb) (b .dma) (b .list) ≡ false). inr (sym (row-no _ _ _ _ h (row-yes _ _ _ _ image-bad refl))))
         (either (badNumbers n p c (b .fcb) (b .dma) (b .list)))
 
-    refused-so : (code : ℕ) → (code ≡ 0 → ⊥) → firstOf (rowsAll kind n p c b) ≡ code → callRun kind n p c b ≡ outcome code b
-    refused-so code some h =
-        let z : firstOf (rowsAll kind n p c b) ≡ 0 → ⊥ = λ q. some (sym h ∙ q) in
-        ⊎-elim (λ (q : servesRun n ≡ true). run-refused kind n p c b q z) (λ (q : servesRun n ≡ false). run-plain kind n p c b q ∙ call-refused kind n p c b z)
-        (either (servesRun n))
-        ∙ ap (λ (a : ℕ). outcome a b) h
-
     pub other-call : (callRun kind n p c b ≡ outcome (255 ∕ 13) b) ⊎ (callRun kind n p c b ≡ outcome (255 ∕ 1) b)
-    other-call = ⊎-elim (λ h. inl (refused-so (255 ∕ 13) (λ q. omega arith) h)) (λ h. inr (refused-so (255 ∕ 1) (λ q. omega arith) h)) rows-told
+    other-call = ⊎-elim (λ h. inl (barred kind n p c b (255 ∕ 13) (λ q. omega arith) h)) (λ h. inr (barred kind n p c b (255 ∕ 1) (λ q. omega arith) h)) rows-told

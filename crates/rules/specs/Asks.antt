@@ -7,7 +7,7 @@ use Rattle.words.specs.Bytes.{byte}
 use Rattle.rules.specs.declared.file.File.{File}
 use Rattle.rules.specs.declared.list.LockList.{LockList}
 use Rattle.rules.specs.Drive.{fileFrom}
-use Rattle.rules.specs.Locks.{userOf, locked, unlocked, readonly}
+use Rattle.rules.specs.Locks.{userOf, modeLocked, modeUnlocked, modeReadOnly}
 
 -- The FCB name is looked up under the caller's user.
 unfoldable pub callerFile : ℕ → LockList → List ℕ → File
@@ -27,8 +27,8 @@ lastOf r n = r + n - 1
 
 -- On 15, the high bit of byte 6 set means read-only; else that of byte 5 unlocked; else locked.
 unfoldable pub openMode : List ℕ → ℕ
-openMode fcb = readonly if leb 128 (byte fcb 6) else unlocked if leb 128 (byte fcb 5) else locked
+openMode fcb = modeReadOnly if leb 128 (byte fcb 6) else modeUnlocked if leb 128 (byte fcb 5) else modeLocked
 
 -- On 22 only byte 5's counts.
 unfoldable pub makeMode : List ℕ → ℕ
-makeMode fcb = unlocked if leb 128 (byte fcb 5) else locked
+makeMode fcb = modeUnlocked if leb 128 (byte fcb 5) else modeLocked

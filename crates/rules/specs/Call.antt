@@ -22,35 +22,36 @@ use Rattle.rules.specs.Asks.{callerFile, newFile, recordOf}
 use Rattle.rules.specs.Codes.{rowsAll, rows15, rows16, rows19, rows22, rows23, rows33, rows34, rows41, rows42, rows43}
 use Rattle.rules.specs.Effects.{accept, does15, does16, does19, does22, does23, does33, does34, does41, does42, does43, does46, does143}
 
--- A refusal is the first row that applies and leaves all four buffers unchanged; where none does, the effect.
-unfoldable pub ends : ℕ → Buffers → Outcome → Outcome
-ends code b done = done if eqb code 0 else outcome code b
+-- a refusal leaves all four buffers unchanged; code 0 is no refusal
+unfoldable pub decided : ℕ → Buffers → Outcome → Outcome
+decided code b done = done if eqb code 0 else outcome code b
 
+-- A refusal is the first row that applies; where none does, the effect.
 unfoldable pub unless : List Row → Buffers → Outcome → Outcome
-unless rows b done = ends (firstOf rows) b done
+unless rows b done = decided (firstOf rows) b done
 
 -- what a call has found before it decides: the list, the caller's file and open, the file's and the extent's entry, the record
 pub record Asked : Type 0 where
   pub kind : Kind
   pub process : ℕ
-  pub run : ℕ
+  pub count : ℕ
   pub list : LockList
   pub file : File
   pub found : Found
   pub place : ℕ
-  pub number : ℕ
+  pub recordNumber : ℕ
   pub entry : ℕ
 
 unfoldable pub askedBy : Kind → ℕ → ℕ → LockList → File → ℕ → List ℕ → Asked
 askedBy kind p c l f r s = record {
   kind = kind;
   process = p;
-  run = c;
+  count = c;
   list = l;
   file = f;
   found = lookUp kind s f;
   place = openOf l p f;
-  number = r;
+  recordNumber = r;
   entry = entryOf kind s f (r / extentRecords);
 }
 
@@ -65,12 +66,12 @@ rowsOf (Call Close) a b = rows16 (a .place)
 rowsOf (Call Delete) a b = rows19 (a .kind) (a .list) (a .file) (a .found) (b .fcb) (b .image)
 rowsOf (Call Make) a b = rows22 (a .kind) (a .process) (a .list) (a .found) (b .fcb) (b .image)
 rowsOf (Call Rename) a b = rows23 (a .kind) (a .list) (a .file) (a .found) (lookUp (a .kind) (b .image) (newFile (a .process) (a .list) (b .fcb))) (b .fcb) (b .image)
-rowsOf (Call Read) a b = rows33 (a .kind) (a .place) (a .entry) (a .number) (b .image)
-rowsOf (Call Write) a b = rows34 (a .kind) (a .process) (a .list) (a .place) (a .file) (a .found .entry) (a .entry) (a .number) (b .image)
-rowsOf (Call WriteZeros) a b = rows34 (a .kind) (a .process) (a .list) (a .place) (a .file) (a .found .entry) (a .entry) (a .number) (b .image)
-rowsOf (Call TestWrite) a b = rows41 (a .kind) (a .process) (a .list) (a .place) (a .file) (a .found .entry) (a .entry) (a .number) (b .dma) (b .image)
-rowsOf (Call Lock) a b = rows42 (a .kind) (a .process) (a .list) (a .place) (a .file) (a .number) (a .run) (b .dma) (b .image)
-rowsOf (Call Unlock) a b = rows43 (a .list) (a .place) (a .number) (a .run) (b .dma)
+rowsOf (Call Read) a b = rows33 (a .kind) (a .place) (a .entry) (a .recordNumber) (b .image)
+rowsOf (Call Write) a b = rows34 (a .kind) (a .process) (a .list) (a .place) (a .file) (a .found .entry) (a .entry) (a .recordNumber) (b .image)
+rowsOf (Call WriteZeros) a b = rows34 (a .kind) (a .process) (a .list) (a .place) (a .file) (a .found .entry) (a .entry) (a .recordNumber) (b .image)
+rowsOf (Call TestWrite) a b = rows41 (a .kind) (a .process) (a .list) (a .place) (a .file) (a .found .entry) (a .entry) (a .recordNumber) (b .dma) (b .image)
+rowsOf (Call Lock) a b = rows42 (a .kind) (a .process) (a .list) (a .place) (a .file) (a .recordNumber) (a .count) (b .dma) (b .image)
+rowsOf (Call Unlock) a b = rows43 (a .list) (a .place) (a .recordNumber) (a .count) (b .dma)
 rowsOf (Call FreeSpace) a b = []
 rowsOf (Call Terminate) a b = []
 rowsOf Unknown a b = []
@@ -82,19 +83,15 @@ effectOf (Call Close) a b = does16 (a .process) (a .list) (a .file) b
 effectOf (Call Delete) a b = does19 (a .kind) (a .file) b
 effectOf (Call Make) a b = does22 (a .kind) (a .process) (a .list) (a .file) b
 effectOf (Call Rename) a b = does23 (a .kind) (a .file) (newFile (a .process) (a .list) (b .fcb)) b
-effectOf (Call Read) a b = does33 (a .kind) (a .entry) (a .number) b
-effectOf (Call Write) a b = does34 (a .kind) false (a .file) (a .found .entry) (a .entry) (a .number) b
-effectOf (Call WriteZeros) a b = does34 (a .kind) true (a .file) (a .found .entry) (a .entry) (a .number) b
-effectOf (Call TestWrite) a b = does41 (a .kind) (a .file) (a .found .entry) (a .entry) (a .number) b
-effectOf (Call Lock) a b = does42 (a .process) (a .list) (a .place) (a .file) (a .number) (a .run) b
-effectOf (Call Unlock) a b = does43 (a .process) (a .list) (a .place) (a .file) (a .number) (a .run) b
+effectOf (Call Read) a b = does33 (a .kind) (a .entry) (a .recordNumber) b
+effectOf (Call Write) a b = does34 (a .kind) false (a .file) (a .found .entry) (a .entry) (a .recordNumber) b
+effectOf (Call WriteZeros) a b = does34 (a .kind) true (a .file) (a .found .entry) (a .entry) (a .recordNumber) b
+effectOf (Call TestWrite) a b = does41 (a .kind) (a .file) (a .found .entry) (a .entry) (a .recordNumber) b
+effectOf (Call Lock) a b = does42 (a .process) (a .list) (a .place) (a .file) (a .recordNumber) (a .count) b
+effectOf (Call Unlock) a b = does43 (a .process) (a .list) (a .place) (a .file) (a .recordNumber) (a .count) b
 effectOf (Call FreeSpace) a b = does46 (a .kind) b
 effectOf (Call Terminate) a b = does143 (a .process) (a .list) b
 effectOf Unknown a b = accept b
-
--- a call's own table and effect, once the general table lets it pass
-unfoldable pub served : Kind → Chosen → ℕ → ℕ → Buffers → Outcome
-served kind k p c b = unless (rowsOf k (asked kind p c b) b) b (effectOf k (asked kind p c b) b)
 
 -- A call is one table and one effect.
 unfoldable pub rowsCall : Kind → ℕ → ℕ → ℕ → Buffers → List Row
@@ -102,6 +99,12 @@ rowsCall kind n p c b = rowsAll kind n p c b ++ rowsOf (chosen n) (asked kind p 
 
 unfoldable pub call : Kind → ℕ → ℕ → ℕ → Buffers → Outcome
 call kind n p c b = unless (rowsCall kind n p c b) b (effectOf (chosen n) (asked kind p c b) b)
+
+-- ---- What only proofs need
+
+-- a call's own table and effect, once the general table lets it pass
+unfoldable pub served : Kind → Chosen → ℕ → ℕ → Buffers → Outcome
+served kind k p c b = unless (rowsOf k (asked kind p c b) b) b (effectOf k (asked kind p c b) b)
 
 -- what the general table leaves to rely on (the image's length follows from its soundness)
 pub record Ready (kind : Kind) (b : Buffers) : Type 0 where

@@ -10,14 +10,13 @@ use Rattle.words.specs.Tests.{_and_, _or_, any, lowest, count}
 use Rattle.words.specs.Bytes.{byte}
 use Rattle.words.specs.Tables.{Row, _∕_, _when_, onlyIf}
 use Rattle.rules.specs.declared.kind.Kind.{Kind}
-use Rattle.rules.specs.Kinds.{entries}
 use Rattle.rules.specs.declared.file.File.{File}
 use Rattle.rules.specs.declared.file.Found.{Found}
 use Rattle.rules.specs.declared.item.Item.{Item}
 use Rattle.rules.specs.declared.list.LockList.{LockList}
 use Rattle.rules.specs.Serves.{Buffers, chosen, isUnknown, processes, fcbSize, dmaSize, listSize}
-use Rattle.rules.specs.Drive.{highest, blocks, extentRecords, recordSize, legalName, entryOf, missing, readOnly, freeEntry, freeBlock, blockIn, blockOf, recordAt, soundImage}
-use Rattle.rules.specs.Locks.{itemAt, locked, unlocked, readonly, isOpened, anyOpen, opensFileAt, lockedByOther, held, opensBy, locksBy, freePlace, freePlaces, soundList}
+use Rattle.rules.specs.Drive.{noEntry, highest, blocks, extentRecords, recordSize, legalName, entryOf, missing, readOnly, freeEntry, freeBlock, blockIn, blockOf, recordAt, soundImage}
+use Rattle.rules.specs.Locks.{places, itemAt, modeLocked, modeUnlocked, modeReadOnly, isOpened, anyOpen, opensFileAt, lockedByOther, held, opensBy, locksBy, freePlace, freePlaces, soundList}
 use Rattle.rules.specs.Asks.{openMode, lastOf}
 
 -- ---- The general table
@@ -47,17 +46,18 @@ rowsAll kind n p c b =
 
 -- ---- 15
 
--- the item at place i is another process's open of the file that cannot stand beside one in that mode
+-- an open is another process's and cannot stand beside one in that mode
 unfoldable pub standsAgainst : ℕ → ℕ → Item → Bool
-standsAgainst p mode it = not (eqb (it .process) p) and (eqb mode locked or not (eqb (it .mode) mode))
+standsAgainst p mode it = not (eqb (it .process) p) and (eqb mode modeLocked or not (eqb (it .mode) mode))
 
+-- the item at place i is such an open of the file
 unfoldable pub standsAgainstAt : LockList → ℕ → File → ℕ → ℕ → Bool
 standsAgainstAt l p f mode i = opensFileAt l f i and standsAgainst p mode (itemAt l i)
 
 -- the rows for a file that the caller has not open
 unfoldable pub rowsNew : ℕ → LockList → File → List ℕ → List Row
 rowsNew p l f fcb =
-    255 ∕ 5 when any (standsAgainstAt l p f (openMode fcb)) 64
+    255 ∕ 5 when any (standsAgainstAt l p f (openMode fcb)) places
     ∷ 255 ∕ 10 when leb (l .openlimit) (opensBy l p)
     ∷ 255 ∕ 11 when leb (l .capacity) (freePlace l)
     ∷ []
@@ -78,7 +78,7 @@ rows22 kind p l x fcb s =
     ∷ 255 ∕ 8 when not (missing kind x)
     ∷ 255 ∕ 10 when leb (l .openlimit) (opensBy l p)
     ∷ 255 ∕ 11 when leb (l .capacity) (freePlace l)
-    ∷ 255 ∕ 0 when leb (entries kind) (freeEntry kind s)
+    ∷ 255 ∕ 0 when noEntry kind (freeEntry kind s)
     ∷ []
 
 -- ---- 16
@@ -120,7 +120,7 @@ rows23 kind l f x y fcb s =
 
 -- 4/0 no such extent; 1/0 no block
 unfoldable pub rowsThere : Kind → List ℕ → ℕ → ℕ → List Row
-rowsThere kind s e r = 4 ∕ 0 when leb (entries kind) e ∷ 1 ∕ 0 when eqb (blockIn kind s e r) 0 ∷ []
+rowsThere kind s e r = 4 ∕ 0 when noEntry kind e ∷ 1 ∕ 0 when eqb (blockIn kind s e r) 0 ∷ []
 
 -- byte 35 above 3: for bytes, that the record number is 262,144 or more
 unfoldable pub rows33 : Kind → ℕ → ℕ → ℕ → List ℕ → List Row
@@ -132,7 +132,7 @@ rows33 kind o e r s = 10 ∕ 0 when not (isOpened o) ∷ 6 ∕ 0 when ltb highes
 unfoldable pub rowsMay : ℕ → LockList → ℕ → File → ℕ → ℕ → List ℕ → List Row
 rowsMay p l o f e₀ r s =
     10 ∕ 0 when not (isOpened o)
-    ∷ 255 ∕ 3 when (readOnly s e₀ or eqb (itemAt l o .mode) readonly)
+    ∷ 255 ∕ 3 when (readOnly s e₀ or eqb (itemAt l o .mode) modeReadOnly)
     ∷ 6 ∕ 0 when ltb highest r
     ∷ 8 ∕ 0 when lockedByOther l p f r
     ∷ []
@@ -140,7 +140,7 @@ rowsMay p l o f e₀ r s =
 -- 5/0 extent missing and no empty entry; 2/0 block missing and none free
 unfoldable pub rowsRoom : Kind → List ℕ → ℕ → ℕ → List Row
 rowsRoom kind s e r =
-    5 ∕ 0 when (leb (entries kind) e and leb (entries kind) (freeEntry kind s))
+    5 ∕ 0 when (noEntry kind e and noEntry kind (freeEntry kind s))
     ∷ 2 ∕ 0 when (eqb (blockIn kind s e r) 0 and leb (blocks kind s) (freeBlock kind s))
     ∷ []
 
@@ -170,14 +170,14 @@ isFileId dma o = eqb (byte dma 0) o and eqb (byte dma 1) 0
 unfoldable pub rowsRun : LockList → ℕ → ℕ → ℕ → List ℕ → List Row → List Row
 rowsRun l o r n dma more =
     10 ∕ 0 when not (isOpened o)
-    ∷ onlyIf (eqb (itemAt l o .mode) unlocked)
+    ∷ onlyIf (eqb (itemAt l o .mode) modeUnlocked)
     (13 ∕ 0 when not (isFileId dma o)
     ∷ 6 ∕ 0 when ltb highest (lastOf r n)
     ∷ more)
 
 -- record r + k lacks its extent; .. its extent or block
 unfoldable pub noExtent : Kind → List ℕ → File → ℕ → ℕ → Bool
-noExtent kind s f r k = leb (entries kind) (entryOf kind s f ((r + k) / extentRecords))
+noExtent kind s f r k = noEntry kind (entryOf kind s f ((r + k) / extentRecords))
 
 unfoldable pub lacks : Kind → List ℕ → File → ℕ → ℕ → Bool
 lacks kind s f r k = eqb (blockOf kind s f (r + k)) 0

@@ -78,7 +78,7 @@ legalByte b = leb 32 (b % 128) and leb (b % 128) 126 and not (eqb (b % 128) 63)
 unfoldable pub legalAt : List ℕ → ℕ → ℕ → Bool
 legalAt s at k = legalByte (byte s (at + k))
 
--- .. and its first byte is not a blank.
+-- .. and its first byte is not a blank (A0h is one: only the low seven bits count).
 unfoldable pub legalName : List ℕ → ℕ → Bool
 legalName s at = not (eqb (byte s at % 128) 32) and all (legalAt s at) 11
 
@@ -112,12 +112,16 @@ isEntry s f x e = not (isEmpty s e) and eqb (userByte s e) (f .user) and eqb (ex
 unfoldable pub entryOf : Kind → List ℕ → File → ℕ → ℕ
 entryOf kind s f x = lowest (isEntry s f x) (entries kind)
 
+-- no entry: the number of entries stands for it
+abbrev pub noEntry : Kind → ℕ → Bool
+noEntry kind e = leb (entries kind) e
+
 unfoldable pub lookUp : Kind → List ℕ → File → Found
 lookUp kind s f = record { entry = entryOf kind s f 0 }
 
 -- no such file
 unfoldable pub missing : Kind → Found → Bool
-missing kind x = leb (entries kind) (x .entry)
+missing kind x = noEntry kind (x .entry)
 
 -- The file's attributes are those of extent 0, which stands at entry e; the high bit of byte 9 is read-only.
 unfoldable pub readOnly : List ℕ → ℕ → Bool
@@ -129,7 +133,7 @@ freeEntry kind s = lowest (isEmpty s) (entries kind)
 
 -- the block of record r, whose extent is at entry e: 0 meaning none, as where the extent is missing
 unfoldable pub blockIn : Kind → List ℕ → ℕ → ℕ → ℕ
-blockIn kind s e r = 0 if leb (entries kind) e else mapNumber kind s e (mapPlace kind r)
+blockIn kind s e r = 0 if noEntry kind e else mapNumber kind s e (mapPlace kind r)
 
 unfoldable pub blockOf : Kind → List ℕ → File → ℕ → ℕ
 blockOf kind s f r = blockIn kind s (entryOf kind s f (r / extentRecords)) r
@@ -141,15 +145,15 @@ recordAt kind block r = blockSize kind * block + recordSize * (r % blockRecords 
 -- ---- Blocks in use and free
 
 -- place k of entry e's map holds number b
-unfoldable pub holds : Kind → List ℕ → ℕ → ℕ → ℕ → Bool
-holds kind s b e k = eqb (mapNumber kind s e k) b
+unfoldable pub holdsNumber : Kind → List ℕ → ℕ → ℕ → ℕ → Bool
+holdsNumber kind s b e k = eqb (mapNumber kind s e k) b
 
 -- entry e is in use and names block b
-unfoldable pub names : Kind → List ℕ → ℕ → ℕ → Bool
-names kind s b e = not (isEmpty s e) and any (holds kind s b e) (numbers kind)
+unfoldable pub namesBlock : Kind → List ℕ → ℕ → ℕ → Bool
+namesBlock kind s b e = not (isEmpty s e) and any (holdsNumber kind s b e) (numbers kind)
 
 unfoldable pub isUsed : Kind → List ℕ → ℕ → Bool
-isUsed kind s b = any (names kind s b) (entries kind)
+isUsed kind s b = any (namesBlock kind s b) (entries kind)
 
 -- Data blocks are 2 to n−1.
 unfoldable pub isFree : Kind → List ℕ → ℕ → Bool
@@ -184,7 +188,7 @@ inRange kind s e k = eqb (mapNumber kind s e k) 0 or (leb 2 (mapNumber kind s e 
 
 -- number b stands in an entry before e, or in entry e before place k
 unfoldable pub namedBefore : Kind → List ℕ → ℕ → ℕ → ℕ → Bool
-namedBefore kind s b e k = any (names kind s b) e or any (holds kind s b e) k
+namedBefore kind s b e k = any (namesBlock kind s b) e or any (holdsNumber kind s b e) k
 
 -- no block number other than 0 occurs twice
 unfoldable pub isFirst : Kind → List ℕ → ℕ → ℕ → Bool
@@ -200,11 +204,11 @@ goodEntry kind top s e =
     or (goodFields top s e and all (inRange kind s e) (numbers kind) and all (isFirst kind s e) (numbers kind) and not (isRepeat s e))
 
 -- each file has an extent 0
-unfoldable pub isBegun : Kind → List ℕ → ℕ → Bool
-isBegun kind s e = isEmpty s e or any (isEntry s (fileAt s e) 0) (entries kind)
+unfoldable pub hasFirst : Kind → List ℕ → ℕ → Bool
+hasFirst kind s e = isEmpty s e or any (isEntry s (fileAt s e) 0) (entries kind)
 
 unfoldable pub soundDirectory : Kind → ℕ → List ℕ → Bool
-soundDirectory kind top s = all (goodEntry kind top s) (entries kind) and all (isBegun kind s) (entries kind)
+soundDirectory kind top s = all (goodEntry kind top s) (entries kind) and all (hasFirst kind s) (entries kind)
 
 unfoldable pub soundImage : Kind → ℕ → List ℕ → Bool
 soundImage kind top s = goodLength kind s and soundDirectory kind top s

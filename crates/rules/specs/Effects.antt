@@ -16,8 +16,8 @@ use Rattle.rules.specs.declared.item.Item.{Item}
 use Rattle.rules.specs.declared.list.LockList.{LockList}
 use Rattle.rules.specs.declared.spot.Spot.{Spot}
 use Rattle.rules.specs.Serves.{Buffers, Outcome, buffers, outcome, withDma, withList, withImage}
-use Rattle.rules.specs.Drive.{entrySize, recordSize, extentRecords, mapPlace, nameAt, entryByte, isOf, freeEntry, freeBlock, freeBlocks, blockIn, recordAt, mapAt}
-use Rattle.rules.specs.Locks.{itemAt, withItems, unlocked, emptyPlace, freshOpen, freshLock, isOpened, sameName, held, freePlace, pack}
+use Rattle.rules.specs.Drive.{noEntry, entrySize, recordSize, extentRecords, mapPlace, nameAt, entryByte, isOf, freeEntry, freeBlock, freeBlocks, blockIn, recordAt, mapAt}
+use Rattle.rules.specs.Locks.{anEmpty, aLock, itemAt, withItems, modeUnlocked, emptyPlace, freshOpen, freshLock, isOpened, sameName, held, freePlace, pack}
 use Rattle.rules.specs.Asks.{openMode, makeMode}
 
 -- Success is 0/0.
@@ -36,7 +36,7 @@ fcbMapped s e fcb = put 15 (part (entrySize * e + 15) 17 s) (put 12 (0 ∷ 0 ∷
 
 -- .. in unlocked mode bytes 33 to 35 become the File ID.
 unfoldable pub fcbNumbered : ℕ → ℕ → List ℕ → List ℕ
-fcbNumbered mode o fcb = put 33 (fileId o) fcb if eqb mode unlocked else fcb
+fcbNumbered mode o fcb = put 33 (fileId o) fcb if eqb mode modeUnlocked else fcb
 
 unfoldable pub fcbOpened : List ℕ → ℕ → ℕ → ℕ → List ℕ → List ℕ
 fcbOpened s e mode o fcb = fcbNumbered mode o (fcbMapped s e fcb)
@@ -102,7 +102,7 @@ spot e fresh block taken = record { entry = e; fresh = fresh; block = block; tak
 -- A missing extent takes the lowest empty entry; a missing block is the lowest free one. e is the extent's entry (the number of entries: missing).
 unfoldable pub spotAt : Kind → List ℕ → ℕ → ℕ → Spot
 spotAt kind s e r =
-    spot (freeEntry kind s) true (freeBlock kind s) true if leb (entries kind) e else
+    spot (freeEntry kind s) true (freeBlock kind s) true if noEntry kind e else
     spot e false (freeBlock kind s) true if eqb (blockIn kind s e r) 0 else
     spot e false (blockIn kind s e r) false
 
@@ -159,7 +159,7 @@ does41 kind f e₀ e r b =
 
 -- an item of the process on the file
 unfoldable pub isOfFile : ℕ → File → Item → Bool
-isOfFile p f it = not (eqb (it .kind) 0) and eqb (it .process) p and sameName (it .name) (f .name)
+isOfFile p f it = not (eqb (it .kind) anEmpty) and eqb (it .process) p and sameName (it .name) (f .name)
 
 -- Close takes away the caller's open and its locks on that file; ..
 unfoldable pub unlessOfFile : ℕ → File → Item → Item
@@ -170,7 +170,7 @@ closed p f l = withItems l (map (unlessOfFile p f) (l .items))
 
 -- .. 43 its locks in the run; ..
 unfoldable pub isInRun : ℕ → File → ℕ → ℕ → Item → Bool
-isInRun p f r n it = eqb (it .kind) 2 and leb r (it .number) and ltb (it .number) (r + n) and isOfFile p f it
+isInRun p f r n it = eqb (it .kind) aLock and leb r (it .number) and ltb (it .number) (r + n) and isOfFile p f it
 
 unfoldable pub unlessInRun : ℕ → File → ℕ → ℕ → Item → Item
 unlessInRun p f r n it = emptyPlace if isInRun p f r n it else it
@@ -202,10 +202,10 @@ lockedRun p f r n l = turns (lockedAt p f r) n l
 
 -- in modes 0 and 2 success with no effect
 unfoldable pub does42 : ℕ → LockList → ℕ → File → ℕ → ℕ → Buffers → Outcome
-does42 p l o f r n b = accept (withList b (pack (lockedRun p f r n l))) if eqb (itemAt l o .mode) unlocked else accept b
+does42 p l o f r n b = accept (withList b (pack (lockedRun p f r n l))) if eqb (itemAt l o .mode) modeUnlocked else accept b
 
 unfoldable pub does43 : ℕ → LockList → ℕ → File → ℕ → ℕ → Buffers → Outcome
-does43 p l o f r n b = accept (withList b (pack (unlockedRun p f r n l))) if eqb (itemAt l o .mode) unlocked else accept b
+does43 p l o f r n b = accept (withList b (pack (unlockedRun p f r n l))) if eqb (itemAt l o .mode) modeUnlocked else accept b
 
 -- ---- 46
 

@@ -27,46 +27,55 @@ placeSize = 20
 abbrev pub placeAt : ℕ → ℕ
 placeAt i = 19 + placeSize * i
 
--- the kind of a place: 0 empty, 1 open, 2 record lock, 3 a mark that is none of these
+-- the kinds of places: empty, an open, a record lock (3 is one with a mark that is none of these)
+abbrev pub anEmpty : ℕ
+anEmpty = 0
+
+abbrev pub anOpen : ℕ
+anOpen = 1
+
+abbrev pub aLock : ℕ
+aLock = 2
+
 -- A two-byte mark stands before each item, 4F 46 (open) or 4C 52 (record lock).
 unfoldable pub kindOf : ℕ → ℕ → ℕ
 kindOf a b =
-    1 if eqb a 0x4F and eqb b 0x46 else
-    2 if eqb a 0x4C and eqb b 0x52 else
-    0 if eqb a 0 and eqb b 0 else
+    anOpen if eqb a 0x4F and eqb b 0x46 else
+    aLock if eqb a 0x4C and eqb b 0x52 else
+    anEmpty if eqb a 0 and eqb b 0 else
     3
 
 unfoldable pub firstMark : ℕ → ℕ
-firstMark k = 0x4F if eqb k 1 else 0x4C if eqb k 2 else 0
+firstMark k = 0x4F if eqb k anOpen else 0x4C if eqb k aLock else 0
 
 unfoldable pub secondMark : ℕ → ℕ
-secondMark k = 0x46 if eqb k 1 else 0x52 if eqb k 2 else 0
+secondMark k = 0x46 if eqb k anOpen else 0x52 if eqb k aLock else 0
 
 -- Modes: 0 locked, 1 unlocked, 2 read-only.
-abbrev pub locked : ℕ
-locked = 0
+abbrev pub modeLocked : ℕ
+modeLocked = 0
 
-abbrev pub unlocked : ℕ
-unlocked = 1
+abbrev pub modeUnlocked : ℕ
+modeUnlocked = 1
 
-abbrev pub readonly : ℕ
-readonly = 2
+abbrev pub modeReadOnly : ℕ
+modeReadOnly = 2
 
 -- An empty place is twenty zeros.
 abbrev pub emptyPlace : Item
-emptyPlace = record { kind = 0; process = 0; name = replicate 11 0; mode = 0; number = 0 }
+emptyPlace = record { kind = anEmpty; process = 0; name = replicate 11 0; mode = 0; number = 0 }
 
 -- An open has record 0.
 abbrev pub freshOpen : ℕ → List ℕ → ℕ → Item
-freshOpen p name mode = record { kind = 1; process = p; name = name; mode = mode; number = 0 }
+freshOpen p name mode = record { kind = anOpen; process = p; name = name; mode = mode; number = 0 }
 
 -- A lock has mode 1.
 abbrev pub freshLock : ℕ → List ℕ → ℕ → Item
-freshLock p name r = record { kind = 2; process = p; name = name; mode = unlocked; number = r }
+freshLock p name r = record { kind = aLock; process = p; name = name; mode = modeUnlocked; number = r }
 
 -- what stands past the last place
 abbrev pub blank : Item
-blank = record { kind = 0; process = 0; name = []; mode = 0; number = 0 }
+blank = record { kind = anEmpty; process = 0; name = []; mode = 0; number = 0 }
 
 abbrev pub itemAt : LockList → ℕ → Item
 itemAt l i = getD (l .items) i blank
@@ -94,8 +103,8 @@ packItem it =
     firstMark (it .kind) ∷ secondMark (it .kind) ∷ it .process
     ∷ (tab (byteFrom (it .name) 0) 11 ++ (it .mode ∷ 0 ∷ le 4 (it .number)))
 
-unfoldable pub placeOf : List ℕ → ℕ → Item
-placeOf s i = itemFrom (part (placeAt i) placeSize s)
+unfoldable pub itemIn : List ℕ → ℕ → Item
+itemIn s i = itemFrom (part (placeAt i) placeSize s)
 
 -- Bytes 0 to 2: capacity, open limit and lock limit. Bytes 3 to 18: each process's user. Then 64 places.
 unfoldable pub unpack : List ℕ → LockList
@@ -104,7 +113,7 @@ unpack s = record {
   openlimit = byte s 1;
   locklimit = byte s 2;
   users = tab (byteFrom s 3) processes;
-  items = tab (placeOf s) places;
+  items = tab (itemIn s) places;
 }
 
 unfoldable pub pack : LockList → List ℕ
@@ -127,15 +136,15 @@ sameFile f g = eqb (f .user) (g .user) and sameName (f .name) (g .name)
 
 -- an open of the file with that name by the process
 unfoldable pub opensName : ℕ → List ℕ → Item → Bool
-opensName p name it = eqb (it .kind) 1 and eqb (it .process) p and sameName (it .name) name
+opensName p name it = eqb (it .kind) anOpen and eqb (it .process) p and sameName (it .name) name
 
 -- an open of the file by anybody; user is that of the item's process
 unfoldable pub opensFile : File → ℕ → Item → Bool
-opensFile f user it = eqb (it .kind) 1 and eqb user (f .user) and sameName (it .name) (f .name)
+opensFile f user it = eqb (it .kind) anOpen and eqb user (f .user) and sameName (it .name) (f .name)
 
 -- a lock of the file's record by anybody
 unfoldable pub locksRecord : File → ℕ → ℕ → Item → Bool
-locksRecord f r user it = eqb (it .kind) 2 and eqb (it .number) r and eqb user (f .user) and sameName (it .name) (f .name)
+locksRecord f r user it = eqb (it .kind) aLock and eqb (it .number) r and eqb user (f .user) and sameName (it .name) (f .name)
 
 -- an item of that kind by the process
 unfoldable pub isKindBy : ℕ → ℕ → Item → Bool
@@ -181,13 +190,13 @@ unfoldable pub isKindByAt : LockList → ℕ → ℕ → ℕ → Bool
 isKindByAt l k p i = isKindBy k p (itemAt l i)
 
 unfoldable pub opensBy : LockList → ℕ → ℕ
-opensBy l p = count (isKindByAt l 1 p) places
+opensBy l p = count (isKindByAt l anOpen p) places
 
 unfoldable pub locksBy : LockList → ℕ → ℕ
-locksBy l p = count (isKindByAt l 2 p) places
+locksBy l p = count (isKindByAt l aLock p) places
 
 unfoldable pub isEmptyAt : LockList → ℕ → Bool
-isEmptyAt l i = eqb (itemAt l i .kind) 0
+isEmptyAt l i = eqb (itemAt l i .kind) anEmpty
 
 -- Only those numbered below the capacity are free: the lowest empty place, the capacity where there is none, ..
 unfoldable pub freePlace : LockList → ℕ
@@ -224,35 +233,35 @@ goodOpen kind s l it = leb (it .mode) 2 and eqb (it .number) 0 and not (missing 
 
 -- the open at place o is unlocked
 unfoldable pub opensUnlocked : LockList → ℕ → Bool
-opensUnlocked l o = isOpened o and eqb (itemAt l o .mode) unlocked
+opensUnlocked l o = isOpened o and eqb (itemAt l o .mode) modeUnlocked
 
 -- A lock has mode 1; each lock's process has that file open unlocked, its record has a block.
 unfoldable pub goodLock : Kind → List ℕ → LockList → Item → Bool
 goodLock kind s l it =
-    eqb (it .mode) unlocked and opensUnlocked l (openOf l (it .process) (fileOf l it))
+    eqb (it .mode) modeUnlocked and opensUnlocked l (openOf l (it .process) (fileOf l it))
     and not (eqb (blockOf kind s (fileOf l it) (it .number)) 0)
 
 -- Processes to 15; names legal; records below 262,144.
 unfoldable pub goodItem : Kind → ℕ → List ℕ → LockList → Item → Bool
 goodItem kind top s l it =
     leb (it .process) 15 and legalName (it .name) 0 and all (isLow (it .name)) 11 and leb (it .number) top
-    and (goodOpen kind s l it if eqb (it .kind) 1 else goodLock kind s l it)
+    and (goodOpen kind s l it if eqb (it .kind) anOpen else goodLock kind s l it)
 
 -- Places from the capacity on empty.
 unfoldable pub goodPlace : Kind → ℕ → List ℕ → LockList → ℕ → Bool
 goodPlace kind top s l i =
-    goodEmpty (itemAt l i) if eqb (itemAt l i .kind) 0 else
-    (ltb i (l .capacity) and leb (itemAt l i .kind) 2 and goodItem kind top s l (itemAt l i))
+    goodEmpty (itemAt l i) if eqb (itemAt l i .kind) anEmpty else
+    (ltb i (l .capacity) and leb (itemAt l i .kind) aLock and goodItem kind top s l (itemAt l i))
 
 -- A process has at most one open per file; opens of one file by different processes are all unlocked or all read-only.
 unfoldable pub standBeside : Item → Item → Bool
-standBeside a b = not (eqb (a .process) (b .process)) and eqb (a .mode) (b .mode) and not (eqb (a .mode) locked)
+standBeside a b = not (eqb (a .process) (b .process)) and eqb (a .mode) (b .mode) and not (eqb (a .mode) modeLocked)
 
 -- what two items of one file may not be: opens that cannot stand beside each other, or locks of the same record
 unfoldable pub clash : Item → Item → Bool
 clash a b =
-    (eqb (a .kind) 1 and eqb (b .kind) 1 and not (standBeside a b))
-    or (eqb (a .kind) 2 and eqb (b .kind) 2 and eqb (a .number) (b .number))
+    (eqb (a .kind) anOpen and eqb (b .kind) anOpen and not (standBeside a b))
+    or (eqb (a .kind) aLock and eqb (b .kind) aLock and eqb (a .number) (b .number))
 
 unfoldable pub clashAt : LockList → ℕ → ℕ → Bool
 clashAt l i j = clash (itemAt l i) (itemAt l j) and sameFile (fileOf l (itemAt l i)) (fileOf l (itemAt l j))

@@ -8,7 +8,7 @@ pub enum ImageAnswer {
     UnsoundDirectory,
 }
 
-// The paper's number of an answer.
+// Document 01's number of an answer.
 pub fn image_number(answer: ImageAnswer) -> u32
     ensures { λ r. ⌜ r ≡ imageNumber answer ⌝ }
 {

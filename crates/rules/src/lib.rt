@@ -1,4 +1,4 @@
-// The values that the paper names, as the code holds them.
+// The values that document 01 names, as the code holds them.
 pub mod answer;
 pub mod bytes;
 pub mod file;

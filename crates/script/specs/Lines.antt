@@ -2,22 +2,25 @@
 use Prim.Native.Nat.{ℕ, _+_, _/_, _%_, _≤_}
 use mathlib.Core.Path.{_≡_}
 use mathlib.Core.List.{List, [], _∷_, _++_}
-use lib.ListN.{length, take}
+use lib.ListN.{length, take, drop}
 use Rattle.script.specs.Text.{text, digits}
 
--- the first n bytes of a buffer are a line (`long` follows from `within`: a caller's `&buffer[..n]` asks both)
-pub record Holds (line : List ℕ) (n : ℕ) (buffer : List ℕ) : Type 0 where
-  pub within : n ≤ length buffer
-  pub long : n ≡ length (take n buffer)
-  pub so : take n buffer ≡ line
+-- a line was put into a buffer's first n bytes, and the others stay (`long` follows from `within`: a caller's `&buffer[..n]` asks both)
+pub record Lined (line : List ℕ) (n : ℕ) (before after : List ℕ) : Type 0 where
+  pub within : n ≤ length after
+  pub long : n ≡ length (take n after)
+  pub so : take n after ≡ line
+  pub rest : drop n after ≡ drop n before
 
--- v was added to the n bytes that a buffer held, and it holds r now
+-- v was added to the first n bytes of a buffer, which are r then, and the others stay
 pub record Added (v : List ℕ) (n r : ℕ) (before after : List ℕ) : Type 0 where
   pub within : r ≤ length after
+  pub grows : n ≤ r
   pub so : take r after ≡ take n before ++ v
+  pub rest : drop r after ≡ drop r before
 
-abbrev pub blank : ℕ
-blank = 0x20
+abbrev pub space : ℕ
+space = 0x20
 
 abbrev pub newline : ℕ
 newline = 0x0A
@@ -32,7 +35,7 @@ headerLine = text "call process function A H\n"
 -- number, process, function, A, H of a call in decimal; its answer is A + 256·H
 unfoldable pub callLine : ℕ → ℕ → ℕ → ℕ → List ℕ
 callLine number process function answer =
-    field number blank ++ field process blank ++ field function blank ++ field (answer % 256) blank ++ field (answer / 256) newline
+    field number space ++ field process space ++ field function space ++ field (answer % 256) space ++ field (answer / 256) newline
 
 -- `end` and the number of calls
 unfoldable pub endLine : ℕ → List ℕ

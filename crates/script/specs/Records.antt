@@ -8,7 +8,7 @@ use Rattle.words.specs.Tests.{_and_}
 use Rattle.words.specs.Bytes.{byte, part}
 use Rattle.rules.specs.Serves.{processes, fcbSize, dmaSize}
 
--- Two marks.
+-- Two mark bytes.
 abbrev pub markSize : ℕ
 markSize = 2
 
@@ -20,15 +20,9 @@ numbersSize = 3
 abbrev pub startSize : ℕ
 startSize = markSize + numbersSize + processes
 
-unfoldable pub startRecord : ℕ → ℕ → ℕ → List ℕ → List ℕ
-startRecord capacity opens locks users = 0x4D ∷ 0x53 ∷ capacity ∷ opens ∷ locks ∷ users
-
 -- 4D 43, function, process, count (a byte each), FCB, DMA
 abbrev pub callSize : ℕ
 callSize = markSize + numbersSize + fcbSize + dmaSize
-
-unfoldable pub callRecord : ℕ → ℕ → ℕ → List ℕ → List ℕ → List ℕ
-callRecord function process count fcb dma = 0x4D ∷ 0x43 ∷ function ∷ process ∷ count ∷ (fcb ++ dma)
 
 -- a record is whole and well marked
 unfoldable pub isRecord : ℕ → ℕ → List ℕ → Bool
@@ -60,3 +54,12 @@ fcbIn s = part (markSize + numbersSize) fcbSize s
 
 abbrev pub dmaIn : List ℕ → List ℕ
 dmaIn s = part (markSize + numbersSize + fcbSize) dmaSize s
+
+-- ---- What only proofs need
+
+-- the records that their parts make
+unfoldable pub startRecord : ℕ → ℕ → ℕ → List ℕ → List ℕ
+startRecord capacity opens locks users = 0x4D ∷ 0x53 ∷ capacity ∷ opens ∷ locks ∷ users
+
+unfoldable pub callRecord : ℕ → ℕ → ℕ → List ℕ → List ℕ → List ℕ
+callRecord function process count fcb dma = 0x4D ∷ 0x43 ∷ function ∷ process ∷ count ∷ (fcb ++ dma)

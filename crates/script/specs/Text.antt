@@ -20,6 +20,8 @@ digitsBelow (suc k) n = ([] if ltb n 10 else digitsBelow k (n / 10)) ++ ((48 + n
 unfoldable pub digits : ℕ → List ℕ
 digits n = digitsBelow (suc n) n
 
+-- ---- What only proofs need
+
 -- the number that digits say, after those that said n
 unfoldable pub readOn : ℕ → List ℕ → ℕ
 readOn n [] = n

@@ -26,12 +26,12 @@ dmaWith id = id ∷ replicate 2047 0
 pub record Step : Type 0 where
   pub process : ℕ
   pub function : ℕ
-  pub number : ℕ
+  pub recordNumber : ℕ
   pub count : ℕ
   pub id : ℕ
 
 abbrev pub step : ℕ → ℕ → ℕ → ℕ → ℕ → Step
-step p n r c id = record { process = p; function = n; number = r; count = c; id = id }
+step p n r c id = record { process = p; function = n; recordNumber = r; count = c; id = id }
 
 -- ---- What they find and leave
 
@@ -143,5 +143,5 @@ session =
 unfoldable pub AsListed : List ℕ → List ℕ → List Line → Type 0
 AsListed l i [] = Unit {0}
 AsListed l i (x ∷ xs) =
-    (callRun Small (x .asks .function) (x .asks .process) (x .asks .count) (buffers (fcbWith (x .asks .number)) (dmaWith (x .asks .id)) l i) ≡ x .gives)
+    (callRun Small (x .asks .function) (x .asks .process) (x .asks .count) (buffers (fcbWith (x .asks .recordNumber)) (dmaWith (x .asks .id)) l i) ≡ x .gives)
     × AsListed (x .gives .left .list) (x .gives .left .image) xs

@@ -1,1 +1,1 @@
-// The session of the paper over the written rules. There is no code here.
+// Document 01's session over the written rules. There is no code here.

@@ -5,6 +5,7 @@ use mathlib.Core.Bool.{Bool, true, false}
 use mathlib.Core.List.{List}
 use mathlib.Core.Logic.{_⊎_}
 use lib.ListN.{length}
+use Rattle.words.specs.Bytes.{part}
 use lib.Dec.{eqb, leb}
 use Rattle.words.specs.Tests.{_and_, any, count}
 use Rattle.rules.specs.declared.kind.Kind.{Kind}
@@ -118,7 +119,7 @@ pub data Leaf (kind : Kind) (n p c : ℕ) (b : Buffers) : Outcome → Type 0 whe
   nowWritten : (chosen n ≡ Call Write) ⊎ (chosen n ≡ Call WriteZeros) → Passed kind p c b → MayWrite kind p b → (zeros : Bool)
       → Leaf kind n p c b (accept (withImage b (imageWritten kind zeros p b (b .dma))))
   nowRewritten : chosen n ≡ Call TestWrite → Passed kind p c b → MayWrite kind p b → (blockOf kind (b .image) (fileBy p b) (recordOf (b .fcb)) ≡ 0 → ⊥)
-      → (v : List ℕ) → 128 ≤ length v → Leaf kind n p c b (accept (withImage b (imageWritten kind false p b v)))
+      → (v : List ℕ) → 128 ≤ length v → v ≡ part 128 128 (b .dma) → Leaf kind n p c b (accept (withImage b (imageWritten kind false p b v)))
   nowLocked : chosen n ≡ Call Lock → Passed kind p c b → MayLock kind p c b → Leaf kind n p c b (accept (withList b (pack (lockedRun p (fileBy p b) (recordOf (b .fcb)) c (listOf b)))))
   lockIdle : chosen n ≡ Call Lock → Passed kind p c b → Idle p b → Leaf kind n p c b (accept b)
   nowUnlocked : chosen n ≡ Call Unlock → Passed kind p c b → MayUnlock p b → Leaf kind n p c b (accept (withList b (pack (unlockedRun p (fileBy p b) (recordOf (b .fcb)) c (listOf b)))))

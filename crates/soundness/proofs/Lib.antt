@@ -19,3 +19,4 @@ pub mod Run
 pub mod Taken
 pub mod Ends
 pub mod Kept
+pub mod InBytes

@@ -16,7 +16,7 @@ use Rattle.words.proofs.Sets.{and-both, not-of-false}
 use Rattle.rules.specs.declared.kind.Kind.{Kind}
 use Rattle.rules.specs.Kinds.{entries, numbers}
 use Rattle.rules.specs.declared.file.File.{File}
-use Rattle.rules.specs.Drive.{highest, blocks, isEmpty, fileAt, mapNumber, goodFields, holds, names, isUsed, isFree}
+use Rattle.rules.specs.Drive.{highest, blocks, isEmpty, fileAt, mapNumber, goodFields, holdsNumber, namesBlock, isUsed, isFree}
 use Rattle.rules.proofs.Sound.{Names, Maps, SoundImage, length-long, length-few}
 use Rattle.rules.proofs.Frames.{Head, Same, head-of, empty-same, extent-same, file-same, fields-so, map-same, names-same, count-good, long-same}
 use Rattle.soundness.proofs.Numbers.{map-later, numbered, number-there, number-else, number-out, number-long}
@@ -125,11 +125,11 @@ count-change kind s n b f below small file g a m x y =
 -- ---- a free block taken
 
 pub free-unnamed : (kind : Kind) (s : List ℕ) (b : ℕ) → isFree kind s b ≡ true → (e k : ℕ) → Names kind s e k → mapNumber kind s e k ≡ b → ⊥
-unfolding isFree isUsed names holds
+unfolding isFree isUsed namesBlock holdsNumber
 free-unnamed kind s b h e k n q =
     never
-    (and-both _ _ (not-of-false _ (n .entry-used)) (any-found (holds kind s b e) (numbers kind) k (n .place-there) (eq-eqb _ _ q)))
-    (any-at (names kind s b) (entries kind) e (not-true _ (and-snd _ _ h)) (n .entry-there))
+    (and-both _ _ (not-of-false _ (n .entry-used)) (any-found (holdsNumber kind s b e) (numbers kind) k (n .place-there) (eq-eqb _ _ q)))
+    (any-at (namesBlock kind s b) (entries kind) e (not-true _ (and-snd _ _ h)) (n .entry-there))
 
 pub free-low : (kind : Kind) (s : List ℕ) (b : ℕ) → isFree kind s b ≡ true → 2 ≤ b
 unfolding isFree

@@ -114,7 +114,7 @@ module _ (kind : Kind) (n p c : ℕ) (b : Buffers) (ok : Passed kind p c b) wher
       let m = is-there kind p b (any-append there last (g .1) .0) in
       let w = ok .ready .dma-long in
       nowRewritten k ok (may-write kind p b (g .0) (and-left _ _ (m .0)) (and-left _ _ (m .1))) (block-some kind p b (m .1)) (part 128 128 (b .dma))
-      (simp (length-take, length-drop) (omega arith))
+      (simp (length-take, length-drop) (omega arith)) refl
 
   run-open : (more : List Row) → anyRow (rowsRun (listOf b) (openBy p b) (r p b) c (b .dma) more) ≡ false → openBy p b < 64
   unfolding rowsRun anyRow

@@ -17,7 +17,7 @@ use Rattle.rules.specs.declared.kind.Kind.{Kind}
 use Rattle.rules.specs.Kinds.{blockSize, entries, numbers}
 use Rattle.rules.specs.declared.file.File.{File}
 use Rattle.rules.specs.declared.spot.Spot.{Spot}
-use Rattle.rules.specs.Drive.{highest, blocks, fileAt, mapNumber, mapPlace, entryOf, freeEntry, holds, names, isUsed, isFree, freeBlock, blockIn, recordAt}
+use Rattle.rules.specs.Drive.{highest, blocks, fileAt, mapNumber, mapPlace, entryOf, freeEntry, holdsNumber, namesBlock, isUsed, isFree, freeBlock, blockIn, recordAt}
 use Rattle.rules.specs.Effects.{spot, spotAt, newEntry, entered, mapped, counted, cleared, stored, written, countTo}
 use Rattle.rules.proofs.Sizes.{directory-size, place-fits, record-past, record-inside, block-inside, record-over, record-room}
 use Rattle.rules.proofs.Sound.{Is, Names, SoundImage, found-is, length-whole}
@@ -113,18 +113,18 @@ pub record New (kind : Kind) (s t : List ℕ) (f : File) (r : ℕ) : Type 0 wher
   pub within : block < blocks kind s
 
 free-stays : (kind : Kind) (s t : List ℕ) (b : ℕ) → ((e k : ℕ) → Names kind t e k → Stays kind s t e k) → isFree kind s b ≡ true → isFree kind t b ≡ true
-unfolding isFree isUsed names holds
+unfolding isFree isUsed namesBlock holdsNumber
 free-stays kind s t b h u =
     let l = free-low kind s b u in
-    and-both _ _ (le-leb 2 b l) (not-of-false _ (any-never (names kind t b) (entries kind) (λ e k. ⊎-elim
-    (λ (y : names kind t b e ≡ true).
-    let w = any-some (holds kind t b e) (numbers kind) (and-snd _ _ y) in
+    and-both _ _ (le-leb 2 b l) (not-of-false _ (any-never (namesBlock kind t b) (entries kind) (λ e k. ⊎-elim
+    (λ (y : namesBlock kind t b e ≡ true).
+    let w = any-some (holdsNumber kind t b e) (numbers kind) (and-snd _ _ y) in
     let q : mapNumber kind t e (w .0) ≡ b = eqb-true _ _ (w .2) in
     let n : Names kind t e (w .0) =
     record { entry-there = k; place-there = w .1; entry-used = not-true _ (and-fst _ _ y); some = λ (z : mapNumber kind t e (w .0) ≡ 0). absurd (omega arith) } in
     let z = h e (w .0) n in
     absurd (free-unnamed kind s b u e (w .0) (z .named) (sym (z .number) ∙ q)))
-    (λ (y : names kind t b e ≡ false). y) (either (names kind t b e)))))
+    (λ (y : namesBlock kind t b e ≡ false). y) (either (namesBlock kind t b e)))))
 
 module _ (kind : Kind) (zeros : Bool) (s : List ℕ) (f : File) (r : ℕ) (v : List ℕ) (g : SoundImage kind highest s) (named : length (f .name) ≡ 11)
     (far : r < 262144) (there : entryOf kind s f 0 < entries kind) (full : 128 ≤ length v) where

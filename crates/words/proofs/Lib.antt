@@ -1,6 +1,7 @@
 pub mod Tests
 pub mod Lists
 pub mod Bytes
+pub mod AreBytes
 pub mod Tables
 pub mod Counts
 pub mod Sets

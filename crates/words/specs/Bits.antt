@@ -7,6 +7,8 @@ use lib.Dec.{eqb}
 use Rattle.words.specs.Tests.{_if_else_}
 use Rattle.words.specs.Bytes.{byte}
 
+-- ---- What only proofs need: the rules know no bits
+
 -- bit k of a byte, bit 0 the lowest
 unfoldable pub bitOf : ℕ → ℕ → Bool
 bitOf k x = eqb (x / 2 ^ k % 2) 1

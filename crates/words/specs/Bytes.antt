@@ -1,7 +1,10 @@
--- Lists of bytes. Nothing here asks that a byte is below 256. Assumes nothing.
+-- Lists of bytes. Nothing but `areBytes` asks that a byte is below 256. Assumes nothing.
 use Prim.Native.Nat.{ℕ, zero, suc, _+_, _*_, _/_, _%_}
+use mathlib.Core.Bool.{Bool, true}
 use mathlib.Core.List.{List, [], _∷_, _++_}
 use lib.ListN.{length, getD, take, drop}
+use lib.Dec.{ltb}
+use Rattle.words.specs.Tests.{_and_}
 
 -- byte i of s
 abbrev pub byte : List ℕ → ℕ → ℕ
@@ -35,3 +38,8 @@ word a b c d = a + 256 * (b + 256 * (c + 256 * d))
 unfoldable pub numberAt : ℕ → List ℕ → ℕ → ℕ
 numberAt zero s at = 0
 numberAt (suc k) s at = byte s at + 256 * numberAt k s (at + 1)
+
+-- each number of a list is a byte
+unfoldable pub areBytes : List ℕ → Bool
+areBytes [] = true
+areBytes (x ∷ xs) = ltb x 256 and areBytes xs

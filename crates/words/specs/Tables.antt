@@ -33,6 +33,8 @@ unfoldable pub anyRow : List Row → Bool
 anyRow [] = false
 anyRow (x ∷ xs) = x .test or anyRow xs
 
+-- ---- What only proofs need
+
 -- no row has the code 0
 unfoldable pub noneZero : List Row → Bool
 noneZero [] = true

@@ -4,12 +4,12 @@ use mathlib.Core.Path.{_≡_}
 use mathlib.Core.Bool.{true}
 use Rattle.words.specs.Tests.{all}
 use Rattle.words.proofs.Sets.{alls-as}
-use Rattle.rules.specs.Drive.{isBegun}
+use Rattle.rules.specs.Drive.{hasFirst}
 use Rattle.drive.proofs.check.all_begun.Statement.{statement}
 use Rattle.drive.proofs.check.all_begun.Tie as tie
 
 abbrev Inv-loop : tie.InvT-loop
-Inv-loop kind image n e₀ e = (e ≤ n) × (all (isBegun kind image) e ≡ true)
+Inv-loop kind image n e₀ e = (e ≤ n) × (all (hasFirst kind image) e ≡ true)
 
 abbrev μ-loop : tie.MeasureT-loop
 μ-loop kind image n e₀ e = n - e

@@ -1,13 +1,13 @@
 -- `drive::check::is_begun` meets its contract.
 use borrow.Author.Needs.{needs}
 use Rattle.words.proofs.Sets.{choices}
-use Rattle.rules.specs.Drive.{isBegun}
+use Rattle.rules.specs.Drive.{hasFirst}
 use Rattle.drive.proofs.Begun.{begun-self, first-as}
 use Rattle.drive.proofs.check.is_begun.Statement.{statement}
 use Rattle.drive.proofs.check.is_begun.Tie as tie
 
 pub is-begun-spec : {M : Type 1} → statement M
-unfolding isBegun
+unfolding hasFirst
 is-begun-spec =
     tie.close
     (tie.spec

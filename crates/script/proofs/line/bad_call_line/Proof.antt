@@ -24,10 +24,11 @@ bad-call-line-spec =
     -- returns
     (λ c.
     let bad = starts _ _ _ _ (c .before .before .before .before .add .ensures .1) in
-    as-line _ _ _ _ (ap (λ (v : List ℕ). text "bad record " ++ v) (past-most _ (c .before .before .before .if1 .taken))) (goes-on _ _ _ _ _ _ bad (c .add2 .ensures .1)))
+    let most = ap (λ (v : List ℕ). text "bad record " ++ v) (past-most _ (c .before .before .before .if1 .taken)) in
+    as-line _ _ _ _ _ most (goes-on _ _ _ _ _ _ _ bad (c .add2 .ensures .1)))
     -- add-add-number
     (λ c. search needs)
     -- add-number-requires
     (λ c κs. search needs)
     -- returns-2
-    (λ c. goes-on _ _ _ _ _ _ (starts _ _ _ _ (c .before .before .before .add .ensures .1)) (c .add-number .ensures .1)))
+    (λ c. goes-on _ _ _ _ _ _ _ (starts _ _ _ _ (c .before .before .before .add .ensures .1)) (c .add-number .ensures .1)))

@@ -17,4 +17,4 @@ end-line-spec =
     -- add-number-requires
     (λ c κs. search needs)
     -- returns
-    (λ c. goes-on _ _ _ _ _ _ (starts _ _ _ _ (c .before .before .add .ensures .1)) (c .add-number .ensures .1)))
+    (λ c. goes-on _ _ _ _ _ _ _ (starts _ _ _ _ (c .before .before .add .ensures .1)) (c .add-number .ensures .1)))

@@ -1,7 +1,7 @@
 use borrow.Author.Needs.{needs}
 use Rattle.words.proofs.Bytes.{past-end}
-use Rattle.script.proofs.record.byte_at.Statement.{statement}
-use Rattle.script.proofs.record.byte_at.Tie as tie
+use Rattle.script.proofs.part.byte_at.Statement.{statement}
+use Rattle.script.proofs.part.byte_at.Tie as tie
 
 pub byte-at-spec : {M : Type 1} → statement M
 byte-at-spec =

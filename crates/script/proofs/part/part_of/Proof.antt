@@ -1,7 +1,7 @@
 use borrow.Author.Needs.{needs}
 use Rattle.script.proofs.Parts.{part-none, part-some, part-all}
-use Rattle.script.proofs.record.part_of.Statement.{statement}
-use Rattle.script.proofs.record.part_of.Tie as tie
+use Rattle.script.proofs.part.part_of.Statement.{statement}
+use Rattle.script.proofs.part.part_of.Tie as tie
 
 pub part-of-spec : {M : Type 1} → statement M
 part-of-spec =

@@ -1,8 +1,8 @@
 use borrow.Author.Needs.{needs}
 use native.Mathlib.Omega.{arith}
 use Rattle.script.proofs.Parts.{part-fits, part-copied}
-use Rattle.script.proofs.record.fcb_of.Statement.{statement}
-use Rattle.script.proofs.record.fcb_of.Tie as tie
+use Rattle.script.proofs.part.fcb_of.Statement.{statement}
+use Rattle.script.proofs.part.fcb_of.Tie as tie
 
 pub fcb-of-spec : {M : Type 1} → statement M
 fcb-of-spec =
@@ -15,4 +15,7 @@ fcb-of-spec =
     -- put-bytes-requires
     (λ c κs. part-fits (c .before .before .before .args .s .now) _ 5 36 2089 (c .fcb-in .ensures) (search needs) (omega arith))
     -- returns
-    (λ c. part-copied (c .before .before .before .before .before .args .s .now) _ _ _ 5 36 2089 (c .before .put-bytes .ensures) (c .before .before .fcb-in .ensures) (search needs) (omega arith) (search needs)))
+    (λ c.
+    let put = c .before .put-bytes .ensures in
+    let got = c .before .before .fcb-in .ensures in
+    part-copied (c .before .before .before .before .before .args .s .now) _ _ _ 5 36 2089 put got (search needs) (omega arith) (search needs)))

@@ -1,0 +1,262 @@
+-- A call leaves bytes where it was lent bytes: in the DMA, in the list and in the image. Assumes nothing.
+use Prim.Native.Nat.{ℕ, _+_, _*_, _/_, _%_, _≤_, _<_}
+use mathlib.Core.Path.{_≡_, refl, ap, _∙_}
+use mathlib.Core.Bool.{Bool, true, false}
+use mathlib.Core.List.{List, [], _∷_, _++_}
+use mathlib.Core.Logic.{_⊎_, ⊎-elim}
+use native.Mathlib.Omega.{arith}
+use lib.ListN.{length, take, replicate}
+use lib.Dec.{eqb}
+use borrow.Author.Tests.{eqb-true, leb-true, ltb-true}
+use Rattle.words.specs.Tests.{_if_else_}
+use Rattle.words.specs.Tables.{firstOf, anyRow}
+use Rattle.words.specs.Lists.{tab}
+use Rattle.words.specs.Bytes.{byte, byteFrom, lowFrom, part, le, areBytes}
+use Rattle.words.proofs.Tests.{either, all-at, and-fst, and-snd}
+use Rattle.words.proofs.Lists.{tab-at}
+use Rattle.words.proofs.AreBytes.{bytes-cons, bytes-append, bytes-take, bytes-part, bytes-put, bytes-set, byte-small, bytes-replicate, bytes-tab, bytes-flat, bytes-le, bytes-turns}
+use Rattle.rules.specs.declared.kind.Kind.{Kind}
+use Rattle.rules.specs.Kinds.{entries, blockSize, width}
+use Rattle.rules.specs.declared.file.File.{File}
+use Rattle.rules.specs.declared.item.Item.{Item}
+use Rattle.rules.specs.declared.list.LockList.{LockList}
+use Rattle.rules.specs.declared.spot.Spot.{Spot}
+use Rattle.rules.specs.declared.routine.Routine.the-variants.{Open, Close, Delete, Make, Rename, Read, Write, WriteZeros, TestWrite, Lock, Unlock, FreeSpace, Terminate}
+use Rattle.rules.specs.declared.routine.Chosen.{Chosen}
+use Rattle.rules.specs.declared.routine.Chosen.the-variants.{Call, Unknown}
+use Rattle.rules.specs.Serves.{Buffers, Outcome, outcome, chosen}
+use Rattle.rules.specs.Drive.{nameAt, recordAt, blockIn, fileFrom}
+use Rattle.rules.specs.Locks.{blank, isOpened, itemAt, userOf, firstMark, secondMark, packItem, pack, unpack, isLimit, isUser, isLow, isZero, goodEmpty}
+use Rattle.rules.specs.Asks.{callerFile, newFile, recordOf}
+use Rattle.rules.specs.Effects.{madeEntry, made, erasedAt, erased, lowChanged, renamedAt, renamed, newEntry, entered, mapped, countTo, counted, cleared, stored, written, contents, does15, does16, does19, does22, makes, does23, does33, does34, does41, does42, does43, does46, does143}
+use Rattle.rules.specs.Call.{Asked, asked, effectOf, rowsCall, call}
+use Rattle.rules.proofs.Tables.{accepted}
+use Rattle.rules.proofs.SoundList.{Shape, GoodOpen, GoodLock, Used, Vacant, SoundLocks, isPlain}
+use Rattle.soundness.proofs.Kept.{SoundShape, opened-shape, made-shape, closed-shape, unlocked-shape, ended-shape, locked-shape}
+use Rattle.soundness.proofs.Leaves.{Leaf, listOf, fileBy, newBy, imageWritten, refused, reopened, newlyOpened, newlyMade, nowClosed, nowErased, nowRenamed, nowRead, nowWritten, nowRewritten, nowLocked, lockIdle, nowUnlocked, unlockIdle, nowTold, nowEnded}
+use Rattle.soundness.proofs.Walk.{walk}
+
+bytes-if : (t : Bool) (a b : List ℕ) → areBytes a ≡ true → areBytes b ≡ true → areBytes (a if t else b) ≡ true
+unfolding _if_else_
+bytes-if true a b h k = h
+bytes-if false a b h k = k
+
+from-start : (s : List ℕ) (k : ℕ) → byte s k < 256 → byteFrom s 0 k < 256
+from-start s k h = let z : 0 + k ≡ k = omega arith in rw z h
+
+-- ---- what a call puts into the image
+
+-- a file that a call names: its user comes from the list, its name is low
+record Named (f : File) : Type 0 where
+  user-small : f .user < 256
+  name-low : (k : ℕ) → k < 11 → byte (f .name) k < 128
+  name-bytes : areBytes (f .name) ≡ true
+
+named : (u : ℕ) (s : List ℕ) (at : ℕ) → u < 256 → Named (fileFrom u s at)
+unfolding fileFrom
+named u s at h = record {
+  user-small = h;
+  name-low = λ k m. rw (tab-at (lowFrom s at) 11 k 0 m) (omega arith);
+  name-bytes = bytes-tab (lowFrom s at) 11 (λ k m. omega arith);
+}
+
+user-small : (list : List ℕ) (p : ℕ) → areBytes list ≡ true → userOf (unpack list) p < 256
+unfolding unpack
+user-small list p h = byte-small (tab (byteFrom list 3) 16) p (bytes-tab (byteFrom list 3) 16 (λ k m. byte-small list (3 + k) h))
+
+made-bytes : (e : ℕ) (f : File) (s : List ℕ) → Named f → areBytes s ≡ true → areBytes (made e f s) ≡ true
+unfolding made madeEntry
+made-bytes e f s w h = bytes-put (32 * e) _ s (bytes-cons (f .user) _ (w .user-small) (bytes-append (f .name) (replicate 20 0) (w .name-bytes) (bytes-replicate 20 0 (omega arith)))) h
+
+erased-bytes : (kind : Kind) (f : File) (s : List ℕ) → areBytes s ≡ true → areBytes (erased kind f s) ≡ true
+unfolding erased erasedAt
+erased-bytes kind f s h = bytes-turns (erasedAt f) (entries kind) s (λ e t k. bytes-if _ _ _ (bytes-set t (32 * e) 0xE5 (omega arith) k) k) h
+
+renamed-bytes : (kind : Kind) (f h : File) (s : List ℕ) → Named h → areBytes s ≡ true → areBytes (renamed kind f (h .name) s) ≡ true
+unfolding renamed renamedAt lowChanged
+renamed-bytes kind f h s w g =
+    bytes-turns (renamedAt f (h .name)) (entries kind) s
+    (λ e t k. bytes-if _ _ _ (bytes-put (nameAt e) _ t (bytes-tab _ 11 (λ j m. low e t k j m)) k) k) g
+  where
+    low : (e : ℕ) (t : List ℕ) → areBytes t ≡ true → (j : ℕ) → j < 11 → byte t (nameAt e + j) / 128 * 128 + byte (h .name) j < 256
+    low e t k j m = let a = byte-small t (nameAt e + j) k in let b = w .name-low j m in omega arith
+
+module _ (kind : Kind) (w : Spot) (f : File) (r : ℕ) (named : Named f) (fits : r ≤ 262143) where
+  entered-bytes : (e₀ : ℕ) (s : List ℕ) → areBytes s ≡ true → areBytes (entered w e₀ f r s) ≡ true
+  unfolding entered newEntry
+  entered-bytes e₀ s h =
+      let ends = bytes-cons (r / 128 % 32) _ (omega arith) (bytes-cons 0 _ (omega arith) (bytes-cons (r / 128 / 32) (replicate 17 0) (omega arith) (bytes-replicate 17 0 (omega arith)))) in
+      let name = bytes-tab (byteFrom s (nameAt e₀)) 11 (λ k m. byte-small s (nameAt e₀ + k) h) in
+      bytes-if (w .fresh) _ s (bytes-put (32 * w .entry) _ s (bytes-cons (f .user) _ (named .user-small) (bytes-append _ _ name ends)) h) h
+
+  mapped-bytes : (s : List ℕ) → areBytes s ≡ true → areBytes (mapped kind w r s) ≡ true
+  unfolding mapped
+  mapped-bytes s h = bytes-if (w .taken) _ s (bytes-put _ (le (width kind) (w .block)) s (bytes-le (width kind) (w .block)) h) h
+
+  counted-bytes : (s : List ℕ) → areBytes s ≡ true → areBytes (counted w r s) ≡ true
+  unfolding counted
+  counted-bytes s h = bytes-if _ _ s (bytes-set s (32 * w .entry + 15) (countTo r) (omega arith) h) h
+
+  cleared-bytes : (zeros : Bool) (s : List ℕ) → areBytes s ≡ true → areBytes (cleared kind zeros w s) ≡ true
+  unfolding cleared
+  cleared-bytes zeros s h = bytes-if _ _ s (bytes-put (blockSize kind * w .block) _ s (bytes-replicate (blockSize kind) 0 (omega arith)) h) h
+
+  written-bytes : (zeros : Bool) (e₀ : ℕ) (v s : List ℕ) → areBytes v ≡ true → areBytes s ≡ true → areBytes (written kind zeros w e₀ f r v s) ≡ true
+  unfolding written stored
+  written-bytes zeros e₀ v s k h =
+      bytes-put (recordAt kind (w .block) r) (take 128 v) _ (bytes-take 128 v k)
+      (cleared-bytes zeros _ (counted-bytes _ (mapped-bytes _ (entered-bytes e₀ s h))))
+
+-- ---- a sound list, packed
+
+module _ (kind : Kind) (l : LockList) (s : List ℕ) (g : SoundLocks kind l s) (shape : Shape l) where
+  -- what the bytes of a place are made of
+  record Small (it : Item) : Type 0 where
+    process-small : it .process < 256
+    mode-small : it .mode < 256
+    name-small : (k : ℕ) → k < 11 → byte (it .name) k < 256
+
+  vacant-small : (it : Item) → goodEmpty it ≡ true → Small it
+  unfolding goodEmpty isZero
+  vacant-small it h =
+      let n = and-snd _ _ h in
+      let m : it .mode ≡ 0 = eqb-true _ _ (and-fst _ _ (and-snd _ _ n)) in
+      let p : it .process ≡ 0 = eqb-true _ _ (and-fst _ _ h) in
+      record {
+        process-small = omega arith;
+        mode-small = omega arith;
+        name-small = λ k j. let z : byte (it .name) k ≡ 0 = eqb-true _ _ (all-at (isZero (it .name)) 11 k (and-fst _ _ n) j) in omega arith;
+      }
+
+  used-small : (i : ℕ) → Used kind s l i → Small (itemAt l i)
+  unfolding isPlain isLow
+  used-small i w =
+      let p : itemAt l i .process ≤ 15 = leb-true _ _ (and-fst _ _ (w .plain)) in
+      let low = and-fst _ _ (and-snd _ _ (and-snd _ _ (w .plain))) in
+      let m : itemAt l i .mode ≤ 2 = ⊎-elim (λ (x : GoodOpen kind s l (itemAt l i)). x .mode-fits) (λ (x : GoodLock kind s l (itemAt l i)). let z = x .mode-one in omega arith) (w .good) in
+      record {
+        process-small = omega arith;
+        mode-small = omega arith;
+        name-small = λ k j. let z : byte (itemAt l i .name) k < 128 = ltb-true _ _ (all-at (isLow (itemAt l i .name)) 11 k low j) in omega arith;
+      }
+
+  mark-small : (k : ℕ) → (firstMark k < 256) × (secondMark k < 256)
+  unfolding firstMark secondMark
+  mark-small k = (one-of _ 0x4F _ (omega arith) (one-of _ 0x4C 0 (omega arith) (omega arith)), one-of _ 0x46 _ (omega arith) (one-of _ 0x52 0 (omega arith) (omega arith)))
+    where
+      one-of : (t : Bool) (x y : ℕ) → x < 256 → y < 256 → (x if t else y) < 256
+      one-of true x y a b = unfold _if_else_ in a
+      one-of false x y a b = unfold _if_else_ in b
+
+  item-bytes : (it : Item) → Small it → areBytes (packItem it) ≡ true
+  unfolding packItem
+  item-bytes it w =
+      bytes-cons _ _ (mark-small (it .kind) .0) (bytes-cons _ _ (mark-small (it .kind) .1) (bytes-cons (it .process) _ (w .process-small)
+      (bytes-append _ _ (bytes-tab (byteFrom (it .name) 0) 11 (λ k m. from-start (it .name) k (w .name-small k m)))
+      (bytes-cons (it .mode) _ (w .mode-small) (bytes-cons 0 _ (omega arith) (bytes-le 4 (it .number)))))))
+
+  place-small : (i : ℕ) → i < 64 → Small (itemAt l i)
+  place-small i m = ⊎-elim (λ (w : Vacant l i). vacant-small (itemAt l i) (w .zeros)) (used-small i) (g .place i m)
+
+  pub pack-bytes : areBytes (pack l) ≡ true
+  unfolding pack isLimit isUser
+  pack-bytes =
+      let c : l .capacity ≤ 64 = leb-true _ _ (and-snd _ _ (g .limits .capacity-good)) in
+      let o : l .openlimit ≤ 64 = leb-true _ _ (and-snd _ _ (g .limits .open-good)) in
+      let k : l .locklimit ≤ 64 = leb-true _ _ (and-snd _ _ (g .limits .lock-good)) in
+      bytes-cons (l .capacity) _ (omega arith) (bytes-cons (l .openlimit) _ (omega arith) (bytes-cons (l .locklimit) _ (omega arith)
+      (bytes-append _ _
+      (bytes-tab (byteFrom (l .users) 0) 16 (λ j m. let u : byte (l .users) j ≤ 15 = leb-true _ _ (all-at (isUser (l .users)) 16 j (g .limits .users-good) m) in from-start (l .users) j (omega arith)))
+      (bytes-flat packItem blank (l .items) (λ i m. item-bytes (itemAt l i) (place-small i (let z = shape .items-long in omega arith)))))))
+
+-- ---- a call
+
+-- the three buffers that matter to the next call of a run: what it reads of the FCB is cut to its range
+pub record InBytes (b : Buffers) : Type 0 where
+  pub dma-bytes : areBytes (b .dma) ≡ true
+  pub list-bytes : areBytes (b .list) ≡ true
+  pub image-bytes : areBytes (b .image) ≡ true
+
+module _ (kind : Kind) (n p c : ℕ) (b : Buffers) (w : InBytes b) where
+  packed : (l : LockList) (s : List ℕ) → SoundShape kind l s → areBytes (pack l) ≡ true
+  packed l s h = pack-bytes kind l s (h .sound) (h .shape)
+
+  caller : Named (fileBy p b)
+  unfolding callerFile
+  caller = named (userOf (listOf b) p) (b .fcb) 1 (user-small (b .list) p (w .list-bytes))
+
+  newly : Named (newBy p b)
+  unfolding newFile
+  newly = named (userOf (listOf b) p) (b .fcb) 17 (user-small (b .list) p (w .list-bytes))
+
+  list-left : (o : Outcome) → Leaf kind n p c b o → areBytes (o .left .list) ≡ true
+  list-left o (refused code z) = w .list-bytes
+  list-left o (reopened k ok m fcb) = w .list-bytes
+  list-left o (newlyOpened k ok m fcb) = packed _ (b .image) (opened-shape kind p c b ok m)
+  list-left o (newlyMade k ok m fcb) = packed _ _ (made-shape kind p c b ok m)
+  list-left o (nowClosed k ok m) = packed _ (b .image) (closed-shape kind p c b ok)
+  list-left o (nowErased k ok m) = w .list-bytes
+  list-left o (nowRenamed k ok m) = w .list-bytes
+  list-left o (nowRead k ok dma) = w .list-bytes
+  list-left o (nowWritten k ok m zeros) = w .list-bytes
+  list-left o (nowRewritten k ok m some v full from) = w .list-bytes
+  list-left o (nowLocked k ok m) = packed _ (b .image) (locked-shape kind p c b ok m)
+  list-left o (lockIdle k ok m) = w .list-bytes
+  list-left o (nowUnlocked k ok m) = packed _ (b .image) (unlocked-shape kind p c b ok)
+  list-left o (unlockIdle k ok m) = w .list-bytes
+  list-left o (nowTold k ok dma) = w .list-bytes
+  list-left o (nowEnded k ok) = packed _ (b .image) (ended-shape kind p c b ok)
+
+  image-left : (o : Outcome) → Leaf kind n p c b o → areBytes (o .left .image) ≡ true
+  image-left o (refused code z) = w .image-bytes
+  image-left o (reopened k ok m fcb) = w .image-bytes
+  image-left o (newlyOpened k ok m fcb) = w .image-bytes
+  image-left o (newlyMade k ok m fcb) = made-bytes _ (fileBy p b) (b .image) caller (w .image-bytes)
+  image-left o (nowClosed k ok m) = w .image-bytes
+  image-left o (nowErased k ok m) = erased-bytes kind (fileBy p b) (b .image) (w .image-bytes)
+  image-left o (nowRenamed k ok m) = renamed-bytes kind (fileBy p b) (newBy p b) (b .image) newly (w .image-bytes)
+  image-left o (nowRead k ok dma) = w .image-bytes
+  image-left o (nowWritten k ok m zeros) = written-bytes kind _ (fileBy p b) (recordOf (b .fcb)) caller (m .fits) zeros _ (b .dma) (b .image) (w .dma-bytes) (w .image-bytes)
+  image-left o (nowRewritten k ok m some v full from) =
+      written-bytes kind _ (fileBy p b) (recordOf (b .fcb)) caller (m .fits) false _ v (b .image) (rw from (bytes-part 128 128 (b .dma) (w .dma-bytes))) (w .image-bytes)
+  image-left o (nowLocked k ok m) = w .image-bytes
+  image-left o (lockIdle k ok m) = w .image-bytes
+  image-left o (nowUnlocked k ok m) = w .image-bytes
+  image-left o (unlockIdle k ok m) = w .image-bytes
+  image-left o (nowTold k ok dma) = w .image-bytes
+  image-left o (nowEnded k ok) = w .image-bytes
+
+  -- only 33 and 46 change the DMA
+  dma-if : (t : Bool) (x y : Outcome) → x .left .dma ≡ b .dma → y .left .dma ≡ b .dma → areBytes ((x if t else y) .left .dma) ≡ true
+  dma-if true x y h g = unfold _if_else_ in rw h (w .dma-bytes)
+  dma-if false x y h g = unfold _if_else_ in rw g (w .dma-bytes)
+
+  dma-done : (k : Chosen) (a : Asked) → areBytes (effectOf k a b .left .dma) ≡ true
+  unfolding effectOf does15 does16 does19 does22 makes does23 does33 contents does34 does41 does42 does43 does46 does143
+  dma-done (Call Open) a = dma-if (isOpened (a .place)) _ _ refl refl
+  dma-done (Call Close) a = w .dma-bytes
+  dma-done (Call Delete) a = w .dma-bytes
+  dma-done (Call Make) a = w .dma-bytes
+  dma-done (Call Rename) a = w .dma-bytes
+  dma-done (Call Read) a = bytes-put 0 _ (b .dma) (bytes-part (recordAt (a .kind) (blockIn (a .kind) (b .image) (a .entry) (a .recordNumber)) (a .recordNumber)) 128 (b .image) (w .image-bytes)) (w .dma-bytes)
+  dma-done (Call Write) a = w .dma-bytes
+  dma-done (Call WriteZeros) a = w .dma-bytes
+  dma-done (Call TestWrite) a = w .dma-bytes
+  dma-done (Call Lock) a = dma-if (eqb (itemAt (a .list) (a .place) .mode) 1) _ _ refl refl
+  dma-done (Call Unlock) a = dma-if (eqb (itemAt (a .list) (a .place) .mode) 1) _ _ refl refl
+  dma-done (Call FreeSpace) a = bytes-put 0 _ (b .dma) (bytes-le 3 _) (w .dma-bytes)
+  dma-done (Call Terminate) a = w .dma-bytes
+  dma-done Unknown a = w .dma-bytes
+
+  dma-left : areBytes (call kind n p c b .left .dma) ≡ true
+  dma-left =
+      ⊎-elim
+      (λ (h : anyRow (rowsCall kind n p c b) ≡ true). rw (refused-so h) (w .dma-bytes))
+      (λ (h : anyRow (rowsCall kind n p c b) ≡ false). rw (accepted kind n p c b h) (dma-done (chosen n) (asked kind p c b)))
+      (either (anyRow (rowsCall kind n p c b)))
+    where
+      refused-so : anyRow (rowsCall kind n p c b) ≡ true → call kind n p c b ≡ outcome (firstOf (rowsCall kind n p c b)) b
+      refused-so = Rattle.rules.proofs.Tables.refused kind n p c b
+
+  pub call-bytes : InBytes (call kind n p c b .left)
+  call-bytes = let z = walk kind n p c b in record { dma-bytes = dma-left; list-bytes = list-left _ z; image-bytes = image-left _ z }
