@@ -48,16 +48,22 @@ module _ (it : Item) where
   item-sum c m =
       ⊎-elim
       (λ (e : it .kind ≡ 1).
-      sum-ext _ (λ (p : ℕ). 1 if eqb (it .process) p else 0) 16 (λ p. rw (one-kind 1 (it .process) e refl p, other-kind 2 (λ (z : it .kind ≡ 2). absurd (omega arith)) p) (omega arith))
+      sum-ext _ (λ (p : ℕ). 1 if eqb (it .process) p else 0) 16
+      (λ p. rw (one-kind 1 (it .process) e refl p, other-kind 2 (λ (z : it .kind ≡ 2). absurd (omega arith)) p) (omega arith))
       ∙ sum-one (it .process) 16 m)
       (λ (e : it .kind ≡ 2).
-      sum-ext _ (λ (p : ℕ). 1 if eqb (it .process) p else 0) 16 (λ p. rw (one-kind 2 (it .process) e refl p, other-kind 1 (λ (z : it .kind ≡ 1). absurd (omega arith)) p) (omega arith))
+      sum-ext _ (λ (p : ℕ). 1 if eqb (it .process) p else 0) 16
+      (λ p. rw (one-kind 2 (it .process) e refl p, other-kind 1 (λ (z : it .kind ≡ 1). absurd (omega arith)) p) (omega arith))
       ∙ sum-one (it .process) 16 m) c
 
   no-sum : it .kind ≡ 0 → sumBelow (λ (p : ℕ). bit (isKindBy 1 p it) + bit (isKindBy 2 p it)) 16 ≡ 0
   unfolding _if_else_
   no-sum e =
-      sum-ext _ (λ (p : ℕ). 0) 16 (λ p. rw (other-kind 1 (λ (z : it .kind ≡ 1). absurd (omega arith)) p, other-kind 2 (λ (z : it .kind ≡ 2). absurd (omega arith)) p) (omega arith))
+      sum-ext _ (λ (p : ℕ). 0) 16 (λ p. rw (
+        other-kind 1 (λ (z : it .kind ≡ 1). absurd (omega arith)) p,
+        other-kind 2
+            (λ (z : it .kind ≡ 2). absurd (omega arith)) p,
+      ) (omega arith))
       ∙ sum-none 16
 
 module _ (kind : Kind) (l : LockList) (s : List ℕ) (g : SoundLocks kind l s) where
@@ -70,7 +76,8 @@ module _ (kind : Kind) (l : LockList) (s : List ℕ) (g : SoundLocks kind l s) w
       let q : itemAt l i .process ≤ 15 = leb-true _ _ (and-fst _ _ (v .plain)) in
       let c : (itemAt l i .kind ≡ 1) ⊎ (itemAt l i .kind ≡ 2) =
       ⊎-elim (λ (o : GoodOpen kind s l (itemAt l i)). inl (o .kind-one)) (λ (o : GoodLock kind s l (itemAt l i)). inr (o .kind-two)) (v .good) in
-      let n : eqb (itemAt l i .kind) 0 ≡ false = ne-eqb _ _ (λ (z : itemAt l i .kind ≡ 0). ⊎-elim (λ (e : itemAt l i .kind ≡ 1). absurd (omega arith)) (λ (e : itemAt l i .kind ≡ 2). absurd (omega arith)) c) in
+      let n : eqb (itemAt l i .kind) 0 ≡ false = ne-eqb _ _ (λ (z : itemAt l i .kind ≡ 0). ⊎-elim (λ (e : itemAt l i .kind ≡ 1). absurd (omega arith))
+      (λ (e : itemAt l i .kind ≡ 2). absurd (omega arith)) c) in
       item-sum (itemAt l i) c (omega arith) ∙ rw n refl)
       (g .place i m)
 
@@ -81,8 +88,10 @@ module _ (kind : Kind) (l : LockList) (s : List ℕ) (g : SoundLocks kind l s) w
   places-sum (suc n) m =
       let k = places-sum n (omega arith) in
       let j = place-sum n (omega arith) in
-      sum-ext _ (λ (p : ℕ). (count (isKindByAt l 1 p) n + count (isKindByAt l 2 p) n) + (bit (isKindBy 1 p (itemAt l n)) + bit (isKindBy 2 p (itemAt l n)))) 16 (λ p. omega arith)
-      ∙ sum-add (λ (p : ℕ). count (isKindByAt l 1 p) n + count (isKindByAt l 2 p) n) (λ (p : ℕ). bit (isKindBy 1 p (itemAt l n)) + bit (isKindBy 2 p (itemAt l n))) 16
+      sum-ext _ (λ (p : ℕ). (count (isKindByAt l 1 p) n + count (isKindByAt l 2 p) n) + (bit (isKindBy 1 p (itemAt l n)) + bit (isKindBy 2 p (itemAt l n)))) 16
+      (λ p. omega arith)
+      ∙ sum-add (λ (p : ℕ). count (isKindByAt l 1 p) n + count (isKindByAt l 2 p) n)
+      (λ (p : ℕ). bit (isKindBy 1 p (itemAt l n)) + bit (isKindBy 2 p (itemAt l n))) 16
       ∙ omega arith
 
   beyond-empty : (i : ℕ) → l .capacity ≤ i → i < 64 → isEmptyAt l i ≡ true

@@ -1,6 +1,6 @@
 -- An engine that serves as the rules do whatever a host can hand over has the histories of the rules. Assumes nothing.
 use Prim.Native.Nat.{ℕ, _*_, _<_}
-use mathlib.Core.Path.{_≡_, refl, sym, ap, _∙_}
+use mathlib.Core.Path.{_≡_, refl, ap, _∙_}
 use mathlib.Core.Bool.{true}
 use mathlib.Core.List.{List, [], _∷_, _++_}
 use native.Mathlib.Omega.{arith}
@@ -18,7 +18,7 @@ use Rattle.rules.proofs.Several.{Steps, begun, done, stopped, idle, steps}
 use Rattle.soundness.proofs.InBytes.{InBytes, call-bytes}
 use Rattle.history.specs.History.{Ask, State, Engine, Event, Begun, isLendable, isPossible, arePossible, isKept, lent, forgetful, outcomeOf, kept, stateAfter, event, eventsOf, firstState, after, historyOf, outcomeAfter}
 use Rattle.history.specs.Groups.{Group}
-use Rattle.history.specs.Demands.{Demand2, Stands, Next, Demand3}
+use Rattle.history.specs.Demands.{Demand2, Demand3}
 use Rattle.history.proofs.Ways.{Way, Ran, plain, barred, whole, partly, ways}
 use Rattle.history.proofs.Start.{begun-bytes, begun-sound}
 use Rattle.history.proofs.Run.{Inv, begun-inv}
@@ -30,7 +30,11 @@ use Rattle.history.proofs.Demands as demands
 module _ (kind : Kind) (n p c : ℕ) (b : Buffers) (w : InBytes b) where
   single-bytes : (i : ℕ) (a : Buffers) → InBytes a → InBytes (single i a)
   unfolding single dmaAt
-  single-bytes i a h = record { dma-bytes = bytes-put 0 _ (a .dma) (bytes-part (128 * i) 128 (a .dma) (h .dma-bytes)) (h .dma-bytes); list-bytes = h .list-bytes; image-bytes = h .image-bytes }
+  single-bytes i a h = record {
+    dma-bytes = bytes-put 0 _ (a .dma) (bytes-part (128 * i) 128 (a .dma) (h .dma-bytes)) (h .dma-bytes);
+    list-bytes = h .list-bytes;
+    image-bytes = h .image-bytes;
+  }
 
   steps-bytes : (i : ℕ) (x : Run) → Steps kind n p b i x → InBytes (x .left)
   unfolding backAt
@@ -79,7 +83,11 @@ module _ (kind : Kind) (g : Begun kind) where
   next-kept q s items groups i may h =
       let dma = and-snd _ _ (and-snd _ _ (and-snd _ _ (and-snd _ _ may))) in
       let w = run-bytes kind (q .function) (q .process) (q .count) (lent q s)
-      (record { dma-bytes = lendable-bytes (q .dma) dma; list-bytes = lendable-bytes (s .list) (and-fst _ _ h); image-bytes = lendable-bytes (s .image) (and-snd _ _ h) }) in
+      (record {
+        dma-bytes = lendable-bytes (q .dma) dma;
+        list-bytes = lendable-bytes (s .list) (and-fst _ _ h);
+        image-bytes = lendable-bytes (s .image) (and-snd _ _ h);
+      }) in
       let j = call-inv kind g q s items groups i in
       let k = lendable-short (g .image) (g .lendable) in
       let m = j .long in
@@ -144,7 +152,8 @@ unfolding arePossible
 possible-back [] rs h = h
 possible-back (q ∷ qs) rs h = possible-back qs rs (and-snd _ _ h)
 
-module _ (kind : Kind) (e : Engine) (serves : Demand2 kind e) (g : Begun kind) (qs later : List Ask) (q : Ask) (may : arePossible (qs ++ (q ∷ later)) ≡ true) where
+module _ (kind : Kind) (e : Engine) (serves : Demand2 kind e) (g : Begun kind) (qs later : List Ask) (q : Ask)
+    (may : arePossible (qs ++ (q ∷ later)) ≡ true) where
   first-may : arePossible qs ≡ true
   first-may = possible-front qs (q ∷ later) may
 
@@ -156,7 +165,8 @@ module _ (kind : Kind) (e : Engine) (serves : Demand2 kind e) (g : Begun kind) (
   unfolding arePossible
   may-later = and-snd _ _ (possible-back qs (q ∷ later) may)
 
-  later-same : eventsOf e (qs ++ (q ∷ [])) later (kept (outcomeAfter kind e g qs q)) ≡ eventsOf (ours kind) (qs ++ (q ∷ [])) later (kept (outcomeAfter kind (ours kind) g qs q))
+  later-same : eventsOf e (qs ++ (q ∷ [])) later (kept (outcomeAfter kind e g qs q)) ≡ eventsOf (ours kind) (qs ++ (q ∷ [])) later
+      (kept (outcomeAfter kind (ours kind) g qs q))
   unfolding outcomeAfter forgetful
   later-same =
       let i = always kind g qs in
@@ -168,7 +178,8 @@ module _ (kind : Kind) (e : Engine) (serves : Demand2 kind e) (g : Begun kind) (
 pub meets-third : (kind : Kind) (e : Engine) → Demand2 kind e → Demand3 kind e
 meets-third kind e serves = record {
   stands = λ g qs may. rw (after-same kind e serves g qs may, history-same kind e serves g qs may) (demands.stands kind g qs);
-  next = λ g qs q may can. rw (outcome-same kind e serves g qs may q can, after-same kind e serves g qs may, history-same kind e serves g qs may) (demands.next kind g qs q);
+  next = λ g qs q may can. rw (outcome-same kind e serves g qs may q can, after-same kind e serves g qs may, history-same kind e serves g qs may)
+      (demands.next kind g qs q);
   dead-hold-nothing = λ g qs later q p may d none.
       let front = first-may kind e serves g qs later q may in
       let o = outcome-same kind e serves g qs front q (may-now kind e serves g qs later q may) in

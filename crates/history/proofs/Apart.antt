@@ -6,18 +6,18 @@ use mathlib.Core.List.{List, map}
 use mathlib.Core.Logic.{_⊎_, inl, inr, ⊎-elim}
 use native.Mathlib.Omega.{arith}
 use lib.ListN.{length, set}
-use borrow.Author.Tests.{eqb-true, eqb-false, not-true}
+use borrow.Author.Tests.{eqb-false, not-true}
 use Rattle.words.proofs.Tests.{either, equal?, and-fst, and-snd}
 use Rattle.rules.specs.declared.kind.Kind.{Kind}
 use Rattle.rules.specs.Kinds.{entries}
 use Rattle.rules.specs.declared.file.File.{File}
 use Rattle.rules.specs.declared.item.Item.{Item}
 use Rattle.rules.specs.declared.list.LockList.{LockList}
-use Rattle.rules.specs.Serves.{Buffers, Outcome}
+use Rattle.rules.specs.Serves.{Buffers}
 use Rattle.rules.specs.Drive.{highest, isEmpty, userByte, fileFrom}
 use Rattle.rules.specs.Locks.{itemAt, userOf, unpack, pack, withItems, freshOpen, freePlace}
 use Rattle.rules.specs.Asks.{recordOf, newFile}
-use Rattle.rules.specs.Effects.{placed, opened, closed, unlockedRun, terminated, lockedRun, isOfFile, isInRun}
+use Rattle.rules.specs.Effects.{placed, opened, lockedRun}
 use Rattle.rules.proofs.Sound.{SoundImage}
 use Rattle.rules.proofs.Frames.{Same, same-refl, user-is}
 use Rattle.rules.proofs.SoundList.{Shape, capacity-fits, unpacked}
@@ -27,13 +27,14 @@ use Rattle.soundness.proofs.Erased.{all-erased, erased-touches}
 use Rattle.soundness.proofs.Renamed.{all-renamed}
 use Rattle.soundness.proofs.Written.{Old, New}
 use Rattle.soundness.proofs.Placed.{free-room, at-here, at-other}
-use Rattle.soundness.proofs.Emptied.{Empties, at-gone, at-kept, close-empties, unlock-empties, end-empties}
+use Rattle.soundness.proofs.Emptied.{Empties, at-gone, at-kept}
 use Rattle.soundness.proofs.Run.{Filled, running}
-use Rattle.soundness.proofs.Kept.{SoundShape, opened-shape, made-shape, closed-shape, unlocked-shape, ended-shape, locked-shape}
+use Rattle.soundness.proofs.Shapes.{SoundShape, emptied-shape, locked-shape}
+use Rattle.soundness.proofs.Left.{ListLeft, ImageLeft, list-same, one-set, run-set, emptied, image-same, entry-made, record-stored, file-erased, file-renamed}
 use Rattle.soundness.proofs.Taken.{caller-long, caller-user}
 use Rattle.soundness.proofs.Ends.{shape-of, list-of, made-of, renamed-touch, written-of, takes-of}
 use Rattle.rules.proofs.Passed.{Passed}
-use Rattle.soundness.proofs.Leaves.{Leaf, listOf, fileBy, newBy, MayWrite, imageWritten, refused, reopened, newlyOpened, newlyMade, nowClosed, nowErased, nowRenamed, nowRead, nowWritten, nowRewritten, nowLocked, lockIdle, nowUnlocked, unlockIdle, nowTold, nowEnded, MayLock}
+use Rattle.soundness.proofs.Leaves.{listOf, fileBy, newBy, MayWrite, imageWritten, MayLock}
 use Rattle.history.specs.Demands.{isAnothers, ItemsApart}
 use Rattle.history.proofs.Seen.{Seen, seen-all, seen-written}
 
@@ -57,7 +58,7 @@ others-touched kind s t f h v d e w seen = record {
   back = λ k r b n a. at-back kind s t f h k w (λ z. n (ap (λ (x : File). x .user) z ∙ e)) r b a;
 }
 
-module _ (kind : Kind) (n p c : ℕ) (b : Buffers) (g : SoundImage kind highest (b .image)) where
+module _ (kind : Kind) (p c : ℕ) (b : Buffers) (g : SoundImage kind highest (b .image)) where
   abbrev l : LockList
   l = listOf b
 
@@ -74,42 +75,33 @@ module _ (kind : Kind) (n p c : ℕ) (b : Buffers) (g : SoundImage kind highest 
   long : length (fileBy p b .name) ≡ 11
   long = caller-long p l (b .fcb)
 
-  others-write : (ok : Passed kind p c b) → MayWrite kind p b → (zeros : Bool) (v : List ℕ) → 128 ≤ length v → Others kind s (imageWritten kind zeros p b v) (userOf l p)
+  others-write : (ok : Passed kind p c b) → MayWrite kind p b → (zeros : Bool) (v : List ℕ) → 128 ≤ length v
+      → Others kind s (imageWritten kind zeros p b v) (userOf l p)
   others-write ok w zeros v full =
       let t = imageWritten kind zeros p b v in
       let k = written-of kind p c b ok w zeros v full in
       others-touched kind s t (fileBy p b) (fileBy p b) (userOf l p) mine mine
-      (⊎-elim (λ (x : Old kind s t (fileBy p b) (recordOf (b .fcb))). x .wrote .change .touches) (λ (x : New kind s t (fileBy p b) (recordOf (b .fcb))). x .wrote .change .touches) k)
+      (⊎-elim (λ (x : Old kind s t (fileBy p b) (recordOf (b .fcb))). x .wrote .change .touches)
+      (λ (x : New kind s t (fileBy p b) (recordOf (b .fcb))). x .wrote .change .touches) k)
       (λ f r d m z a. seen-written kind s t (fileBy p b) (recordOf (b .fcb)) g long f r d m a k (λ e. z (e .0)))
 
-  pub others-leaf : (o : Outcome) → Leaf kind n p c b o → Others kind s (o .left .image) (userOf l p)
-  others-leaf o (refused code z) = others-same kind s (userOf l p)
-  others-leaf o (reopened k ok w fcb) = others-same kind s (userOf l p)
-  others-leaf o (newlyOpened k ok w fcb) = others-same kind s (userOf l p)
-  others-leaf o (newlyMade k ok w fcb) =
+  pub others-left : (t : List ℕ) → ImageLeft kind p c b t → Others kind s t (userOf l p)
+  others-left t image-same = others-same kind s (userOf l p)
+  others-left t (entry-made ok w) =
       let d = made-of kind p c b ok w 0 0 0 0 in
       others-touched kind s _ (fileBy p b) (fileBy p b) (userOf l p) mine mine (d .touches)
       (λ f r x m z a. seen-all kind s _ f r x g (d .touches .long) a (λ j y. d .data-kept .at j y (inr (omega arith))) (at-grown kind s _ f r x (d .grown) a))
-  others-leaf o (nowClosed k ok w) = others-same kind s (userOf l p)
-  others-leaf o (nowErased k ok w) =
+  others-left t (record-stored ok w zeros v full bytes) = others-write ok w zeros v full
+  others-left t (file-erased ok w) =
       let d = all-erased kind s (fileBy p b) g long in
       let h = erased-touches kind s (fileBy p b) g long in
       others-touched kind s _ (fileBy p b) (fileBy p b) (userOf l p) mine mine h
       (λ f r x m z a. seen-all kind s _ f r x g (d .len) a (d .past) (at-forth kind s _ (fileBy p b) (fileBy p b) f h z r x a))
-  others-leaf o (nowRenamed k ok w) =
+  others-left t (file-renamed ok w) =
       let d = all-renamed kind s (fileBy p b) (newBy p b .name) g in
       let h = renamed-touch kind p c b ok w in
       others-touched kind s _ (fileBy p b) (newBy p b) (userOf l p) mine mine-new h
       (λ f r x m z a. seen-all kind s _ f r x g (d .len) a (d .past) (at-forth kind s _ (fileBy p b) (newBy p b) f h z r x a))
-  others-leaf o (nowRead k ok dma) = others-same kind s (userOf l p)
-  others-leaf o (nowWritten k ok w zeros) = others-write ok w zeros (b .dma) (let d = ok .ready .dma-long in omega arith)
-  others-leaf o (nowRewritten k ok w some v full from) = others-write ok w false v full
-  others-leaf o (nowLocked k ok w) = others-same kind s (userOf l p)
-  others-leaf o (lockIdle k ok w) = others-same kind s (userOf l p)
-  others-leaf o (nowUnlocked k ok w) = others-same kind s (userOf l p)
-  others-leaf o (unlockIdle k ok w) = others-same kind s (userOf l p)
-  others-leaf o (nowTold k ok dma) = others-same kind s (userOf l p)
-  others-leaf o (nowEnded k ok) = others-same kind s (userOf l p)
 
 -- ---- items
 
@@ -130,36 +122,33 @@ packed : (kind : Kind) (p : ℕ) (l k : LockList) (s : List ℕ) → SoundShape 
 packed kind p l k s h w = rw (unpacked kind k s (h .sound) (h .shape)) w
 
 -- one empty place set to an item of the caller
-items-set : (p : ℕ) (l : LockList) (j : ℕ) (it : Item) → Shape l → j < 64 → itemAt l j .kind ≡ 0 → it .process ≡ p → ItemsApart p l (withItems l (set (l .items) j it))
+items-set : (p : ℕ) (l : LockList) (j : ℕ) (it : Item) → Shape l → j < 64 → itemAt l j .kind ≡ 0 → it .process ≡ p
+    → ItemsApart p l (withItems l (set (l .items) j it))
 items-set p l j it h m e d = record {
   item-same = λ i k c. ⊎-elim
       (λ (q : i ≡ j). absurd (⊎-elim
       (λ (z : isAnothers p (itemAt l i) ≡ true). anothers-some p (itemAt l i) z (ap (λ (x : ℕ). itemAt l x .kind) q ∙ e))
       (λ (z : isAnothers p (itemAt (withItems l (set (l .items) j it)) i) ≡ true).
-      anothers-by p (itemAt (withItems l (set (l .items) j it)) i) z (ap (λ (x : ℕ). itemAt (withItems l (set (l .items) j it)) x .process) q ∙ ap (λ (x : Item). x .process) (at-here l j it h m) ∙ d)) c))
+      anothers-by p (itemAt (withItems l (set (l .items) j it)) i) z
+      (ap (λ (x : ℕ). itemAt (withItems l (set (l .items) j it)) x .process) q ∙ ap (λ (x : Item). x .process) (at-here l j it h m) ∙ d)) c))
       (λ (q : i ≡ j → ⊥). at-other l j it h m i q) (equal? i j);
 }
 
 -- places of the caller's items emptied
-items-gone : (p : ℕ) (l : LockList) (away : Item → Bool) (turn : Item → Item) → Empties away turn → Shape l → ((it : Item) → away it ≡ true → it .process ≡ p) → ItemsApart p l (withItems l (map turn (l .items)))
+items-gone : (p : ℕ) (l : LockList) (away : Item → Bool) (turn : Item → Item) → Empties away turn → Shape l → ((it : Item) → away it ≡ true → it .process ≡ p)
+    → ItemsApart p l (withItems l (map turn (l .items)))
 items-gone p l away turn t h own = record {
   item-same = λ i m c. ⊎-elim
       (λ (q : away (itemAt l i) ≡ true). absurd (⊎-elim
       (λ (z : isAnothers p (itemAt l i) ≡ true). anothers-by p (itemAt l i) z (own (itemAt l i) q))
-      (λ (z : isAnothers p (itemAt (withItems l (map turn (l .items))) i) ≡ true). anothers-some p (itemAt (withItems l (map turn (l .items))) i) z (ap (λ (x : Item). x .kind) (at-gone l away turn t h i m q))) c))
+      (λ (z : isAnothers p (itemAt (withItems l (map turn (l .items))) i) ≡ true). anothers-some p (itemAt (withItems l (map turn (l .items))) i) z
+      (ap (λ (x : Item). x .kind) (at-gone l away turn t h i m q))) c))
       (λ (q : away (itemAt l i) ≡ false). at-kept l away turn t h i m q) (either (away (itemAt l i)));
 }
 
-close-own : (p : ℕ) (f : File) (it : Item) → isOfFile p f it ≡ true → it .process ≡ p
-unfolding isOfFile
-close-own p f it h = eqb-true _ _ (and-fst _ _ (and-snd _ _ h))
-
-unlock-own : (p : ℕ) (f : File) (r n : ℕ) (it : Item) → isInRun p f r n it ≡ true → it .process ≡ p
-unfolding isInRun
-unlock-own p f r n it h = close-own p f it (and-snd _ _ (and-snd _ _ (and-snd _ _ h)))
-
-module _ (kind : Kind) (n p c : ℕ) (b : Buffers) where
-  opened-apart : (ok : Passed kind p c b) (mode : ℕ) → freePlace (listOf b) < listOf b .capacity → ItemsApart p (listOf b) (opened p (fileBy p b) mode (listOf b))
+module _ (kind : Kind) (p c : ℕ) (b : Buffers) where
+  opened-apart : (ok : Passed kind p c b) (mode : ℕ) → freePlace (listOf b) < listOf b .capacity
+      → ItemsApart p (listOf b) (opened p (fileBy p b) mode (listOf b))
   unfolding opened placed
   opened-apart ok mode room =
       items-set p (listOf b) (freePlace (listOf b)) (freshOpen p (fileBy p b .name) mode) (shape-of kind p c b ok)
@@ -168,34 +157,21 @@ module _ (kind : Kind) (n p c : ℕ) (b : Buffers) where
   run-apart : (ok : Passed kind p c b) (w : MayLock kind p c b) → ItemsApart p (listOf b) (lockedRun p (fileBy p b) (recordOf (b .fcb)) c (listOf b))
   unfolding lockedRun
   run-apart ok w =
-      let r = running kind (b .image) (listOf b) p (fileBy p b) (recordOf (b .fcb)) c (shape-of kind p c b ok) (list-of kind p c b ok) (takes-of kind p c b ok w) c (omega arith) in
+      let r = running kind (b .image) (listOf b) p (fileBy p b) (recordOf (b .fcb)) c (shape-of kind p c b ok) (list-of kind p c b ok)
+      (takes-of kind p c b ok w) c (omega arith) in
       rw (r .is) (record {
         item-same = λ i m d. ⊎-elim (λ z. z)
             (λ (z : Filled (listOf b) (withItems (listOf b) (r .items)) p (fileBy p b) (recordOf (b .fcb)) c i).
             absurd (⊎-elim
             (λ (y : isAnothers p (itemAt (listOf b) i) ≡ true). anothers-some p (itemAt (listOf b) i) y (z .was-empty))
-            (λ (y : isAnothers p (itemAt (withItems (listOf b) (r .items)) i) ≡ true). anothers-by p (itemAt (withItems (listOf b) (r .items)) i) y (ap (λ (x : Item). x .process) (z .now))) d))
+            (λ (y : isAnothers p (itemAt (withItems (listOf b) (r .items)) i) ≡ true). anothers-by p (itemAt (withItems (listOf b) (r .items)) i) y
+            (ap (λ (x : Item). x .process) (z .now))) d))
             (r .place i m);
       })
 
-  pub items-leaf : (o : Outcome) → Leaf kind n p c b o → ItemsApart p (listOf b) (unpack (o .left .list))
-  unfolding closed unlockedRun terminated
-  items-leaf o (refused code z) = items-same p (listOf b)
-  items-leaf o (reopened k ok w fcb) = items-same p (listOf b)
-  items-leaf o (newlyOpened k ok w fcb) = packed kind p (listOf b) _ (b .image) (opened-shape kind p c b ok w) (opened-apart ok _ (w .room))
-  items-leaf o (newlyMade k ok w fcb) = packed kind p (listOf b) _ _ (made-shape kind p c b ok w) (opened-apart ok _ (w .room))
-  items-leaf o (nowClosed k ok w) = packed kind p (listOf b) _ (b .image) (closed-shape kind p c b ok)
-      (items-gone p (listOf b) _ _ (close-empties p (fileBy p b)) (shape-of kind p c b ok) (close-own p (fileBy p b)))
-  items-leaf o (nowErased k ok w) = items-same p (listOf b)
-  items-leaf o (nowRenamed k ok w) = items-same p (listOf b)
-  items-leaf o (nowRead k ok dma) = items-same p (listOf b)
-  items-leaf o (nowWritten k ok w zeros) = items-same p (listOf b)
-  items-leaf o (nowRewritten k ok w some v full from) = items-same p (listOf b)
-  items-leaf o (nowLocked k ok w) = packed kind p (listOf b) _ (b .image) (locked-shape kind p c b ok w) (run-apart ok w)
-  items-leaf o (lockIdle k ok w) = items-same p (listOf b)
-  items-leaf o (nowUnlocked k ok w) = packed kind p (listOf b) _ (b .image) (unlocked-shape kind p c b ok)
-      (items-gone p (listOf b) _ _ (unlock-empties p (fileBy p b) (recordOf (b .fcb)) c) (shape-of kind p c b ok) (unlock-own p (fileBy p b) (recordOf (b .fcb)) c))
-  items-leaf o (unlockIdle k ok w) = items-same p (listOf b)
-  items-leaf o (nowTold k ok dma) = items-same p (listOf b)
-  items-leaf o (nowEnded k ok) = packed kind p (listOf b) _ (b .image) (ended-shape kind p c b ok)
-      (items-gone p (listOf b) _ _ (end-empties p) (shape-of kind p c b ok) (λ it h. eqb-true _ _ h))
+  pub items-left : (t list : List ℕ) → ListLeft kind p c b t list → ItemsApart p (listOf b) (unpack list)
+  items-left t list (list-same u) = items-same p (listOf b)
+  items-left t list (one-set ok u mode room h) = packed kind p (listOf b) _ u h (opened-apart ok mode room)
+  items-left t list (run-set ok w) = packed kind p (listOf b) _ (b .image) (locked-shape kind p c b ok w) (run-apart ok w)
+  items-left t list (emptied ok away turn e w own) =
+      packed kind p (listOf b) _ (b .image) (emptied-shape kind p c b ok away turn e w) (items-gone p (listOf b) away turn e (shape-of kind p c b ok) own)

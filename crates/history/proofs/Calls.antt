@@ -62,6 +62,7 @@ module _ (kind : Kind) (g : Begun kind) where
   run-inv before (q ∷ qs) s items groups i = run-inv (before ++ (q ∷ [])) qs (kept (outcomeOf (callRun kind) q s)) _ _ (call-inv kind g q s items groups i)
 
   -- every history of calls
-  pub always : (qs : List Ask) → Inv kind g (after kind (ours kind) g qs) (itemsOf kind g (historyOf kind (ours kind) g qs)) (groupsBy kind g (historyOf kind (ours kind) g qs))
+  pub always : (qs : List Ask) → Inv kind g (after kind (ours kind) g qs) (itemsOf kind g (historyOf kind (ours kind) g qs))
+      (groupsBy kind g (historyOf kind (ours kind) g qs))
   unfolding after historyOf itemsOf groupsBy
   always qs = run-inv [] qs (firstState kind g) [] (groupsOf kind (g .image)) (begun-inv kind g)

@@ -6,22 +6,18 @@ use mathlib.Core.List.{List}
 use mathlib.Core.Logic.{inl, inr, ⊎-elim}
 use native.Mathlib.Omega.{arith}
 use lib.ListN.{length, replicate}
-use borrow.Author.Tests.{ne-eqb, lt-ltb, ltb-true}
+use borrow.Author.Tests.{ne-eqb, lt-ltb}
 use Rattle.words.specs.Tests.{_if_else_}
 use Rattle.words.specs.Tables.{_∕_}
-use Rattle.words.proofs.Tests.{and-fst, and-snd}
-use Rattle.words.proofs.Sets.{and-both}
 use Rattle.words.proofs.AreBytes.{byte-small}
 use Rattle.rules.specs.declared.kind.Kind.{Kind}
 use Rattle.rules.specs.declared.kind.Kind.the-variants.{Small, Large}
 use Rattle.rules.specs.declared.kind.Told.{Told}
 use Rattle.rules.specs.declared.kind.Told.the-variants.{Known, Other}
-use Rattle.rules.specs.declared.answer.ImageAnswer.{ImageAnswer}
 use Rattle.rules.specs.Kinds.{toldKind}
 use Rattle.rules.specs.Serves.{Outcome, outcome}
 use Rattle.rules.specs.Drive.{highest, soundImage, imageNumber}
 use Rattle.rules.specs.Locks.{start}
-use Rattle.rules.specs.Call.{call}
 use Rattle.rules.specs.Several.{callRun}
 use Rattle.rules.specs.Told.{callTold, checkTold, lookTold}
 use Rattle.rules.proofs.Tables.{accepted, accepted-zero, refused, zero-accepted, did-is}
@@ -37,7 +33,7 @@ use Rattle.session.proofs.Session.{the-session}
 use Rattle.history.specs.History.{Ask, State, Engine, isWord, isPossible, isKept, lent, outcomeOf, withCount}
 use Rattle.history.specs.Deeds.{doneIn}
 use Rattle.history.specs.Demands.{NoTrace, Demand1, Demand2}
-use Rattle.history.specs.Claims.{Claims, KeepsContract, Refuses, ToldClaims, WrongFall, TheSession, Tables, RoundTrips, LookClaims, AllClaims}
+use Rattle.history.specs.Claims.{Claims, KeepsContract, Refuses, ToldClaims, TheSession, LookClaims, AllClaims}
 use Rattle.history.proofs.First.{leaves-no-trace, counted-possible, fewer-possible}
 use Rattle.history.proofs.Alike.{meets-third}
 use Rattle.history.proofs.Wrong.{refusing-differs, accepting-differs, idle-differs, not-idle, not-pretending, made-up-differs, not-made-up, not-unbitted, not-lavish, not-promoting}
@@ -56,7 +52,8 @@ module _ (kind : Kind) (e : Engine) (serves : Demand2 kind e) where
       let w = leaves-no-trace kind q s in
       record {
         unchanged = λ z d. ap (λ (x : Outcome). x .left) o ∙ w .unchanged (λ y. z (ap (λ (x : Outcome). x .answer) o ∙ y)) (rw o at d);
-        no-trace = λ z. rw o (so before (withCount (doneIn (outcomeOf (callRun kind) q s .answer)) q) s (fewer-possible kind q s may) h ∙ w .no-trace (rw o at z));
+        no-trace = λ z. rw o (so before (withCount (doneIn (outcomeOf (callRun kind) q s .answer)) q) s (fewer-possible kind q s may) h
+            ∙ w .no-trace (rw o at z));
       }
 
   pub claims : Claims kind e
@@ -66,8 +63,10 @@ module _ (kind : Kind) (e : Engine) (serves : Demand2 kind e) where
     demand-2 = serves;
     demand-3 = meets-third kind e serves;
     as-singly-left = λ before q s may h. ap (λ (o : Outcome). o .left) (so before q s may h) ∙ same-left kind (q .function) (q .process) (q .count) (lent q s);
-    as-singly-code = λ before q s may h. ap (λ (o : Outcome). o .answer % (0 ∕ 16)) (so before q s may h) ∙ same-code kind (q .function) (q .process) (q .count) (lent q s);
-    one-record = λ before q s may h. so before (withCount 1 q) s (counted-possible q 1 may (omega arith)) h ∙ one-record kind (q .function) (q .process) (lent q s);
+    as-singly-code = λ before q s may h. ap (λ (o : Outcome). o .answer % (0 ∕ 16)) (so before q s may h)
+        ∙ same-code kind (q .function) (q .process) (q .count) (lent q s);
+    one-record = λ before q s may h. so before (withCount 1 q) s (counted-possible q 1 may (omega arith)) h
+        ∙ one-record kind (q .function) (q .process) (lent q s);
   }
 
 -- ---- of an engine that keeps the contract, told the kind by a number
@@ -148,7 +147,8 @@ look-claims = record {
     checks : (own kind : Kind) → (own ≡ kind → ⊥) → (s : List ℕ) → soundImage own highest s ≡ true → checkTold (Known kind) s ≡ 1
     checks own kind other s sound = unfold checkTold imageNumber in ap imageNumber (other-check own kind other s sound)
 
-    looks : (own kind : Kind) → (own ≡ kind → ⊥) → (s : List ℕ) → soundImage own highest s ≡ true → (user : ℕ) (name : List ℕ) (r : ℕ) → lookTold (Known kind) user name r s ≡ 0
+    looks : (own kind : Kind) → (own ≡ kind → ⊥) → (s : List ℕ) → soundImage own highest s ≡ true → (user : ℕ) (name : List ℕ) (r : ℕ)
+        → lookTold (Known kind) user name r s ≡ 0
     looks own kind other s sound user name r = unfold lookTold in other-look own kind other s sound user name r
 
 pub all-claims : AllClaims

@@ -43,7 +43,8 @@ holds-off : (kind : Kind) (s : List ℕ) (test : Group → Bool) (i : ℕ) → i
 unfolding holdsGroup
 holds-off kind s test i h = and-left _ _ h
 
-holds-on : (kind : Kind) (s : List ℕ) (test : Group → Bool) (i : ℕ) (x : Group) → isNumbered kind s i ≡ true → groupAt kind s i ≡ x → holdsGroup kind test s i ≡ test x
+holds-on : (kind : Kind) (s : List ℕ) (test : Group → Bool) (i : ℕ) (x : Group) → isNumbered kind s i ≡ true → groupAt kind s i ≡ x
+    → holdsGroup kind test s i ≡ test x
 unfolding holdsGroup _and_
 holds-on kind s test i x h e = rw (h, e) refl
 
@@ -139,7 +140,8 @@ module _ (kind : Kind) (s t : List ℕ) (f : File) (r : ℕ) (l : length (f .nam
         entry-there = v .below;
         place-there = q;
         entry-used = v .is .used;
-        some = λ (z : mapNumber kind t n k ≡ 0). (let y = free-low kind s (w .block) (w .free) in let u : w .block ≡ 0 = sym (v .number) ∙ z in absurd (omega arith));
+        some = λ (z : mapNumber kind t n k ≡ 0). (let y = free-low kind s (w .block) (w .free) in let u : w .block ≡ 0 = sym (v .number) ∙ z in
+            absurd (omega arith));
       } in
       let flat : (i : ℕ) → (i / numbers kind ≡ n) × (i % numbers kind ≡ k) → i ≡ j = λ i u.
       sym (flat-both kind i) ∙ ap (λ (m : ℕ). numbers kind * m + i % numbers kind) (u .0) ∙ ap (λ (m : ℕ). numbers kind * n + m) (u .1) in
@@ -156,7 +158,8 @@ module _ (kind : Kind) (s t : List ℕ) (f : File) (r : ℕ) (l : length (f .nam
 -- ---- Delete
 
 -- the group's file is f exactly where the entry is f's
-group-of : (kind : Kind) (s : List ℕ) (f : File) (i : ℕ) → length (f .name) ≡ 11 → isNumbered kind s i ≡ true → ofFile f (groupAt kind s i) ≡ isOf s f (i / numbers kind)
+group-of : (kind : Kind) (s : List ℕ) (f : File) (i : ℕ) → length (f .name) ≡ 11 → isNumbered kind s i ≡ true
+    → ofFile f (groupAt kind s i) ≡ isOf s f (i / numbers kind)
 unfolding ofFile groupAt isNumbered
 group-of kind s f i l h =
     let u = not-true _ (and-fst _ _ h) in
@@ -236,7 +239,11 @@ module _ (kind : Kind) (s : List ℕ) (f new : File) (w : SoundImage kind highes
   unfolding isNumbered
   numbered-same i m =
       let l = flat-there kind i m in
-      rw (renamed-empty kind s f (new .name) w (i / numbers kind) l, renamed-number kind s f (new .name) w (i / numbers kind) (i % numbers kind) l (flat-short kind i)) refl
+      rw (
+        renamed-empty kind s f (new .name) w (i / numbers kind) l,
+        renamed-number kind s f (new .name) w (i / numbers kind) (i % numbers kind) l
+            (flat-short kind i),
+      ) refl
 
   group-now : (i : ℕ) → i < allNumbers kind → isNumbered kind s i ≡ true → groupAt kind t i ≡ carried f new (groupAt kind s i)
   unfolding groupAt
@@ -246,7 +253,10 @@ module _ (kind : Kind) (s : List ℕ) (f new : File) (w : SoundImage kind highes
       let x : extentAt t e ≡ extentAt s e = renamed-extent kind s f (new .name) w e d in
       ⊎-elim
       (λ (h : isOf s f e ≡ true).
-      let y : groupAt kind t i ≡ group new (numbers kind * extentAt s e + i % numbers kind) = λ j. record { file = files e d h j; number = numbers kind * x j + i % numbers kind } in
+      let y : groupAt kind t i ≡ group new (numbers kind * extentAt s e + i % numbers kind) = λ j. record {
+        file = files e d h j;
+        number = numbers kind * x j + i % numbers kind;
+      } in
       y ∙ sym (carried-yes f new (groupAt kind s i) (group-of kind s f i l z ∙ h)))
       (λ (h : isOf s f e ≡ false).
       let k = file-same s e t e (head-of s e t e (renamed-kept kind s f (new .name) w e d h)) in

@@ -55,7 +55,8 @@ module _ (kind : Kind) (g : Begun kind) (s : State) (items : List Item) (groups 
         let same : tab (λ (k : ℕ). byte (take 19 (s .list)) k) 19 ≡ tab (λ (k : ℕ). byte (s .list) k) 19 =
         tab-ext (λ (k : ℕ). byte (take 19 (s .list)) k) (λ (k : ℕ). byte (s .list) k) 19 (λ k m. getD-take 19 (s .list) k 0 m) in
         let rest : tab (λ (k : ℕ). byte (s .list) (suc (suc (suc k)))) 16 ≡ g .users =
-        tab-ext (λ (k : ℕ). byte (s .list) (suc (suc (suc k)))) (byteFrom (s .list) 3) 16 (λ k m. let z : suc (suc (suc k)) ≡ 3 + k = omega arith in rw z refl) ∙ i .users in
+        tab-ext (λ (k : ℕ). byte (s .list) (suc (suc (suc k)))) (byteFrom (s .list) 3) 16 (λ k m. let z : suc (suc (suc k)) ≡ 3 + k = omega arith in rw z refl)
+        ∙ i .users in
         sym (tab-getD (take 19 (s .list)) 0 19 long) ∙ same ∙ heads (i .capacity) (i .openlimit) (i .locklimit) rest;
   }
     where
@@ -66,7 +67,8 @@ module _ (kind : Kind) (g : Begun kind) (s : State) (items : List Item) (groups 
   all-numbered : count (isNumbered kind (s .image)) (allNumbers kind) ≡ length groups
   unfolding holdsGroup
   all-numbered =
-      count-ext (isNumbered kind (s .image)) (holdsGroup kind (λ (x : Group). true) (s .image)) (allNumbers kind) (λ j m. and-true (isNumbered kind (s .image) j))
+      count-ext (isNumbered kind (s .image)) (holdsGroup kind (λ (x : Group). true) (s .image)) (allNumbers kind)
+      (λ j m. and-true (isNumbered kind (s .image) j))
       ∙ i .counted .as-many (λ (x : Group). true) ∙ tally-all (λ (x : Group). true) groups (λ x. refl)
     where
       and-true : (t : Bool) → t ≡ (t and true)

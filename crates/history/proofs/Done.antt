@@ -48,7 +48,8 @@ held-refused users q code g z =
     same false f r n = unfold holding _if_else_ in refl
 
 -- .. and what is counted too, where the code tells of no record done
-pub count-refused : (kind : Kind) (users : List ℕ) (q : Ask) (code : ℕ) (g : List Group) → (code ≡ 0 → ⊥) → code < 4096 → counting kind (deed users (event q code)) g ≡ g
+pub count-refused : (kind : Kind) (users : List ℕ) (q : Ask) (code : ℕ) (g : List Group) → (code ≡ 0 → ⊥) → code < 4096
+    → counting kind (deed users (event q code)) g ≡ g
 count-refused kind users q code g z low =
     ap (λ (d : Deed). counting kind d g) (deed-refused users q code z)
     ∙ same (writesRun (q .function)) (fileBy users q) (recordOf (q .fcb)) (doneIn code) (omega arith)

@@ -38,7 +38,8 @@ touching-one : (kind : Kind) (f : File) (r : ℕ) (g : List Group) → touchingR
 unfolding touchingRun touchingAt turns
 touching-one kind f r g = let e : r + 0 ≡ r = omega arith in ap (λ (n : ℕ). touching (group f (n / blockRecords kind)) g) e
 
-pub touching-more : (kind : Kind) (f : File) (r i : ℕ) (g : List Group) → touchingRun kind f (r + i) 1 (touchingRun kind f r i g) ≡ touchingRun kind f r (suc i) g
+pub touching-more : (kind : Kind) (f : File) (r i : ℕ) (g : List Group)
+    → touchingRun kind f (r + i) 1 (touchingRun kind f r i g) ≡ touchingRun kind f r (suc i) g
 touching-more kind f r i g = touching-one kind f (r + i) (touchingRun kind f r i g) ∙ (unfold touchingRun touchingAt turns in refl)
 
 -- ---- one plain call
@@ -72,11 +73,13 @@ module _ (kind : Kind) (q : Ask) (s : State) (g : List Group) (t : Counted kind 
       (λ (z : (e ≡ entries kind) × (n ≡ 0)). let a : e ≡ entries kind = z .0 in let d = m .entry-there in absurd (omega arith)) (λ z. z) (k .rest e n m)) t
 
   -- a plain 34 or 40 writes one record
-  written-counted : (ok : Passed kind p c b) (w : MayWrite kind p b) (zeros : Bool) → c ≡ 1 → Counted kind (imageWritten kind zeros p b (q .dma)) (touchingRun kind f r c g)
+  written-counted : (ok : Passed kind p c b) (w : MayWrite kind p b) (zeros : Bool) → c ≡ 1
+      → Counted kind (imageWritten kind zeros p b (q .dma)) (touchingRun kind f r c g)
   written-counted ok w zeros one =
       let u = imageWritten kind zeros p b (q .dma) in
       rw (one, touching-one kind)
-      (⊎-elim (λ (k : Old kind (s .image) u f r). touched-old kind (s .image) u f r long g t k) (λ (k : New kind (s .image) u f r). touched-new kind (s .image) u f r long g t k)
+      (⊎-elim (λ (k : Old kind (s .image) u f r). touched-old kind (s .image) u f r long g t k)
+      (λ (k : New kind (s .image) u f r). touched-new kind (s .image) u f r long g t k)
       (written-of kind p c b ok w zeros (q .dma) (let d = ok .ready .dma-long in omega arith)))
 
   rewritten-counted : (ok : Passed kind p c b) (w : MayWrite kind p b) (v : List ℕ) → 128 ≤ length v → (blockOf kind (s .image) f r ≡ 0 → ⊥)

@@ -1,8 +1,8 @@
 -- Each call leaves in the list just what the history holds. Assumes nothing.
 use Prim.Native.Nat.{ℕ, _≤_, _<_}
 use mathlib.Core.Path.{_≡_, refl, sym, ap, _∙_}
-use mathlib.Core.Bool.{true, false}
-use mathlib.Core.List.{List}
+use mathlib.Core.Bool.{Bool, true, false}
+use mathlib.Core.List.{List, map}
 use mathlib.Core.Logic.{⊎-elim}
 use native.Mathlib.Omega.{arith}
 use borrow.Author.Tests.{eqb-true}
@@ -17,21 +17,21 @@ use Rattle.rules.specs.declared.routine.Routine.the-variants.{Write, WriteZeros
 use Rattle.rules.specs.declared.routine.Chosen.the-variants.{Call}
 use Rattle.rules.specs.Serves.{Buffers, Outcome, chosen}
 use Rattle.rules.specs.Drive.{entryOf}
-use Rattle.rules.specs.Locks.{itemAt, userOf, fileOf, freshOpen, unpack, pack, openOf, opensNameAt, freePlace}
+use Rattle.rules.specs.Locks.{withItems, itemAt, userOf, fileOf, freshOpen, unpack, pack, openOf, opensNameAt, freePlace}
 use Rattle.rules.specs.Asks.{callerFile, recordOf, openMode, makeMode}
 use Rattle.rules.specs.Effects.{placed, opened, closed, unlockedRun, terminated, lockedRun, isOfFile, isInRun, unlessBy}
 use Rattle.rules.proofs.Items.{IsOpen, open-is, open-so, name-sym, name-is, name-then}
 use Rattle.rules.proofs.SoundList.{GoodOpen, GoodLock, Used, Vacant, capacity-fits, one-open, unpacked}
 use Rattle.soundness.proofs.Placed.{free-room}
-use Rattle.soundness.proofs.Emptied.{close-empties, unlock-empties, end-empties}
-use Rattle.soundness.proofs.Kept.{SoundShape, opened-shape, made-shape, closed-shape, unlocked-shape, ended-shape, locked-shape}
+use Rattle.soundness.proofs.Emptied.{Empties, Whole, close-empties, close-whole, unlock-empties, unlock-whole, end-empties, end-whole}
+use Rattle.soundness.proofs.Shapes.{SoundShape, opened-shape, made-shape, emptied-shape, locked-shape}
 use Rattle.soundness.proofs.Taken.{caller-long, caller-user, own-open, own-good}
 use Rattle.soundness.proofs.Ends.{shape-of, list-of, takes-of}
 use Rattle.rules.proofs.Passed.{Passed}
 use Rattle.soundness.proofs.Leaves.{Leaf, openBy, modeBy, Idle, refused, reopened, newlyOpened, newlyMade, nowClosed, nowErased, nowRenamed, nowRead, nowWritten, nowRewritten, nowLocked, lockIdle, nowUnlocked, unlockIdle, nowTold, nowEnded}
 use Rattle.history.specs.History.{Ask, State, event, lent}
 use Rattle.history.specs.Deeds.{Deed, deedBy, deed}
-use Rattle.history.specs.Held.{sameItem, isAmong, granting, grantingRun, isBy, holding}
+use Rattle.history.specs.Held.{sameItem, isAmong, granting, grantingRun, without, isBy, holding}
 use Rattle.history.proofs.Items.{alike-of, alike-so, granting-held, granting-new}
 use Rattle.history.proofs.Tallied.{Tally, held-listed, not-held, tally-set, tally-gone, tally-idle}
 use Rattle.history.proofs.Locking.{tally-run}
@@ -146,6 +146,12 @@ module _ (kind : Kind) (q : Ask) (s : State) (g : List Item) (t : Tally (unpack 
       let y = tally-set l (freePlace l) it (shape-of kind p c b ok) inside (free-room l room .empty) g t in
       rw (unpacked kind (opened p f mode l) image (w .sound) (w .shape), granting-new it g none) (unfold opened placed in y)
 
+  gone-tally : (ok : Passed kind p c b) (away : Item → Bool) (turn : Item → Item) → Empties away turn → Whole l away
+      → Tally (unpack (pack (withItems l (map turn (l .items))))) (without away g)
+  gone-tally ok away turn e w =
+      let h = emptied-shape kind p c b ok away turn e w in
+      rw (unpacked kind (withItems l (map turn (l .items))) (s .image) (h .sound) (h .shape)) (tally-gone l away turn e (shape-of kind p c b ok) g t)
+
   pub held-step : (o : Outcome) → Leaf kind (q .function) p c b o → Tally (unpack (o .left .list)) (holding (deed (usersIn s) (event q (o .answer))) g)
   unfolding holding deedBy grantingRun closed unlockedRun terminated isBy _if_else_
   held-step o (refused code z) = rw (held-refused (usersIn s) q code g z) t
@@ -153,14 +159,12 @@ module _ (kind : Kind) (q : Ask) (s : State) (g : List Item) (t : Tally (unpack 
       rw (deed-done (usersIn s) q _ k, file-meant q l, ← (w .same-mode), granting-held _ g (open-held ok (w .is-open))) t
   held-step o (newlyOpened k ok w fcb) =
       rw (deed-done (usersIn s) q _ k, file-meant q l)
-      (opened-tally ok (openMode (q .fcb)) (s .image) (opened-shape kind p c b ok w) (w .room) (open-unheld ok (openMode (q .fcb)) (none-open ok (w .unopened))))
+      (opened-tally ok (openMode (q .fcb)) (s .image) (opened-shape kind p c b ok w) (w .room)
+      (open-unheld ok (openMode (q .fcb)) (none-open ok (w .unopened))))
   held-step o (newlyMade k ok w fcb) =
       rw (deed-done (usersIn s) q _ k, file-meant q l)
       (opened-tally ok (makeMode (q .fcb)) _ (made-shape kind p c b ok w) (w .room) (open-unheld ok (makeMode (q .fcb)) (none-there ok (w .gone))))
-  held-step o (nowClosed k ok w) =
-      let h = closed-shape kind p c b ok in
-      rw (deed-done (usersIn s) q _ k, file-meant q l, unpacked kind (closed p f l) (s .image) (h .sound) (h .shape))
-      (tally-gone l (isOfFile p f) _ (close-empties p f) (shape-of kind p c b ok) g t)
+  held-step o (nowClosed k ok w) = rw (deed-done (usersIn s) q _ k, file-meant q l) (gone-tally ok _ _ (close-empties p f) (close-whole l p f))
   held-step o (nowErased k ok w) = rw (deed-done (usersIn s) q _ k) t
   held-step o (nowRenamed k ok w) = rw (deed-done (usersIn s) q _ k) t
   held-step o (nowRead k ok dma) = rw (deed-done (usersIn s) q _ k) t
@@ -172,17 +176,13 @@ module _ (kind : Kind) (q : Ask) (s : State) (g : List Item) (t : Tally (unpack 
       let h = locked-shape kind p c b ok w in
       let m : isAmong (freshOpen p (f .name) 1) g ≡ true = rw (w .is-unlocked) at (open-held ok (w .is-open)) in
       rw (deed-done (usersIn s) q _ k, file-meant q l, m, unpacked kind (lockedRun p f (recordOf (q .fcb)) c l) (s .image) (h .sound) (h .shape))
-      (unfold lockedRun in tally-run kind (s .image) l p f (recordOf (q .fcb)) c (shape-of kind p c b ok) (list-of kind p c b ok) (takes-of kind p c b ok w) g t c (omega arith))
+      (unfold lockedRun in tally-run kind (s .image) l p f (recordOf (q .fcb)) c (shape-of kind p c b ok) (list-of kind p c b ok)
+      (takes-of kind p c b ok w) g t c (omega arith))
   held-step o (lockIdle k ok w) = rw (deed-done (usersIn s) q _ k, file-meant q l, not-unlocked ok w) t
   held-step o (nowUnlocked k ok w) =
-      let h = unlocked-shape kind p c b ok in
-      rw (deed-done (usersIn s) q _ k, file-meant q l, unpacked kind (unlockedRun p f (recordOf (q .fcb)) c l) (s .image) (h .sound) (h .shape))
-      (tally-gone l (isInRun p f (recordOf (q .fcb)) c) _ (unlock-empties p f (recordOf (q .fcb)) c) (shape-of kind p c b ok) g t)
+      rw (deed-done (usersIn s) q _ k, file-meant q l) (gone-tally ok _ _ (unlock-empties p f (recordOf (q .fcb)) c) (unlock-whole l p f (recordOf (q .fcb)) c))
   held-step o (unlockIdle k ok w) =
       rw (deed-done (usersIn s) q _ k, file-meant q l)
       (tally-idle l (isInRun p f (recordOf (q .fcb)) c) _ (unlock-empties p f (recordOf (q .fcb)) c) (shape-of kind p c b ok) g t (no-locks ok w))
   held-step o (nowTold k ok dma) = rw (deed-done (usersIn s) q _ k) t
-  held-step o (nowEnded k ok) =
-      let h = ended-shape kind p c b ok in
-      rw (deed-done (usersIn s) q _ k, unpacked kind (terminated p l) (s .image) (h .sound) (h .shape))
-      (tally-gone l _ (unlessBy p) (end-empties p) (shape-of kind p c b ok) g t)
+  held-step o (nowEnded k ok) = rw (deed-done (usersIn s) q _ k) (gone-tally ok _ (unlessBy p) (end-empties p) (end-whole l p))

@@ -26,7 +26,8 @@ module _ (m : ℕ → ℕ) (t : ℕ → Bool) (n : ℕ) (top : ℕ) where
   met : ℕ → ℕ → Bool
   met k b = any (λ (i : ℕ). t i and eqb (m i) b) k
 
-  module _ (range : (i : ℕ) → i < top → t i ≡ true → (2 ≤ m i) × (m i < n)) (once : (i j : ℕ) → i < top → j < top → t i ≡ true → t j ≡ true → m i ≡ m j → i ≡ j) where
+  module _ (range : (i : ℕ) → i < top → t i ≡ true → (2 ≤ m i) × (m i < n))
+      (once : (i j : ℕ) → i < top → j < top → t i ≡ true → t j ≡ true → m i ≡ m j → i ≡ j) where
     meets : (k : ℕ) → k ≤ top → count (λ (b : ℕ). leb 2 b and met k b) n ≡ count t k
     unfolding met any
     meets zero s = count-zero _ n (any-never _ n (λ b l. none (leb 2 b))) ∙ count-none t
@@ -43,8 +44,10 @@ module _ (m : ℕ → ℕ) (t : ℕ → Bool) (n : ℕ) (top : ℕ) where
         let a = m k in
         let fresh : (leb 2 a and met k a) ≡ false = absent k a (λ i l. ⊎-elim
         (λ (d : (t i and eqb (m i) a) ≡ true).
-        let e : i ≡ k = once i k (omega arith) below (and-fst _ _ d) q (eqb-true _ _ (and-snd _ _ d)) in absurd (omega arith)) (λ d. d) (either (t i and eqb (m i) a))) in
-        let here : (leb 2 a and met (suc k) a) ≡ true = and-both _ _ (le-leb 2 a (w .0)) (any-found (λ (i : ℕ). t i and eqb (m i) a) (suc k) k (omega arith) (and-both _ _ q (eq-eqb a a refl))) in
+        let e : i ≡ k = once i k (omega arith) below (and-fst _ _ d) q (eqb-true _ _ (and-snd _ _ d)) in absurd (omega arith)) (λ d. d)
+        (either (t i and eqb (m i) a))) in
+        let here : (leb 2 a and met (suc k) a) ≡ true = and-both _ _ (le-leb 2 a (w .0))
+        (any-found (λ (i : ℕ). t i and eqb (m i) a) (suc k) k (omega arith) (and-both _ _ q (eq-eqb a a refl))) in
         count-one (λ (b : ℕ). leb 2 b and met k b) (λ (b : ℕ). leb 2 b and met (suc k) b) a n (w .1) fresh here
         (λ b l y. ap (λ (x : Bool). leb 2 b and x) (skip (met k b) (t k and eqb (m k) b) (and-off (t k) (eqb (m k) b) (ne-eqb (m k) b (λ d. y (sym d))))))
         ∙ ap (λ (x : ℕ). x + 1) z ∙ sym (count-yes t k q))
@@ -81,7 +84,12 @@ module _ (kind : Kind) (s : List ℕ) (g : SoundImage kind highest s) where
       let m : e .0 < entries kind = e .1 in
       let j : k .0 < numbers kind = k .1 in
       let n : Names kind s (e .0) (k .0) =
-      record { entry-there = m; place-there = j; entry-used = not-true _ (and-fst _ _ (e .2)); some = λ (z : mapNumber kind s (e .0) (k .0) ≡ 0). absurd (omega arith) } in
+      record {
+        entry-there = m;
+        place-there = j;
+        entry-used = not-true _ (and-fst _ _ (e .2));
+        some = λ (z : mapNumber kind s (e .0) (k .0) ≡ 0). absurd (omega arith);
+      } in
       any-found (λ (i : ℕ). isNumbered kind s i and eqb (number i) b) (allNumbers kind) (numbers kind * e .0 + k .0) (flat-below kind (e .0) (k .0) m j)
       (and-both _ _ (names-flat kind s (e .0) (k .0) n) (rw (flat-entry kind (e .0) (k .0) j, flat-place kind (e .0) (k .0) j) (k .2))))
       (λ h.
@@ -101,7 +109,8 @@ module _ (kind : Kind) (s : List ℕ) (g : SoundImage kind highest s) where
       ∙ meets number (isNumbered kind s) (blocks kind s) (allNumbers kind)
       (λ i l q. g .maps .range (i / numbers kind) (i % numbers kind) (numbered-names kind s i l q))
       (λ i j k l p q e.
-      let w = g .maps .once (i / numbers kind) (i % numbers kind) (j / numbers kind) (j % numbers kind) (numbered-names kind s i k p) (numbered-names kind s j l q) e in
+      let w = g .maps .once (i / numbers kind) (i % numbers kind) (j / numbers kind) (j % numbers kind) (numbered-names kind s i k p)
+      (numbered-names kind s j l q) e in
       sym (flat-both kind i) ∙ ap (λ (x : ℕ). numbers kind * x + i % numbers kind) (w .0)
       ∙ ap (λ (x : ℕ). numbers kind * (j / numbers kind) + x) (w .1) ∙ flat-both kind j)
       (allNumbers kind) (omega arith)

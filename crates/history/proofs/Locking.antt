@@ -33,8 +33,12 @@ module _ (kind : Kind) (l : LockList) (s : List ℕ) (g : SoundLocks kind l s) (
       ⊎-elim (λ (v : Vacant l (x .0)). let z = v .kind-zero in let y = w .kind-two in absurd (omega arith))
       (λ (v : Used kind s l (x .0)). ⊎-elim (λ (o : GoodOpen kind s l (itemAt l (x .0))). let z = o .kind-one in let y = w .kind-two in absurd (omega arith))
       (λ (o : GoodLock kind s l (itemAt l (x .0))). o .mode-one) (v .good))
-      (g .place (x .0) (x .1)) in
-      (x .0, x .1, alike-so (freshLock p (f .name) r) (itemAt l (x .0)) (record { kinds = sym (w .kind-two); processes = sym (x .2); names = name-sym _ _ (w .named); modes = sym one; numbers = sym (w .number) }))
+      (g .place (x .0) (x .1)) in (
+        x .0,
+        x .1,
+        alike-so (freshLock p (f .name) r) (itemAt l (x .0))
+            (record { kinds = sym (w .kind-two); processes = sym (x .2); names = name-sym _ _ (w .named); modes = sym one; numbers = sym (w .number) }),
+      )
 
   pub listed-lock : (i : ℕ) → i < 64 → sameItem (freshLock p (f .name) r) (itemAt l i) ≡ true → held l p f r ≡ true
   listed-lock i m h =
@@ -64,7 +68,8 @@ module _ (kind : Kind) (s : List ℕ) (l₀ : LockList) (p : ℕ) (f : File) (r 
       let e = free-room l room in
       let inside : freePlace l < 64 = let c = capacity-fits l (w .sound .limits) in omega arith in
       let none : (i : ℕ) → i < 64 → sameItem it (itemAt l i) ≡ false = λ i v. ⊎-elim
-      (λ (d : sameItem it (itemAt l i) ≡ true). absurd (never (listed-lock kind l s (w .sound) p f (r + k) (t .under) i v d) q)) (λ d. d) (either (sameItem it (itemAt l i))) in
+      (λ (d : sameItem it (itemAt l i) ≡ true). absurd (never (listed-lock kind l s (w .sound) p f (r + k) (t .under) i v d) q)) (λ d. d)
+      (either (sameItem it (itemAt l i))) in
       rw (q, granting-new it items (not-held l items z it some none)) (tally-set l (freePlace l) it (w .shape) inside (e .empty) items z))
       (either (held l p f (r + k)))
 

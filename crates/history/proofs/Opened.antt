@@ -8,9 +8,10 @@ use Rattle.history.specs.Groups.{sameGroup, isCounted, hasBlock, isNumbe
 use Rattle.history.specs.Demands.{itemsOf, groupsBy, isItemAt, sumBelow, itemsBy, figureIn, isUserOf, isUnheld}
 
 unfoldable pub history : Unit {0}
-unfolding areBytes isWord isLendable isPossible arePossible isKept forgetful outcomeOf stateAfter eventsOf after historyOf outcomeAfter fileBy newBy deedBy writesRun deed sameItem tally isAmong granting grantingAt grantingRun
-    without isBy holding heldAfter sameGroup isCounted hasBlock isNumbered groupAt groupsBelow groupsOf isInUse blocksInUse touching touchingAt
-    touchingRun ofFile carried counting countedAfter itemsOf groupsBy isItemAt sumBelow itemsBy figureIn isUserOf isUnheld
+unfolding areBytes isWord isLendable isPossible arePossible isKept forgetful outcomeOf stateAfter eventsOf after historyOf outcomeAfter fileBy newBy
+    deedBy writesRun deed sameItem tally isAmong granting grantingAt grantingRun without isBy holding heldAfter sameGroup isCounted hasBlock
+    isNumbered groupAt groupsBelow groupsOf isInUse blocksInUse touching touchingAt touchingRun ofFile carried counting countedAfter itemsOf groupsBy
+    isItemAt sumBelow itemsBy figureIn isUserOf isUnheld
 history = tt
 
 unfoldable pub listed : Unit {0}

@@ -23,7 +23,7 @@ use Rattle.rules.proofs.Frames.{Same}
 use Rattle.rules.proofs.SoundList.{GoodOpen, GoodLock, Used, Vacant, isPlain, unpack-shape, user-fits}
 use Rattle.soundness.proofs.Blocks.{At, at-of, blocks-same}
 use Rattle.soundness.proofs.Kept.{SoundBoth, call-sound}
-use Rattle.soundness.proofs.Walk.{walk}
+use Rattle.soundness.proofs.Left.{left}
 use Rattle.history.specs.History.{Ask, State, Begun, outcomeOf, lent}
 use Rattle.history.specs.Held.{isAmong}
 use Rattle.history.specs.Groups.{Group, hasBlock}
@@ -31,8 +31,8 @@ use Rattle.history.specs.Demands.{Unchanged, isUnder, FilesApart, ItemsA
 use Rattle.history.proofs.Items.{alike-of}
 use Rattle.history.proofs.Tallied.{listed-held}
 use Rattle.history.proofs.Seen.{Seen}
-use Rattle.history.proofs.Unharmed.{seen-leaf, unchanged}
-use Rattle.history.proofs.Apart.{Others, others-leaf, items-leaf}
+use Rattle.history.proofs.Unharmed.{seen-left, unchanged}
+use Rattle.history.proofs.Apart.{Others, others-left, items-left}
 use Rattle.history.proofs.Grants.{image-sound, list-sound}
 use Rattle.history.proofs.Run.{Inv}
 use Rattle.history.proofs.Frame.{image-framed}
@@ -44,7 +44,7 @@ module _ (kind : Kind) (g : Begun kind) (s : State) (items : List Item) (groups 
   -- 7
   pub items-kept : (q : Ask) → ItemsApart (q .process) (unpack (s .list)) (unpack (outcomeOf (call kind) q s .left .list))
   unfolding outcomeOf
-  items-kept q = items-leaf kind (q .function) (q .process) (q .count) (lent q s) _ (walk kind (q .function) (q .process) (q .count) (lent q s))
+  items-kept q = items-left kind (q .process) (q .count) (lent q s) _ _ (left kind (q .function) (q .process) (q .count) (lent q s) .list)
 
   -- the state after a call
   next : (q : Ask) → SoundBoth kind (outcomeOf (call kind) q s .left .list) (outcomeOf (call kind) q s .left .image)
@@ -56,11 +56,11 @@ module _ (kind : Kind) (g : Begun kind) (s : State) (items : List Item) (groups 
 
   long-after : (q : Ask) → length (outcomeOf (call kind) q s .left .image) ≡ length (s .image)
   unfolding outcomeOf
-  long-after q = image-framed kind (q .function) (q .process) (q .count) (lent q s) _ (walk kind (q .function) (q .process) (q .count) (lent q s))
+  long-after q = image-framed kind (q .process) (q .count) (lent q s) _ (left kind (q .function) (q .process) (q .count) (lent q s) .image)
 
   others : (q : Ask) → Others kind (s .image) (outcomeOf (call kind) q s .left .image) (userOf (unpack (s .list)) (q .process))
   unfolding outcomeOf
-  others q = others-leaf kind (q .function) (q .process) (q .count) (lent q s) sound _ (walk kind (q .function) (q .process) (q .count) (lent q s))
+  others q = others-left kind (q .process) (q .count) (lent q s) sound _ (left kind (q .function) (q .process) (q .count) (lent q s) .image)
 
   entry-part : (t : List ℕ) (e : ℕ) → e < entries kind → length t ≡ length (s .image) → Same (s .image) e t e → part (32 * e) 32 t ≡ part (32 * e) 32 (s .image)
   entry-part t e m long h =
@@ -115,8 +115,8 @@ module _ (kind : Kind) (g : Begun kind) (s : State) (items : List Item) (groups 
       let b = blockOf kind (s .image) (fileOf l (itemAt l j)) (itemAt l j .number) in
       let at = at-of kind (s .image) (fileOf l (itemAt l j)) (itemAt l j .number) nl (k .block) in
       let seen =
-      seen-leaf kind (q .function) (q .process) (q .count) (lent q s) j (x .1) (λ z. n (sym (w .processes ∙ z))) two sound b at _
-      (walk kind (q .function) (q .process) (q .count) (lent q s)) in
+      seen-left kind (q .process) (q .count) (lent q s) j (x .1) (λ z. n (sym (w .processes ∙ z))) two sound b at _
+      (left kind (q .function) (q .process) (q .count) (lent q s) .image) in
       let pl = v .plain in
       let p15 : itemAt l j .process ≤ 15 = leb-true _ _ (and-fst _ _ pl) in
       let p16 : p ≤ 15 = (let z : p ≡ itemAt l j .process = w .processes in omega arith) in

@@ -111,10 +111,12 @@ module _ (kind : Kind) (s : List ℕ) (g : List Group) (c : Counted kind s g) wh
   pub place-counted : (x : Group) (i : ℕ) → i < allNumbers kind → isNumbered kind s i ≡ true → sameGroup x (groupAt kind s i) ≡ true → isCounted x g ≡ true
   unfolding holdsGroup
   place-counted x i m h k =
-      let w = any-count (holdsGroup kind (sameGroup x) s) (allNumbers kind) (any-found (holdsGroup kind (sameGroup x) s) (allNumbers kind) i m (and-both _ _ h k)) in
+      let w = any-count (holdsGroup kind (sameGroup x) s) (allNumbers kind)
+      (any-found (holdsGroup kind (sameGroup x) s) (allNumbers kind) i m (and-both _ _ h k)) in
       tally-counted x g (rw (c .as-many (sameGroup x)) at w)
 
-  pub counted-place : (x : Group) → isCounted x g ≡ true → (i : ℕ) × (i < allNumbers kind) × (isNumbered kind s i ≡ true) × (sameGroup x (groupAt kind s i) ≡ true)
+  pub counted-place : (x : Group) → isCounted x g ≡ true → (i : ℕ) × (i < allNumbers kind) × (isNumbered kind s i ≡ true)
+      × (sameGroup x (groupAt kind s i) ≡ true)
   unfolding holdsGroup
   counted-place x h =
       let w = any-some (holdsGroup kind (sameGroup x) s) (allNumbers kind)
@@ -154,7 +156,8 @@ module _ (kind : Kind) (s : List ℕ) (g : List Group) (c : Counted kind s g) wh
       place-counted x (numbers kind * a .entry + mapPlace kind r) (flat-below kind _ _ (n .entry-there) l) (names-flat kind s (a .entry) (mapPlace kind r) n)
       (rw (at-group kind s f r (mapPlace kind r) (a .entry) (a .is) refl l) (likewise-so x x (record { number-same = refl; files = file-refl f })))
 
-  pub each-counted : SoundImage kind highest s → (f : File) (r : ℕ) → length (f .name) ≡ 11 → hasBlock kind s f r ≡ isCounted (group f (r / blockRecords kind)) g
+  pub each-counted : SoundImage kind highest s → (f : File) (r : ℕ) → length (f .name) ≡ 11
+      → hasBlock kind s f r ≡ isCounted (group f (r / blockRecords kind)) g
   unfolding hasBlock
   each-counted w f r l =
       same-test _ _

@@ -16,6 +16,7 @@ use Rattle.rules.specs.Call.{call}
 use Rattle.rules.specs.Several.{servesRun}
 use Rattle.soundness.proofs.Kept.{SoundBoth, call-sound}
 use Rattle.soundness.proofs.Walk.{walk}
+use Rattle.soundness.proofs.Left.{left}
 use Rattle.history.specs.History.{Ask, State, Begun, outcomeOf, kept, event, firstState, lent}
 use Rattle.history.specs.Deeds.{deed}
 use Rattle.history.specs.Held.{tally, holding}
@@ -48,7 +49,8 @@ module _ (kind : Kind) (g : Begun kind) where
   begun-tally : Tally (unpack (firstState kind g .list)) []
   unfolding passesAt tally
   begun-tally = rw (begun-list kind g) (record {
-    as-many = λ test w. count-zero (passesAt test (first kind g)) 64 (any-never (passesAt test (first kind g)) 64 (λ i m. w .not-empty _ (begun-empty kind g i m)));
+    as-many = λ test w. count-zero (passesAt test (first kind g)) 64
+        (any-never (passesAt test (first kind g)) 64 (λ i m. w .not-empty _ (begun-empty kind g i m)));
   })
 
   pub begun-inv : Inv kind g (firstState kind g) [] (groupsOf kind (g .image))
@@ -74,14 +76,15 @@ module _ (kind : Kind) (g : Begun kind) where
   step-inv q s items groups i one =
       let o : Outcome = call kind (q .function) (q .process) (q .count) (lent q s) in
       let w = walk kind (q .function) (q .process) (q .count) (lent q s) in
-      let f = list-framed kind (q .function) (q .process) (q .count) (lent q s) o w in
+      let v = left kind (q .function) (q .process) (q .count) (lent q s) in
+      let f = list-framed kind (q .process) (q .count) (lent q s) _ _ (v .list) in
       record {
         both = call-sound kind (q .function) (q .process) (q .count) (lent q s) (i .both);
         users = f .users ∙ i .users;
         capacity = f .capacities ∙ i .capacity;
         openlimit = f .openlimits ∙ i .openlimit;
         locklimit = f .locklimits ∙ i .locklimit;
-        long = image-framed kind (q .function) (q .process) (q .count) (lent q s) o w ∙ i .long;
+        long = image-framed kind (q .process) (q .count) (lent q s) _ (v .image) ∙ i .long;
         tallied = subst (λ (us : List ℕ). Tally (unpack (o .left .list)) (holding (deed us (event q (o .answer))) items)) (i .users)
             (held-step kind q s items (i .tallied) o w);
         once = once-holding _ items (i .once);

@@ -71,7 +71,8 @@ module _ (kind : Kind) (s t : List ℕ) (f : File) (r : ℕ) (g : SoundImage kin
   seen-new w =
       let c = w .wrote .change in
       let n : b ≡ w .block → ⊥ = λ z. free-unnamed kind s (w .block) (w .free) (a .entry) (mapPlace kind q) (at-names kind s h q b a) (a .number ∙ z) in
-      seen-kept kind s t h q b g (c .touches .long) a (blockSize kind * w .block) (blockSize kind) (c .data-kept) (beside b (w .block) n) (at-grown kind s t h q b (c .grown) a)
+      seen-kept kind s t h q b g (c .touches .long) a (blockSize kind * w .block) (blockSize kind) (c .data-kept) (beside b (w .block) n)
+      (at-grown kind s t h q b (c .grown) a)
     where
       beside : (x y : ℕ) → (x ≡ y → ⊥) → (recordAt kind x q + 128 ≤ blockSize kind * y) ⊎ (blockSize kind * y + blockSize kind ≤ recordAt kind x q)
       beside x y n =

@@ -45,7 +45,8 @@ touched-or-none : (users : List ℕ) (q : Ask) (i n : ℕ) → servesRun n ≡ t
     → (touches (fileBy users q) (recordOf (q .fcb)) i if writesRun n else nothing) ≡ deedBy (chosen n) users (withCount i q)
 unfolding writesRun chosen deedBy fileBy _or_ _if_else_
 touched-or-none users q i n h =
-    of-three (λ (m : ℕ). (touches (fileBy users q) (recordOf (q .fcb)) i if writesRun m else nothing) ≡ deedBy (chosen m) users (withCount i q)) refl refl refl n h
+    of-three (λ (m : ℕ). (touches (fileBy users q) (recordOf (q .fcb)) i if writesRun m else nothing) ≡ deedBy (chosen m) users
+    (withCount i q)) refl refl refl n h
 
 pub deed-partly : (users : List ℕ) (q : Ask) (code i : ℕ) → servesRun (q .function) ≡ true → (code ≡ 0 → ⊥) → code < 4096
     → deed users (event q (code + 0 ∕ (16 * i))) ≡ deedBy (chosen (q .function)) users (withCount i q)
@@ -100,7 +101,8 @@ module _ (kind : Kind) (g : Begun kind) (q : Ask) (s : State) (items : List Item
   deedTo i = deedBy (chosen n) (g .users) (withCount i q)
 
   module _ (h : servesRun n ≡ true) (long : length (q .fcb) ≡ 36) where
-    one-more : (i : ℕ) (b : Buffers) → b .fcb ≡ q .fcb → call kind n p 1 (single i b) .answer ≡ 0 → Inv kind g (stateIn b) items (counting kind (deedTo i) groups)
+    one-more : (i : ℕ) (b : Buffers) → b .fcb ≡ q .fcb → call kind n p 1 (single i b) .answer ≡ 0
+        → Inv kind g (stateIn b) items (counting kind (deedTo i) groups)
         → Inv kind g (stateIn (call kind n p 1 (single i b) .left)) items (counting kind (deedTo (suc i)) groups)
     unfolding single outcomeOf
     one-more i b same z w =
@@ -109,7 +111,8 @@ module _ (kind : Kind) (g : Begun kind) (q : Ask) (s : State) (items : List Item
         rw (z, d, held-run (chosen n) k (g .users) (askAt q i b) items, count-more kind (g .users) q i b groups long same (chosen n) k)
         at (step-inv kind g (askAt q i b) (stateIn b) items (counting kind (deedTo i) groups) w (λ y. refl))
 
-    inv-to : (c : ℕ) (x : Run) → Steps kind n p (lent q s) c x → (x .left .fcb ≡ q .fcb) × Inv kind g (stateIn (x .left)) items (counting kind (deedTo (x .done)) groups)
+    inv-to : (c : ℕ) (x : Run) → Steps kind n p (lent q s) c x → (x .left .fcb ≡ q .fcb)
+        × Inv kind g (stateIn (x .left)) items (counting kind (deedTo (x .done)) groups)
     unfolding backAt
     inv-to c x begun = (refl, rw (count-none kind (chosen n) (run-chosen n h) (g .users) q groups) i₀)
     inv-to c x (done i b w z) =

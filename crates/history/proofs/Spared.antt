@@ -32,7 +32,8 @@ use Rattle.history.proofs.Plain.{locked, files-kept, items-kept}
 
 -- ---- one after the other
 
-unchanged-then : (kind : Kind) (u : ℕ) (name : List ℕ) (r : ℕ) (s t v : List ℕ) → Unchanged kind u name r s t → Unchanged kind u name r t v → Unchanged kind u name r s v
+unchanged-then : (kind : Kind) (u : ℕ) (name : List ℕ) (r : ℕ) (s t v : List ℕ) → Unchanged kind u name r s t → Unchanged kind u name r t v
+    → Unchanged kind u name r s v
 unchanged-then kind u name r s t v x y = record { shown = x .shown; same = y .same ∙ x .same }
 
 -- an entry that stays is under the user that it was under
@@ -102,7 +103,8 @@ module _ (kind : Kind) (g : Begun kind) (s : State) (items : List Item) (groups 
       ⊎-elim
       (λ (h : ltb (q .process) 16 ≡ true). own-apart u (λ e. n (and-both _ _ h (eq-eqb _ _ e))))
       (λ (h : ltb (q .process) 16 ≡ false).
-      let over : badNumbers (q .function) (q .process) (q .count) (q .fcb) (q .dma) (s .list) ≡ true = or-case _ _ (λ z. or-left (leb 16 (q .process)) _ (le-leb 16 (q .process) (ltb-false (q .process) 16 h))) in
+      let over : badNumbers (q .function) (q .process) (q .count) (q .fcb) (q .dma) (s .list) ≡ true = or-case _ _
+      (λ z. or-left (leb 16 (q .process)) _ (le-leb 16 (q .process) (ltb-false (q .process) 16 h))) in
       rw (bad-numbers kind (q .function) (q .process) (q .count) (lent q s) over) (files-same kind u (s .image)))
       (either (ltb (q .process) 16))
 

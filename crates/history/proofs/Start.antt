@@ -63,7 +63,8 @@ module _ (kind : Kind) (c o k : ℕ) (users s : List ℕ) (g : Limits (fresh c o
   fresh-sound = record {
     limits = g;
     place = λ i m. inl (record { kind-zero = ap (λ (it : Item). it .kind) (fresh-at i m c o k users); zeros = ap goodEmpty (fresh-at i m c o k users) });
-    apart = λ i j m n q. and-left _ _ (clash-none (itemAt (fresh c o k users) i) (itemAt (fresh c o k users) j) (ap (λ (it : Item). it .kind) (fresh-at i m c o k users)));
+    apart = λ i j m n q. and-left _ _ (clash-none (itemAt (fresh c o k users) i) (itemAt (fresh c o k users) j)
+        (ap (λ (it : Item). it .kind) (fresh-at i m c o k users)));
     keeps = λ p m.
         and-both _ _ (le-leb (count (isKindByAt (fresh c o k users) 1 p) 64) o (rw (none-kind 1 p (λ (z : 1 ≡ 0). absurd (omega arith))) (omega arith)))
         (le-leb (count (isKindByAt (fresh c o k users) 2 p) 64) k (rw (none-kind 2 p (λ (z : 2 ≡ 0). absurd (omega arith))) (omega arith)));
@@ -82,7 +83,12 @@ module _ (c o k : ℕ) (users list : List ℕ) where
       let n₁ = or-snd _ _ n in
       let n₂ = or-snd _ _ n₁ in
       let n₃ = or-snd _ _ n₂ in (
-        record { capacity-good = not-false _ (or-fst _ _ n); open-good = not-false _ (or-fst _ _ n₁); lock-good = not-false _ (or-fst _ _ n₂); users-good = not-false _ (or-fst _ _ (or-snd _ _ n₃)) },
+        record {
+          capacity-good = not-false _ (or-fst _ _ n);
+          open-good = not-false _ (or-fst _ _ n₁);
+          lock-good = not-false _ (or-fst _ _ n₂);
+          users-good = not-false _ (or-fst _ _ (or-snd _ _ n₃));
+        },
         eqb-true _ _ (not-false _ (or-fst _ _ n₃)),
       )
 

@@ -64,7 +64,8 @@ module _ (l : LockList) (j : ℕ) (it : Item) (h : Shape l) (inside : j < 64) (e
   tally-set = record {
     as-many = λ test w.
         let now = withItems l (set (l .items) j it) in
-        let k = count-set (passesAt test l) (passesAt test now) j 64 inside (w .not-empty (itemAt l j) empty) (λ i m q. ap test (at-other l j it h inside i q)) in
+        let k = count-set (passesAt test l) (passesAt test now) j 64 inside (w .not-empty (itemAt l j) empty)
+        (λ i m q. ap test (at-other l j it h inside i q)) in
         let e : test (itemAt now j) ≡ test it = ap test (at-here l j it h inside) in
         k ∙ ap (λ (n : ℕ). n + (1 if test (itemAt now j) else 0)) (t .as-many test w) ∙ ap (λ (b : Bool). tally test g + (1 if b else 0)) e;
   }
@@ -81,7 +82,8 @@ module _ (l : LockList) (away : Item → Bool) (turn : Item → Item) (e : Empti
         let v : OfItems stays = record { not-empty = λ it z. rw (w .not-empty it z) refl } in
         let k : count (passesAt test now) 64 ≡ count (passesAt stays l) 64 =
         count-ext (passesAt test now) (passesAt stays l) 64 (λ i m. ⊎-elim
-        (λ (q : away (itemAt l i) ≡ true). ap test (at-gone l away turn e h i m q) ∙ w .not-empty emptyPlace refl ∙ sym (and-right′ (test (itemAt l i)) (not (away (itemAt l i))) (rw q refl)))
+        (λ (q : away (itemAt l i) ≡ true). ap test (at-gone l away turn e h i m q) ∙ w .not-empty emptyPlace refl
+        ∙ sym (and-right′ (test (itemAt l i)) (not (away (itemAt l i))) (rw q refl)))
         (λ (q : away (itemAt l i) ≡ false). ap test (at-kept l away turn e h i m q) ∙ sym (and-true (test (itemAt l i)) (not (away (itemAt l i))) (rw q refl)))
         (either (away (itemAt l i)))) in
         k ∙ t .as-many stays v ∙ sym (tally-without test away g);

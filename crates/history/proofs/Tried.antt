@@ -34,7 +34,8 @@ groupsTo n = countedAfter Small (replicate 16 0) (map told (take n session)) (gr
 -- items in the list by process, items held, free places; blocks in use, groups counted, free blocks
 figures : ℕ → List ℕ → List ℕ → List ℕ
 figures n list image =
-    sumBelow (itemsBy (unpack list)) 16 ∷ length (heldTo n) ∷ freePlaces (unpack list) ∷ blocksInUse Small image ∷ length (groupsTo n) ∷ freeBlocks Small image ∷ []
+    sumBelow (itemsBy (unpack list)) 16 ∷ length (heldTo n) ∷ freePlaces (unpack list) ∷ blocksInUse Small image ∷ length
+    (groupsTo n) ∷ freeBlocks Small image ∷ []
 
 after-s0 : figures 1 list0 image0 ≡ 1 ∷ 1 ∷ 2 ∷ 0 ∷ 0 ∷ 2 ∷ []
 unfolding rules listed history asked told heldTo groupsTo figures
@@ -72,7 +73,8 @@ counted-groups : isCountedTo 11 0 ∷ isCountedTo 11 1 ∷ isCountedTo 11 2 ∷ 
 unfolding rules listed history asked told groupsTo isCountedTo
 counted-groups = refl
 
-with-block : hasBlock Small image5 (fileFrom 0 orders 0) 7 ∷ hasBlock Small image5 (fileFrom 0 orders 0) 15 ∷ hasBlock Small image5 (fileFrom 0 orders 0) 16 ∷ []
+with-block : hasBlock Small image5 (fileFrom 0 orders 0) 7 ∷ hasBlock Small image5 (fileFrom 0 orders 0) 15 ∷ hasBlock Small image5
+    (fileFrom 0 orders 0) 16 ∷ []
     ≡ true ∷ true ∷ false ∷ []
 unfolding rules listed history
 with-block = refl

@@ -19,7 +19,7 @@ use Rattle.words.proofs.Bytes.{part-long}
 use Rattle.rules.specs.declared.kind.Kind.{Kind}
 use Rattle.rules.specs.declared.file.File.{File}
 use Rattle.rules.specs.declared.list.LockList.{LockList}
-use Rattle.rules.specs.Serves.{Buffers, Outcome}
+use Rattle.rules.specs.Serves.{Buffers}
 use Rattle.rules.specs.Drive.{highest, legalName, fileFrom, blockOf, recordAt, soundImage, blocks}
 use Rattle.rules.specs.Locks.{itemAt, fileOf, isLow, anyOpen}
 use Rattle.rules.specs.Asks.{recordOf}
@@ -35,13 +35,14 @@ use Rattle.soundness.proofs.Held.{others-found}
 use Rattle.soundness.proofs.Taken.{caller-long, no-items}
 use Rattle.soundness.proofs.Ends.{shape-of, list-of, made-of, renamed-touch, written-of}
 use Rattle.rules.proofs.Passed.{Passed}
-use Rattle.soundness.proofs.Leaves.{Leaf, listOf, fileBy, newBy, MayWrite, refused, reopened, newlyOpened, newlyMade, nowClosed, nowErased, nowRenamed, nowRead, nowWritten, nowRewritten, nowLocked, lockIdle, nowUnlocked, unlockIdle, nowTold, nowEnded, imageWritten}
+use Rattle.soundness.proofs.Left.{ImageLeft, image-same, entry-made, record-stored, file-erased, file-renamed}
+use Rattle.soundness.proofs.Leaves.{listOf, fileBy, newBy, MayWrite, imageWritten}
 use Rattle.history.specs.Demands.{Unchanged}
 use Rattle.history.proofs.Seen.{Seen, at-range, seen-all, seen-written}
 
 -- ---- a lock at place i of the list, by another process
 
-module _ (kind : Kind) (n q c : ℕ) (b : Buffers) (i : ℕ) (inside : i < 64) (other : itemAt (listOf b) i .process ≡ q → ⊥)
+module _ (kind : Kind) (q c : ℕ) (b : Buffers) (i : ℕ) (inside : i < 64) (other : itemAt (listOf b) i .process ≡ q → ⊥)
     (two : itemAt (listOf b) i .kind ≡ 2) (g : SoundImage kind highest (b .image)) (block : ℕ)
     (at : At kind (b .image) (fileOf (listOf b) (itemAt (listOf b) i)) (itemAt (listOf b) i .number) block) where
   abbrev l : LockList
@@ -85,32 +86,24 @@ module _ (kind : Kind) (n q c : ℕ) (b : Buffers) (i : ℕ) (inside : i < 64) (
 
     seen-write : MayWrite kind q b → (zeros : Bool) (v : List ℕ) → 128 ≤ length v → Seen kind s (imageWritten kind zeros q b v) f r block
     seen-write w zeros v full =
-        seen-written kind s _ (fileBy q b) (recordOf (b .fcb)) g (caller-long q l (b .fcb)) f r block long at (written-of kind q c b ok w zeros v full) (unwritten w)
+        seen-written kind s _ (fileBy q b) (recordOf (b .fcb)) g (caller-long q l (b .fcb)) f r block long
+        at (written-of kind q c b ok w zeros v full) (unwritten w)
 
-  pub seen-leaf : (o : Outcome) → Leaf kind n q c b o → Seen kind s (o .left .image) f r block
-  seen-leaf o (refused code z) = still
-  seen-leaf o (reopened k ok w fcb) = still
-  seen-leaf o (newlyOpened k ok w fcb) = still
-  seen-leaf o (newlyMade k ok w fcb) =
+  pub seen-left : (t : List ℕ) → ImageLeft kind q c b t → Seen kind s t f r block
+  seen-left t image-same = still
+  seen-left t (entry-made ok w) =
       let d = made-of kind q c b ok w 0 0 0 0 in
       seen-all kind s _ f r block g (d .touches .long) at (λ j m. d .data-kept .at j m (inr (omega arith))) (at-grown kind s _ f r block (d .grown) at)
-  seen-leaf o (nowClosed k ok w) = still
-  seen-leaf o (nowErased k ok w) =
+  seen-left t (record-stored ok w zeros v full bytes) = seen-write ok w zeros v full
+  seen-left t (file-erased ok w) =
       let h = caller-long q l (b .fcb) in
       let d = all-erased kind s (fileBy q b) g h in
-      seen-all kind s _ f r block g (d .len) at (d .past) (at-forth kind s _ (fileBy q b) (fileBy q b) f (erased-touches kind s (fileBy q b) g h) (apart ok (w .unopened)) r block at)
-  seen-leaf o (nowRenamed k ok w) =
+      seen-all kind s _ f r block g (d .len) at (d .past) (at-forth kind s _ (fileBy q b) (fileBy q b) f (erased-touches kind s (fileBy q b) g h)
+      (apart ok (w .unopened)) r block at)
+  seen-left t (file-renamed ok w) =
       let d = all-renamed kind s (fileBy q b) (newBy q b .name) g in
-      seen-all kind s _ f r block g (d .len) at (d .past) (at-forth kind s _ (fileBy q b) (newBy q b) f (renamed-touch kind q c b ok w) (apart ok (w .unopened)) r block at)
-  seen-leaf o (nowRead k ok dma) = still
-  seen-leaf o (nowWritten k ok w zeros) = seen-write ok w zeros (b .dma) (let d = ok .ready .dma-long in omega arith)
-  seen-leaf o (nowRewritten k ok w some v full from) = seen-write ok w false v full
-  seen-leaf o (nowLocked k ok w) = still
-  seen-leaf o (lockIdle k ok w) = still
-  seen-leaf o (nowUnlocked k ok w) = still
-  seen-leaf o (unlockIdle k ok w) = still
-  seen-leaf o (nowTold k ok dma) = still
-  seen-leaf o (nowEnded k ok) = still
+      seen-all kind s _ f r block g (d .len) at (d .past) (at-forth kind s _ (fileBy q b) (newBy q b) f (renamed-touch kind q c b ok w)
+      (apart ok (w .unopened)) r block at)
 
 -- ---- Look
 
@@ -119,7 +112,8 @@ low-file : (u : ℕ) (name : List ℕ) → length name ≡ 11 → all (isLow nam
 unfolding fileFrom isLow
 low-file u name l h =
     let e : tab (lowFrom name 0) 11 ≡ name =
-    tab-ext (lowFrom name 0) (λ (k : ℕ). getD name k 0) 11 (λ k m. let z : byte name k < 128 = ltb-true _ _ (all-at (isLow name) 11 k h m) in rw (zero-add k) (omega arith))
+    tab-ext (lowFrom name 0) (λ (k : ℕ). getD name k 0) 11 (λ k m. let z : byte name k < 128 = ltb-true _ _ (all-at (isLow name) 11 k h m) in
+    rw (zero-add k) (omega arith))
     ∙ tab-getD name 0 11 l in
     λ i. record { user = u; name = e i }
 
@@ -130,7 +124,13 @@ unfolding look partFrom lookAt partAt lookBlock mayLook _if_else_
 look-is kind u name r s b g v l m e low =
     let k : (soundImage kind highest s and leb u 15 and eqb (length name) 11 and legalName name 0) ≡ true =
     and-both _ _ g (and-both _ _ (le-leb u 15 v) (and-both _ _ (eq-eqb (length name) 11 l) m)) in
-    let some : recordAt kind b r ≡ 0 → ⊥ = λ z. omega (arith, record-over kind b r, block-inside kind 0 b (omega arith), record-inside kind 0 1 0 (omega arith)) in
+    let some : recordAt kind b r ≡ 0 → ⊥ = λ z. omega (
+      arith,
+      record-over kind b r,
+      block-inside kind 0 b (omega arith),
+      record-inside kind 0 1 0
+          (omega arith),
+    ) in
     rw (k, e, ne-eqb b 0 (λ (z : b ≡ 0). absurd (omega arith)), ne-eqb (recordAt kind b r) 0 some) refl
 
 pub unchanged : (kind : Kind) (u : ℕ) (name : List ℕ) (r b : ℕ) (s t : List ℕ) → SoundImage kind highest s → SoundImage kind highest t

@@ -16,9 +16,9 @@ use Rattle.rules.specs.Drive.{isEmpty, blocks}
 use Rattle.rules.specs.Locks.{freshOpen, unpack}
 use Rattle.rules.specs.Several.{callRun}
 use Rattle.session.specs.Open.{rules}
-use Rattle.session.specs.Session.{AsListed, session, orders, fcbWith, dmaWith, firstImage, firstList, listWith, openBy, list0, list3, image0, image2, image5}
+use Rattle.session.specs.Session.{AsListed, session, orders, fcbWith, dmaWith, firstImage, firstList, list0, list3, image0, image2, image5}
 use Rattle.session.proofs.Session.{the-session}
-use Rattle.history.specs.History.{Ask, State, Engine, Event, Begun, state, isPossible, arePossible, outcomeOf, event, eventsOf, after, historyOf, outcomeAfter}
+use Rattle.history.specs.History.{Ask, Engine, Event, Begun, state, isPossible, arePossible, outcomeOf, event, eventsOf, after, historyOf, outcomeAfter}
 use Rattle.history.specs.Deeds.{tells, deed}
 use Rattle.history.specs.Held.{sameItem, tally}
 use Rattle.history.specs.Groups.{Group, isNumbered, groupsBelow, groupsOf, blocksInUse, countedAfter}
@@ -149,7 +149,8 @@ told-so : (figure : ℕ) → deed (begun .users) (event asks (outcomeAfter Small
 unfolding rules listed history begun by asks madeUp butAfter figured
 told-so figure = refl
 
-told-first : (figure : ℕ) → take 3 (outcomeAfter Small (madeUp Small figure) begun [] asks .left .dma) ≡ figure % 256 ∷ figure / 256 % 256 ∷ figure / 256 / 256 % 256 ∷ []
+told-first : (figure : ℕ)
+    → take 3 (outcomeAfter Small (madeUp Small figure) begun [] asks .left .dma) ≡ figure % 256 ∷ figure / 256 % 256 ∷ figure / 256 / 256 % 256 ∷ []
 unfolding rules listed history begun by asks madeUp butAfter figured
 told-first figure = refl
 
@@ -218,7 +219,8 @@ unfolding rules listed history begun by makes writes-two unbitted
 singly-used = refl
 
 pub not-unbitted : Demand3 Small (unbitted Small) → ⊥
-not-unbitted d = let z = d .stands begun (makes ∷ writes-two ∷ []) may-make-two .blocks-are-groups .as-many in let a = singly-counted in let b = singly-used in omega arith
+not-unbitted d = let z = d .stands begun (makes ∷ writes-two ∷ []) may-make-two .blocks-are-groups .as-many in let a = singly-counted in let b = singly-used in
+    omega arith
 
 -- another limit, and another user, fail at once: the list's head is no longer the one that Start wrote
 begun-limit : begun .openlimit ≡ 2
@@ -235,7 +237,8 @@ lavish-limit = refl
 
 pub not-lavish : Demand3 Small (lavish Small) → ⊥
 not-lavish d =
-    let z : byte (take 19 (after Small (lavish Small) begun (asks ∷ []) .list)) 1 ≡ begun .openlimit = ap (λ (s : List ℕ). byte s 1) (d .stands begun (asks ∷ []) may-asks .head-stays .head) in
+    let z : byte (take 19 (after Small (lavish Small) begun (asks ∷ []) .list)) 1 ≡ begun .openlimit = ap (λ (s : List ℕ). byte s 1)
+    (d .stands begun (asks ∷ []) may-asks .head-stays .head) in
     let y = lavish-limit in
     let x = begun-limit in
     omega arith
@@ -246,7 +249,8 @@ promoted-user = refl
 
 pub not-promoting : Demand3 Small (promoting Small) → ⊥
 not-promoting d =
-    let z : byte (take 19 (after Small (promoting Small) begun (dies ∷ []) .list)) 4 ≡ byte (begun .users) 1 = ap (λ (s : List ℕ). byte s 4) (d .stands begun (dies ∷ []) may-die .head-stays .head) in
+    let z : byte (take 19 (after Small (promoting Small) begun (dies ∷ []) .list)) 4 ≡ byte (begun .users) 1 = ap (λ (s : List ℕ). byte s 4)
+    (d .stands begun (dies ∷ []) may-die .head-stays .head) in
     let y = promoted-user in
     let x = begun-user in
     omega arith
@@ -291,7 +295,8 @@ idle-differs d =
     omega arith
 
 -- a made-up figure from 46 at S8, where the drive is full, or before S0, where it is not
-made-up-full : (figure : ℕ) → take 3 (outcomeOf (madeUp Small figure []) asks (state list3 image5) .left .dma) ≡ figure % 256 ∷ figure / 256 % 256 ∷ figure / 256 / 256 % 256 ∷ []
+made-up-full : (figure : ℕ) → take 3 (outcomeOf (madeUp Small figure []) asks
+    (state list3 image5) .left .dma) ≡ figure % 256 ∷ figure / 256 % 256 ∷ figure / 256 / 256 % 256 ∷ []
 unfolding rules listed history by asks madeUp butAfter figured
 made-up-full figure = refl
 
@@ -313,5 +318,6 @@ not-none d =
 pub made-up-differs : (figure : ℕ) → figure < 16777216 → Demand2 Small (madeUp Small figure) → ⊥
 unfolding Demand2 rules listed history by asks
 made-up-differs figure m d =
-    let full : figure ≡ 0 = figure-is figure 0 m (omega arith) (sym (made-up-full figure) ∙ ap (λ (o : Outcome). take 3 (o .left .dma)) (d [] asks (state list3 image5) refl refl ∙ s8)) in
+    let full : figure ≡ 0 = figure-is figure 0 m (omega arith)
+    (sym (made-up-full figure) ∙ ap (λ (o : Outcome). take 3 (o .left .dma)) (d [] asks (state list3 image5) refl refl ∙ s8)) in
     not-none (subst (λ (f : ℕ). Demand2 Small (madeUp Small f)) full d)

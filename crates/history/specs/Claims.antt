@@ -3,19 +3,18 @@
 use Prim.Native.Nat.{ℕ, _+_, _*_, _%_, _≤_, _<_}
 use mathlib.Core.Path.{_≡_}
 use mathlib.Core.Bool.{true, false}
-use mathlib.Core.List.{List, _∷_, _++_}
+use mathlib.Core.List.{List}
 use mathlib.Core.Logic.{_⊎_}
 use lib.ListN.{length, replicate}
 use Rattle.words.specs.Bytes.{areBytes}
-use Rattle.words.specs.Tables.{Row, _∕_, _when_, firstOf, anyRow}
+use Rattle.words.specs.Tables.{_∕_, firstOf, anyRow}
 use Rattle.rules.specs.declared.kind.Kind.{Kind}
 use Rattle.rules.specs.declared.kind.Kind.the-variants.{Small, Large}
 use Rattle.rules.specs.declared.kind.Told.the-variants.{Known}
-use Rattle.rules.specs.declared.list.LockList.{LockList}
 use Rattle.rules.specs.Kinds.{toldKind, entries}
-use Rattle.rules.specs.Serves.{Buffers, Outcome, outcome, Did, chosen, listSize}
+use Rattle.rules.specs.Serves.{Buffers, outcome, Did, chosen, listSize}
 use Rattle.rules.specs.Drive.{highest, entrySize, recordSize, fileFrom, soundImage}
-use Rattle.rules.specs.Locks.{Started, pack, unpack, soundLocks, soundList, start}
+use Rattle.rules.specs.Locks.{pack, unpack, soundList, start}
 use Rattle.rules.specs.Call.{asked, rowsCall, effectOf, call}
 use Rattle.rules.specs.Several.{callSingly}
 use Rattle.rules.specs.Look.{lookAt}

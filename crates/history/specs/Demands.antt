@@ -14,7 +14,7 @@ use Rattle.rules.specs.Kinds.{blockRecords, entries}
 use Rattle.rules.specs.declared.file.File.{File}
 use Rattle.rules.specs.declared.item.Item.{Item}
 use Rattle.rules.specs.declared.list.LockList.{LockList}
-use Rattle.rules.specs.Serves.{Buffers, Outcome, outcome, processes, listSize}
+use Rattle.rules.specs.Serves.{Outcome, outcome, processes, listSize}
 use Rattle.rules.specs.Drive.{highest, entrySize, blocks, recordSize, recordAt, isEmpty, userByte, blockOf, freeBlocks, soundImage}
 use Rattle.rules.specs.Locks.{anEmpty, anOpen, aLock, places, itemAt, unpack, freshLock, isKindBy, opensBy, locksBy, isEmptyAt, freePlaces, soundList}
 use Rattle.rules.specs.Asks.{recordOf}

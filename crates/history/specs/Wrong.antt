@@ -1,7 +1,7 @@
 -- Wrong engines: those of "What the contracts have to say", and three more. Assumes nothing.
 use Prim.Native.Nat.{ℕ, _+_}
 use mathlib.Core.Bool.{Bool}
-use mathlib.Core.List.{List, [], _∷_}
+use mathlib.Core.List.{[], _∷_}
 use lib.ListN.{set}
 use lib.Dec.{eqb}
 use Rattle.words.specs.Tests.{_and_, _or_, _if_else_}

@@ -28,7 +28,12 @@ pub record At (kind : Kind) (s : List ℕ) (f : File) (r b : ℕ) : Type 0 where
   pub some : b ≡ 0 → ⊥
 
 pub at-names : (kind : Kind) (s : List ℕ) (f : File) (r b : ℕ) → (a : At kind s f r b) → Names kind s (a .entry) (mapPlace kind r)
-at-names kind s f r b a = record { entry-there = a .below; place-there = place-fits kind r; entry-used = a .is .used; some = λ z. a .some (sym (a .number) ∙ z) }
+at-names kind s f r b a = record {
+  entry-there = a .below;
+  place-there = place-fits kind r;
+  entry-used = a .is .used;
+  some = λ z. a .some (sym (a .number) ∙ z);
+}
 
 pub found-below : (kind : Kind) (s : List ℕ) (f : File) (x e : ℕ) → e < entries kind → Is s f x e → entryOf kind s f x < entries kind
 unfolding entryOf
@@ -38,16 +43,24 @@ found-below kind s f x e l h = lowest-below (isEntry s f x) (entries kind) (any-
 pub only : (kind : Kind) (s : List ℕ) (f : File) (x e d : ℕ) → Entries kind highest s → e < entries kind → d < entries kind → Is s f x e → Is s f x d → e ≡ d
 only kind s f x e d g l k a b =
     ⊎-elim
-    (λ (c : ltb e d ≡ true). absurd (g .single e d (ltb-true e d c) k (b .used) (record { used = a .used; file = a .file ∙ sym (b .file); extent = a .extent ∙ sym (b .extent) })))
+    (λ (c : ltb e d ≡ true). absurd (g .single e d (ltb-true e d c) k (b .used)
+    (record { used = a .used; file = a .file ∙ sym (b .file); extent = a .extent ∙ sym (b .extent) })))
     (λ (c : ltb e d ≡ false). ⊎-elim
-    (λ (c′ : ltb d e ≡ true). absurd (g .single d e (ltb-true d e c′) l (a .used) (record { used = b .used; file = b .file ∙ sym (a .file); extent = b .extent ∙ sym (a .extent) })))
+    (λ (c′ : ltb d e ≡ true). absurd (g .single d e (ltb-true d e c′) l (a .used)
+    (record { used = b .used; file = b .file ∙ sym (a .file); extent = b .extent ∙ sym (a .extent) })))
     (λ (c′ : ltb d e ≡ false). let m = ltb-false e d c in let n = ltb-false d e c′ in omega arith) (either (ltb d e)))
     (either (ltb e d))
 
 pub at-of : (kind : Kind) (s : List ℕ) (f : File) (r : ℕ) → length (f .name) ≡ 11 → (blockOf kind s f r ≡ 0 → ⊥) → At kind s f r (blockOf kind s f r)
 at-of kind s f r n h =
     let m = block-named kind highest s f r h in
-    record { entry = entryOf kind s f (r / 128); below = m .entry-there; is = found-is kind s f (r / 128) n (m .entry-there); number = sym (block-is kind highest s f r h); some = h }
+    record {
+      entry = entryOf kind s f (r / 128);
+      below = m .entry-there;
+      is = found-is kind s f (r / 128) n (m .entry-there);
+      number = sym (block-is kind highest s f r h);
+      some = h;
+    }
 
 pub of-at : (kind : Kind) (s : List ℕ) (f : File) (r b : ℕ) → length (f .name) ≡ 11 → SoundImage kind highest s → At kind s f r b → blockOf kind s f r ≡ b
 unfolding blockOf blockIn _if_else_

@@ -32,7 +32,8 @@ pub record Empties (away : Item → Bool) (turn : Item → Item) : Type 0 where
 
 -- an open goes only with the locks of its process on its file
 pub record Whole (l : LockList) (away : Item → Bool) : Type 0 where
-  pub with-locks : (i o : ℕ) → i < 64 → o < 64 → itemAt l i .kind ≡ 2 → opensName (itemAt l i .process) (itemAt l i .name) (itemAt l o) ≡ true → away (itemAt l i) ≡ false → away (itemAt l o) ≡ false
+  pub with-locks : (i o : ℕ) → i < 64 → o < 64 → itemAt l i .kind ≡ 2 → opensName (itemAt l i .process) (itemAt l i .name) (itemAt l o) ≡ true
+      → away (itemAt l i) ≡ false → away (itemAt l o) ≡ false
 
 module _ (l : LockList) (away : Item → Bool) (turn : Item → Item) (t : Empties away turn) (h : Shape l) where
   abbrev after : LockList
@@ -53,18 +54,29 @@ module _ (l : LockList) (away : Item → Bool) (turn : Item → Item) (t : Empti
   gone-shape = record {
     users-long = h .users-long;
     items-long = length-map (l .items) turn ∙ h .items-long;
-    names-long = λ i m. ⊎-elim (λ (q : away (itemAt l i) ≡ true). rw (at-gone i m q) refl) (λ (q : away (itemAt l i) ≡ false). rw (at-kept i m q) (h .names-long i m)) (either (away (itemAt l i)));
+    names-long = λ i m. ⊎-elim (λ (q : away (itemAt l i) ≡ true). rw (at-gone i m q) refl)
+        (λ (q : away (itemAt l i) ≡ false). rw (at-kept i m q) (h .names-long i m)) (either (away (itemAt l i)));
   }
 
   module _ (kind : Kind) (s : List ℕ) (g : SoundLocks kind l s) (whole : Whole l away) where
     good-after : (i : ℕ) → i < 64 → away (itemAt l i) ≡ false → GoodOpen kind s l (itemAt l i) ⊎ GoodLock kind s l (itemAt l i)
         → GoodOpen kind s after (itemAt l i) ⊎ GoodLock kind s after (itemAt l i)
     good-after i m q c =
-        ⊎-elim (λ (o : GoodOpen kind s l (itemAt l i)). inl (record { kind-one = o .kind-one; mode-fits = o .mode-fits; number-zero = o .number-zero; there = o .there }))
+        ⊎-elim (λ (o : GoodOpen kind s l (itemAt l i)). inl (record {
+          kind-one = o .kind-one;
+          mode-fits = o .mode-fits;
+          number-zero = o .number-zero;
+          there = o .there;
+        }))
         (λ (o : GoodLock kind s l (itemAt l i)).
         let k = o .holder in
         let e = at-kept (k .place) (k .below) (whole .with-locks i (k .place) m (k .below) (o .kind-two) (k .opens) q) in
-        inr (record { kind-two = o .kind-two; mode-one = o .mode-one; holder = record { place = k .place; below = k .below; opens = rw e (k .opens); mode = rw e (k .mode) }; block = o .block })) c
+        inr (record {
+          kind-two = o .kind-two;
+          mode-one = o .mode-one;
+          holder = record { place = k .place; below = k .below; opens = rw e (k .opens); mode = rw e (k .mode) };
+          block = o .block;
+        })) c
 
     place-after : (i : ℕ) → i < 64 → Vacant after i ⊎ Used kind s after i
     place-after i m =
@@ -111,11 +123,17 @@ module _ (l : LockList) (away : Item → Bool) (turn : Item → Item) (t : Empti
         let b : count (isKindByAt l 2 p) 64 ≤ l .locklimit = leb-true _ _ (and-snd _ _ k) in
         let c = fewer-kind 1 p (λ (z : 1 ≡ 0). absurd (omega arith)) in
         let d = fewer-kind 2 p (λ (z : 2 ≡ 0). absurd (omega arith)) in
-        and-both _ _ (le-leb (count (isKindByAt after 1 p) 64) (l .openlimit) (omega arith)) (le-leb (count (isKindByAt after 2 p) 64) (l .locklimit) (omega arith))
+        and-both _ _ (le-leb (count (isKindByAt after 1 p) 64) (l .openlimit) (omega arith))
+        (le-leb (count (isKindByAt after 2 p) 64) (l .locklimit) (omega arith))
 
     pub gone-sound : SoundLocks kind after s
     gone-sound = record {
-      limits = record { capacity-good = g .limits .capacity-good; open-good = g .limits .open-good; lock-good = g .limits .lock-good; users-good = g .limits .users-good };
+      limits = record {
+        capacity-good = g .limits .capacity-good;
+        open-good = g .limits .open-good;
+        lock-good = g .limits .lock-good;
+        users-good = g .limits .users-good;
+      };
       place = place-after;
       apart = apart-after;
       keeps = keeps-after;
@@ -147,13 +165,15 @@ close-whole l p f = record {
       let z₁ = and-snd _ _ z in
       let b : itemAt l o .process ≡ p = eqb-true _ _ (and-fst _ _ z₁) in
       let nz : eqb (itemAt l i .kind) 0 ≡ false = ne-eqb _ _ (λ (y : itemAt l i .kind ≡ 0). absurd (omega arith)) in
-      and-both _ _ (not-of-false _ nz) (and-both _ _ (eq-eqb (itemAt l i .process) p (sym (w .by) ∙ b)) (name-then _ _ _ (name-sym _ _ (w .named)) (and-snd _ _ z₁)))) q;
+      and-both _ _ (not-of-false _ nz) (and-both _ _ (eq-eqb (itemAt l i .process) p (sym (w .by) ∙ b))
+      (name-then _ _ _ (name-sym _ _ (w .named)) (and-snd _ _ z₁)))) q;
 }
 
 pub unlock-whole : (l : LockList) (p : ℕ) (f : File) (r n : ℕ) → Whole l (isInRun p f r n)
 unfolding isInRun
 unlock-whole l p f r n = record {
-  with-locks = λ i o m k two a q. and-left _ _ (ne-eqb _ _ (λ (y : itemAt l o .kind ≡ 2). let w = open-is _ _ (itemAt l o) a .kind-one in absurd (omega arith)));
+  with-locks = λ i o m k two a q. and-left _ _ (ne-eqb _ _ (λ (y : itemAt l o .kind ≡ 2). let w = open-is _ _ (itemAt l o) a .kind-one in
+      absurd (omega arith)));
 }
 
 pub end-whole : (l : LockList) (p : ℕ) → Whole l (byProcess p)

@@ -69,28 +69,34 @@ module _ (kind : Kind) (p c : ℕ) (b : Buffers) (ok : Passed kind p c b) where
   unfolding callerFile newFile fileFrom
   new-is = refl
 
-  new-none : MayRename kind p b → (d : ℕ) → d < entries kind → isEmpty (b .image) d ≡ false → fileAt (b .image) d ≡ record { user = fileBy p b .user; name = new .name } → ⊥
+  new-none : MayRename kind p b → (d : ℕ) → d < entries kind → isEmpty (b .image) d ≡ false
+      → fileAt (b .image) d ≡ record { user = fileBy p b .user; name = new .name } → ⊥
   new-none w d l u e =
       let k = image-of .files .begun d l u in
       none-there kind (b .image) new 0 (w .gone-new) (k .0) (k .1)
       (record { used = k .2 .used; file = k .2 .file ∙ e ∙ new-is; extent = k .2 .extent })
 
   pub renamed-of : MayRename kind p b → SoundImage kind highest (renamed kind (fileBy p b) (new .name) (b .image))
-  renamed-of w = renamed-sound kind (b .image) (fileBy p b) (new .name) image-of (caller-long p (listOf b) (b .fcb)) (new-long p (listOf b) (b .fcb)) new-low (new-legal w) (new-none w)
+  renamed-of w = renamed-sound kind (b .image) (fileBy p b) (new .name) image-of (caller-long p (listOf b) (b .fcb)) (new-long p (listOf b) (b .fcb)) new-low
+      (new-legal w) (new-none w)
 
   pub renamed-touch : MayRename kind p b → Touches kind (b .image) (renamed kind (fileBy p b) (new .name) (b .image)) (fileBy p b) new
   renamed-touch w =
       subst (λ (h : File). Touches kind (b .image) (renamed kind (fileBy p b) (new .name) (b .image)) (fileBy p b) h) new-is
-      (renamed-touches kind (b .image) (fileBy p b) (new .name) image-of (caller-long p (listOf b) (b .fcb)) (new-long p (listOf b) (b .fcb)) new-low (new-legal w) (new-none w))
+      (renamed-touches kind (b .image) (fileBy p b) (new .name) image-of (caller-long p (listOf b) (b .fcb)) (new-long p (listOf b) (b .fcb)) new-low
+      (new-legal w) (new-none w))
 
-  pub renamed-file : MayRename kind p b → (e : ℕ) → e < entries kind → isOf (b .image) (fileBy p b) e ≡ true → fileAt (renamed kind (fileBy p b) (new .name) (b .image)) e ≡ new
+  pub renamed-file : MayRename kind p b → (e : ℕ) → e < entries kind → isOf (b .image) (fileBy p b) e ≡ true
+      → fileAt (renamed kind (fileBy p b) (new .name) (b .image)) e ≡ new
   renamed-file w e l h =
-      renamed-new kind (b .image) (fileBy p b) (new .name) image-of (caller-long p (listOf b) (b .fcb)) (new-long p (listOf b) (b .fcb)) new-low (new-legal w) (new-none w) e l h
+      renamed-new kind (b .image) (fileBy p b) (new .name) image-of (caller-long p (listOf b) (b .fcb)) (new-long p (listOf b) (b .fcb)) new-low (new-legal w)
+      (new-none w) e l h
       ∙ new-is
 
   -- 34, 40, 41
   pub written-of : MayWrite kind p b → (zeros : Bool) (v : List ℕ) → 128 ≤ length v
-      → Old kind (b .image) (imageWritten kind zeros p b v) (fileBy p b) (recordOf (b .fcb)) ⊎ New kind (b .image) (imageWritten kind zeros p b v) (fileBy p b) (recordOf (b .fcb))
+      → Old kind (b .image) (imageWritten kind zeros p b v) (fileBy p b) (recordOf (b .fcb))
+      ⊎ New kind (b .image) (imageWritten kind zeros p b v) (fileBy p b) (recordOf (b .fcb))
   written-of w zeros v full =
       written-step kind zeros (b .image) (fileBy p b) (recordOf (b .fcb)) v image-of (caller-long p (listOf b) (b .fcb)) (let k = w .fits in omega arith)
       (own-there kind (b .image) p c b ok shape-of list-of (w .is-open)) full (w .entry-room) (w .block-room)

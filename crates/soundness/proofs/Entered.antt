@@ -185,7 +185,8 @@ module _ (kind : Kind) (s : List ℕ) (f : File) (x : ℕ) (g : SoundImage kind 
   ext-zeros : (k : ℕ) → k < 16 → byte fresh (16 + k) ≡ 0
   unfolding newEntry tab
   ext-zeros k l =
-      getD-append-add (f .user ∷ (tab (byteFrom s (nameAt (entryOf kind s f 0))) 11 ++ (x % 32 ∷ 0 ∷ x / 32 ∷ 0 ∷ []))) (replicate 16 0) k 0 ∙ getD-replicate 16 k 0 0 l
+      getD-append-add (f .user ∷ (tab (byteFrom s (nameAt (entryOf kind s f 0))) 11 ++ (x % 32 ∷ 0 ∷ x / 32 ∷ 0 ∷ []))) (replicate 16 0) k 0
+      ∙ getD-replicate 16 k 0 0 l
 
   ext-long : length fresh ≡ 32
   unfolding newEntry tab

@@ -25,8 +25,18 @@ module _ (kind : Kind) (s t : List ℕ) (l : LockList) (g : SoundLocks kind l s)
           below = v .below;
           plain = v .plain;
           good = ⊎-elim
-              (λ (o : GoodOpen kind s l (itemAt l i)). inl (record { kind-one = o .kind-one; mode-fits = o .mode-fits; number-zero = o .number-zero; there = files i m o }))
-              (λ (o : GoodLock kind s l (itemAt l i)). inr (record { kind-two = o .kind-two; mode-one = o .mode-one; holder = o .holder; block = blocks i m o })) (v .good);
+              (λ (o : GoodOpen kind s l (itemAt l i)). inl (record {
+                kind-one = o .kind-one;
+                mode-fits = o .mode-fits;
+                number-zero = o .number-zero;
+                there = files i m o;
+              }))
+              (λ (o : GoodLock kind s l (itemAt l i)). inr (record {
+                kind-two = o .kind-two;
+                mode-one = o .mode-one;
+                holder = o .holder;
+                block = blocks i m o;
+              })) (v .good);
         })) (g .place i m);
     apart = g .apart;
     keeps = g .keeps;
@@ -38,7 +48,8 @@ module _ (kind : Kind) (s t : List ℕ) (l : LockList) (h : Shape l) (a : SoundI
   there-so : (i : ℕ) → i < 64 → (e : ℕ) → e < entries kind → Is t (fileOf l (itemAt l i)) 0 e → entryOf kind t (fileOf l (itemAt l i)) 0 < entries kind
   there-so i m e k w = found-below kind t (fileOf l (itemAt l i)) 0 e k w
 
-  block-so : (i : ℕ) → i < 64 → (b : ℕ) → At kind t (fileOf l (itemAt l i)) (itemAt l i .number) b → blockOf kind t (fileOf l (itemAt l i)) (itemAt l i .number) ≡ 0 → ⊥
+  block-so : (i : ℕ) → i < 64 → (b : ℕ) → At kind t (fileOf l (itemAt l i)) (itemAt l i .number) b
+      → blockOf kind t (fileOf l (itemAt l i)) (itemAt l i .number) ≡ 0 → ⊥
   block-so i m b w z = w .some (sym (of-at kind t (fileOf l (itemAt l i)) (itemAt l i .number) b (h .names-long i m) a w) ∙ z)
 
   pub follow-grown : Grown kind s t → SoundLocks kind l t
@@ -52,5 +63,7 @@ module _ (kind : Kind) (s t : List ℕ) (l : LockList) (h : Shape l) (a : SoundI
       → ((i : ℕ) → i < 64 → GoodOpen kind s l (itemAt l i) ⊎ GoodLock kind s l (itemAt l i) → fileOf l (itemAt l i) ≡ f → ⊥) → SoundLocks kind l t
   follow-touched f k w n =
       follow kind s t l g
-      (λ i m o. there-so i m _ (o .there) (is-forth kind s t f k _ w (n i m (inl o)) 0 _ (o .there) (found-is kind s (fileOf l (itemAt l i)) 0 (h .names-long i m) (o .there))))
-      (λ i m o. block-so i m _ (at-forth kind s t f k _ w (n i m (inr o)) _ _ (at-of kind s (fileOf l (itemAt l i)) (itemAt l i .number) (h .names-long i m) (o .block))))
+      (λ i m o. there-so i m _ (o .there) (is-forth kind s t f k _ w (n i m (inl o)) 0 _ (o .there)
+      (found-is kind s (fileOf l (itemAt l i)) 0 (h .names-long i m) (o .there))))
+      (λ i m o. block-so i m _ (at-forth kind s t f k _ w (n i m (inr o)) _ _
+      (at-of kind s (fileOf l (itemAt l i)) (itemAt l i .number) (h .names-long i m) (o .block))))

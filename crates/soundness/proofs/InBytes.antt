@@ -1,17 +1,17 @@
 -- A call leaves bytes where it was lent bytes: in the DMA, in the list and in the image. Assumes nothing.
 use Prim.Native.Nat.{ℕ, _+_, _*_, _/_, _%_, _≤_, _<_}
-use mathlib.Core.Path.{_≡_, refl, ap, _∙_}
+use mathlib.Core.Path.{_≡_, refl}
 use mathlib.Core.Bool.{Bool, true, false}
-use mathlib.Core.List.{List, [], _∷_, _++_}
+use mathlib.Core.List.{List}
 use mathlib.Core.Logic.{_⊎_, ⊎-elim}
 use native.Mathlib.Omega.{arith}
-use lib.ListN.{length, take, replicate}
+use lib.ListN.{take, replicate}
 use lib.Dec.{eqb}
 use borrow.Author.Tests.{eqb-true, leb-true, ltb-true}
 use Rattle.words.specs.Tests.{_if_else_}
 use Rattle.words.specs.Tables.{firstOf, anyRow}
 use Rattle.words.specs.Lists.{tab}
-use Rattle.words.specs.Bytes.{byte, byteFrom, lowFrom, part, le, areBytes}
+use Rattle.words.specs.Bytes.{byte, byteFrom, lowFrom, le, areBytes}
 use Rattle.words.proofs.Tests.{either, all-at, and-fst, and-snd}
 use Rattle.words.proofs.Lists.{tab-at}
 use Rattle.words.proofs.AreBytes.{bytes-cons, bytes-append, bytes-take, bytes-part, bytes-put, bytes-set, byte-small, bytes-replicate, bytes-tab, bytes-flat, bytes-le, bytes-turns}
@@ -32,9 +32,9 @@ use Rattle.rules.specs.Effects.{madeEntry, made, erasedAt, erased, lowChanged, 
 use Rattle.rules.specs.Call.{Asked, asked, effectOf, rowsCall, call}
 use Rattle.rules.proofs.Tables.{accepted}
 use Rattle.rules.proofs.SoundList.{Shape, GoodOpen, GoodLock, Used, Vacant, SoundLocks, isPlain}
-use Rattle.soundness.proofs.Kept.{SoundShape, opened-shape, made-shape, closed-shape, unlocked-shape, ended-shape, locked-shape}
-use Rattle.soundness.proofs.Leaves.{Leaf, listOf, fileBy, newBy, imageWritten, refused, reopened, newlyOpened, newlyMade, nowClosed, nowErased, nowRenamed, nowRead, nowWritten, nowRewritten, nowLocked, lockIdle, nowUnlocked, unlockIdle, nowTold, nowEnded}
-use Rattle.soundness.proofs.Walk.{walk}
+use Rattle.soundness.proofs.Shapes.{SoundShape, emptied-shape, locked-shape}
+use Rattle.soundness.proofs.Leaves.{listOf, fileBy, newBy}
+use Rattle.soundness.proofs.Left.{ListLeft, ImageLeft, list-same, one-set, run-set, emptied, image-same, entry-made, record-stored, file-erased, file-renamed, left}
 
 bytes-if : (t : Bool) (a b : List ℕ) → areBytes a ≡ true → areBytes b ≡ true → areBytes (a if t else b) ≡ true
 unfolding _if_else_
@@ -47,14 +47,14 @@ from-start s k h = let z : 0 + k ≡ k = omega arith in rw z h
 -- ---- what a call puts into the image
 
 -- a file that a call names: its user comes from the list, its name is low
-record Named (f : File) : Type 0 where
+record Sayable (f : File) : Type 0 where
   user-small : f .user < 256
   name-low : (k : ℕ) → k < 11 → byte (f .name) k < 128
   name-bytes : areBytes (f .name) ≡ true
 
-named : (u : ℕ) (s : List ℕ) (at : ℕ) → u < 256 → Named (fileFrom u s at)
+said : (u : ℕ) (s : List ℕ) (at : ℕ) → u < 256 → Sayable (fileFrom u s at)
 unfolding fileFrom
-named u s at h = record {
+said u s at h = record {
   user-small = h;
   name-low = λ k m. rw (tab-at (lowFrom s at) 11 k 0 m) (omega arith);
   name-bytes = bytes-tab (lowFrom s at) 11 (λ k m. omega arith);
@@ -64,15 +64,16 @@ user-small : (list : List ℕ) (p : ℕ) → areBytes list ≡ true → userOf (
 unfolding unpack
 user-small list p h = byte-small (tab (byteFrom list 3) 16) p (bytes-tab (byteFrom list 3) 16 (λ k m. byte-small list (3 + k) h))
 
-made-bytes : (e : ℕ) (f : File) (s : List ℕ) → Named f → areBytes s ≡ true → areBytes (made e f s) ≡ true
+made-bytes : (e : ℕ) (f : File) (s : List ℕ) → Sayable f → areBytes s ≡ true → areBytes (made e f s) ≡ true
 unfolding made madeEntry
-made-bytes e f s w h = bytes-put (32 * e) _ s (bytes-cons (f .user) _ (w .user-small) (bytes-append (f .name) (replicate 20 0) (w .name-bytes) (bytes-replicate 20 0 (omega arith)))) h
+made-bytes e f s w h = bytes-put (32 * e) _ s (bytes-cons (f .user) _ (w .user-small)
+    (bytes-append (f .name) (replicate 20 0) (w .name-bytes) (bytes-replicate 20 0 (omega arith)))) h
 
 erased-bytes : (kind : Kind) (f : File) (s : List ℕ) → areBytes s ≡ true → areBytes (erased kind f s) ≡ true
 unfolding erased erasedAt
 erased-bytes kind f s h = bytes-turns (erasedAt f) (entries kind) s (λ e t k. bytes-if _ _ _ (bytes-set t (32 * e) 0xE5 (omega arith) k) k) h
 
-renamed-bytes : (kind : Kind) (f h : File) (s : List ℕ) → Named h → areBytes s ≡ true → areBytes (renamed kind f (h .name) s) ≡ true
+renamed-bytes : (kind : Kind) (f h : File) (s : List ℕ) → Sayable h → areBytes s ≡ true → areBytes (renamed kind f (h .name) s) ≡ true
 unfolding renamed renamedAt lowChanged
 renamed-bytes kind f h s w g =
     bytes-turns (renamedAt f (h .name)) (entries kind) s
@@ -81,11 +82,12 @@ renamed-bytes kind f h s w g =
     low : (e : ℕ) (t : List ℕ) → areBytes t ≡ true → (j : ℕ) → j < 11 → byte t (nameAt e + j) / 128 * 128 + byte (h .name) j < 256
     low e t k j m = let a = byte-small t (nameAt e + j) k in let b = w .name-low j m in omega arith
 
-module _ (kind : Kind) (w : Spot) (f : File) (r : ℕ) (named : Named f) (fits : r ≤ 262143) where
+module _ (kind : Kind) (w : Spot) (f : File) (r : ℕ) (named : Sayable f) (fits : r ≤ 262143) where
   entered-bytes : (e₀ : ℕ) (s : List ℕ) → areBytes s ≡ true → areBytes (entered w e₀ f r s) ≡ true
   unfolding entered newEntry
   entered-bytes e₀ s h =
-      let ends = bytes-cons (r / 128 % 32) _ (omega arith) (bytes-cons 0 _ (omega arith) (bytes-cons (r / 128 / 32) (replicate 17 0) (omega arith) (bytes-replicate 17 0 (omega arith)))) in
+      let ends = bytes-cons (r / 128 % 32) _ (omega arith) (bytes-cons 0 _ (omega arith)
+      (bytes-cons (r / 128 / 32) (replicate 17 0) (omega arith) (bytes-replicate 17 0 (omega arith)))) in
       let name = bytes-tab (byteFrom s (nameAt e₀)) 11 (λ k m. byte-small s (nameAt e₀ + k) h) in
       bytes-if (w .fresh) _ s (bytes-put (32 * w .entry) _ s (bytes-cons (f .user) _ (named .user-small) (bytes-append _ _ name ends)) h) h
 
@@ -133,7 +135,8 @@ module _ (kind : Kind) (l : LockList) (s : List ℕ) (g : SoundLocks kind l s) (
   used-small i w =
       let p : itemAt l i .process ≤ 15 = leb-true _ _ (and-fst _ _ (w .plain)) in
       let low = and-fst _ _ (and-snd _ _ (and-snd _ _ (w .plain))) in
-      let m : itemAt l i .mode ≤ 2 = ⊎-elim (λ (x : GoodOpen kind s l (itemAt l i)). x .mode-fits) (λ (x : GoodLock kind s l (itemAt l i)). let z = x .mode-one in omega arith) (w .good) in
+      let m : itemAt l i .mode ≤ 2 = ⊎-elim (λ (x : GoodOpen kind s l (itemAt l i)). x .mode-fits)
+      (λ (x : GoodLock kind s l (itemAt l i)). let z = x .mode-one in omega arith) (w .good) in
       record {
         process-small = omega arith;
         mode-small = omega arith;
@@ -142,7 +145,11 @@ module _ (kind : Kind) (l : LockList) (s : List ℕ) (g : SoundLocks kind l s) (
 
   mark-small : (k : ℕ) → (firstMark k < 256) × (secondMark k < 256)
   unfolding firstMark secondMark
-  mark-small k = (one-of _ 0x4F _ (omega arith) (one-of _ 0x4C 0 (omega arith) (omega arith)), one-of _ 0x46 _ (omega arith) (one-of _ 0x52 0 (omega arith) (omega arith)))
+  mark-small k = (
+    one-of _ 0x4F _ (omega arith) (one-of _ 0x4C 0 (omega arith) (omega arith)),
+    one-of _ 0x46 _ (omega arith)
+        (one-of _ 0x52 0 (omega arith) (omega arith)),
+  )
     where
       one-of : (t : Bool) (x y : ℕ) → x < 256 → y < 256 → (x if t else y) < 256
       one-of true x y a b = unfold _if_else_ in a
@@ -166,7 +173,8 @@ module _ (kind : Kind) (l : LockList) (s : List ℕ) (g : SoundLocks kind l s) (
       let k : l .locklimit ≤ 64 = leb-true _ _ (and-snd _ _ (g .limits .lock-good)) in
       bytes-cons (l .capacity) _ (omega arith) (bytes-cons (l .openlimit) _ (omega arith) (bytes-cons (l .locklimit) _ (omega arith)
       (bytes-append _ _
-      (bytes-tab (byteFrom (l .users) 0) 16 (λ j m. let u : byte (l .users) j ≤ 15 = leb-true _ _ (all-at (isUser (l .users)) 16 j (g .limits .users-good) m) in from-start (l .users) j (omega arith)))
+      (bytes-tab (byteFrom (l .users) 0) 16 (λ j m. let u : byte (l .users) j ≤ 15 = leb-true _ _ (all-at (isUser (l .users)) 16 j (g .limits .users-good) m) in
+      from-start (l .users) j (omega arith)))
       (bytes-flat packItem blank (l .items) (λ i m. item-bytes (itemAt l i) (place-small i (let z = shape .items-long in omega arith)))))))
 
 -- ---- a call
@@ -181,50 +189,27 @@ module _ (kind : Kind) (n p c : ℕ) (b : Buffers) (w : InBytes b) where
   packed : (l : LockList) (s : List ℕ) → SoundShape kind l s → areBytes (pack l) ≡ true
   packed l s h = pack-bytes kind l s (h .sound) (h .shape)
 
-  caller : Named (fileBy p b)
+  caller : Sayable (fileBy p b)
   unfolding callerFile
-  caller = named (userOf (listOf b) p) (b .fcb) 1 (user-small (b .list) p (w .list-bytes))
+  caller = said (userOf (listOf b) p) (b .fcb) 1 (user-small (b .list) p (w .list-bytes))
 
-  newly : Named (newBy p b)
+  newly : Sayable (newBy p b)
   unfolding newFile
-  newly = named (userOf (listOf b) p) (b .fcb) 17 (user-small (b .list) p (w .list-bytes))
+  newly = said (userOf (listOf b) p) (b .fcb) 17 (user-small (b .list) p (w .list-bytes))
 
-  list-left : (o : Outcome) → Leaf kind n p c b o → areBytes (o .left .list) ≡ true
-  list-left o (refused code z) = w .list-bytes
-  list-left o (reopened k ok m fcb) = w .list-bytes
-  list-left o (newlyOpened k ok m fcb) = packed _ (b .image) (opened-shape kind p c b ok m)
-  list-left o (newlyMade k ok m fcb) = packed _ _ (made-shape kind p c b ok m)
-  list-left o (nowClosed k ok m) = packed _ (b .image) (closed-shape kind p c b ok)
-  list-left o (nowErased k ok m) = w .list-bytes
-  list-left o (nowRenamed k ok m) = w .list-bytes
-  list-left o (nowRead k ok dma) = w .list-bytes
-  list-left o (nowWritten k ok m zeros) = w .list-bytes
-  list-left o (nowRewritten k ok m some v full from) = w .list-bytes
-  list-left o (nowLocked k ok m) = packed _ (b .image) (locked-shape kind p c b ok m)
-  list-left o (lockIdle k ok m) = w .list-bytes
-  list-left o (nowUnlocked k ok m) = packed _ (b .image) (unlocked-shape kind p c b ok)
-  list-left o (unlockIdle k ok m) = w .list-bytes
-  list-left o (nowTold k ok dma) = w .list-bytes
-  list-left o (nowEnded k ok) = packed _ (b .image) (ended-shape kind p c b ok)
+  list-left : (t list : List ℕ) → ListLeft kind p c b t list → areBytes list ≡ true
+  list-left t list (list-same u) = w .list-bytes
+  list-left t list (one-set ok u mode room h) = packed _ u h
+  list-left t list (run-set ok m) = packed _ (b .image) (locked-shape kind p c b ok m)
+  list-left t list (emptied ok away turn e m own) = packed _ (b .image) (emptied-shape kind p c b ok away turn e m)
 
-  image-left : (o : Outcome) → Leaf kind n p c b o → areBytes (o .left .image) ≡ true
-  image-left o (refused code z) = w .image-bytes
-  image-left o (reopened k ok m fcb) = w .image-bytes
-  image-left o (newlyOpened k ok m fcb) = w .image-bytes
-  image-left o (newlyMade k ok m fcb) = made-bytes _ (fileBy p b) (b .image) caller (w .image-bytes)
-  image-left o (nowClosed k ok m) = w .image-bytes
-  image-left o (nowErased k ok m) = erased-bytes kind (fileBy p b) (b .image) (w .image-bytes)
-  image-left o (nowRenamed k ok m) = renamed-bytes kind (fileBy p b) (newBy p b) (b .image) newly (w .image-bytes)
-  image-left o (nowRead k ok dma) = w .image-bytes
-  image-left o (nowWritten k ok m zeros) = written-bytes kind _ (fileBy p b) (recordOf (b .fcb)) caller (m .fits) zeros _ (b .dma) (b .image) (w .dma-bytes) (w .image-bytes)
-  image-left o (nowRewritten k ok m some v full from) =
-      written-bytes kind _ (fileBy p b) (recordOf (b .fcb)) caller (m .fits) false _ v (b .image) (rw from (bytes-part 128 128 (b .dma) (w .dma-bytes))) (w .image-bytes)
-  image-left o (nowLocked k ok m) = w .image-bytes
-  image-left o (lockIdle k ok m) = w .image-bytes
-  image-left o (nowUnlocked k ok m) = w .image-bytes
-  image-left o (unlockIdle k ok m) = w .image-bytes
-  image-left o (nowTold k ok dma) = w .image-bytes
-  image-left o (nowEnded k ok) = w .image-bytes
+  image-left : (t : List ℕ) → ImageLeft kind p c b t → areBytes t ≡ true
+  image-left t image-same = w .image-bytes
+  image-left t (entry-made ok m) = made-bytes _ (fileBy p b) (b .image) caller (w .image-bytes)
+  image-left t (record-stored ok m zeros v full bytes) =
+      written-bytes kind _ (fileBy p b) (recordOf (b .fcb)) caller (m .fits) zeros _ v (b .image) (bytes (w .dma-bytes)) (w .image-bytes)
+  image-left t (file-erased ok m) = erased-bytes kind (fileBy p b) (b .image) (w .image-bytes)
+  image-left t (file-renamed ok m) = renamed-bytes kind (fileBy p b) (newBy p b) (b .image) newly (w .image-bytes)
 
   -- only 33 and 46 change the DMA
   dma-if : (t : Bool) (x y : Outcome) → x .left .dma ≡ b .dma → y .left .dma ≡ b .dma → areBytes ((x if t else y) .left .dma) ≡ true
@@ -238,7 +223,8 @@ module _ (kind : Kind) (n p c : ℕ) (b : Buffers) (w : InBytes b) where
   dma-done (Call Delete) a = w .dma-bytes
   dma-done (Call Make) a = w .dma-bytes
   dma-done (Call Rename) a = w .dma-bytes
-  dma-done (Call Read) a = bytes-put 0 _ (b .dma) (bytes-part (recordAt (a .kind) (blockIn (a .kind) (b .image) (a .entry) (a .recordNumber)) (a .recordNumber)) 128 (b .image) (w .image-bytes)) (w .dma-bytes)
+  dma-done (Call Read) a = bytes-put 0 _ (b .dma) (bytes-part
+      (recordAt (a .kind) (blockIn (a .kind) (b .image) (a .entry) (a .recordNumber)) (a .recordNumber)) 128 (b .image) (w .image-bytes)) (w .dma-bytes)
   dma-done (Call Write) a = w .dma-bytes
   dma-done (Call WriteZeros) a = w .dma-bytes
   dma-done (Call TestWrite) a = w .dma-bytes
@@ -259,4 +245,4 @@ module _ (kind : Kind) (n p c : ℕ) (b : Buffers) (w : InBytes b) where
       refused-so = Rattle.rules.proofs.Tables.refused kind n p c b
 
   pub call-bytes : InBytes (call kind n p c b .left)
-  call-bytes = let z = walk kind n p c b in record { dma-bytes = dma-left; list-bytes = list-left _ z; image-bytes = image-left _ z }
+  call-bytes = let z = left kind n p c b in record { dma-bytes = dma-left; list-bytes = list-left _ _ (z .list); image-bytes = image-left _ (z .image) }

@@ -75,7 +75,8 @@ pub record MayWrite (kind : Kind) (p : ℕ) (b : Buffers) : Type 0 where
   pub is-open : openBy p b < 64
   pub fits : recordOf (b .fcb) ≤ 262143
   pub unlocked-by-others : lockedByOther (listOf b) p (fileBy p b) (recordOf (b .fcb)) ≡ false
-  pub entry-room : (leb (entries kind) (entryOf kind (b .image) (fileBy p b) (recordOf (b .fcb) / 128)) and leb (entries kind) (freeEntry kind (b .image))) ≡ false
+  pub entry-room : (leb (entries kind) (entryOf kind (b .image) (fileBy p b) (recordOf (b .fcb) / 128)) and leb (entries kind)
+      (freeEntry kind (b .image))) ≡ false
   pub block-room : (eqb (blockIn kind (b .image) (entryOf kind (b .image) (fileBy p b) (recordOf (b .fcb) / 128)) (recordOf (b .fcb))) 0
       and leb (blocks kind (b .image)) (freeBlock kind (b .image))) ≡ false
 
@@ -111,18 +112,22 @@ pub data Leaf (kind : Kind) (n p c : ℕ) (b : Buffers) : Outcome → Type 0 whe
   newlyOpened : chosen n ≡ Call Open → Passed kind p c b → MayOpen kind p b → (fcb : List ℕ)
       → Leaf kind n p c b (accept (buffers fcb (b .dma) (pack (opened p (fileBy p b) (openMode (b .fcb)) (listOf b))) (b .image)))
   newlyMade : chosen n ≡ Call Make → Passed kind p c b → MayMake kind p b → (fcb : List ℕ)
-      → Leaf kind n p c b (accept (buffers fcb (b .dma) (pack (opened p (fileBy p b) (makeMode (b .fcb)) (listOf b))) (made (freeEntry kind (b .image)) (fileBy p b) (b .image))))
+      → Leaf kind n p c b (accept (buffers fcb (b .dma) (pack (opened p (fileBy p b) (makeMode (b .fcb)) (listOf b)))
+      (made (freeEntry kind (b .image)) (fileBy p b) (b .image))))
   nowClosed : chosen n ≡ Call Close → Passed kind p c b → openBy p b < 64 → Leaf kind n p c b (accept (withList b (pack (closed p (fileBy p b) (listOf b)))))
   nowErased : chosen n ≡ Call Delete → Passed kind p c b → MayDelete kind p b → Leaf kind n p c b (accept (withImage b (erased kind (fileBy p b) (b .image))))
-  nowRenamed : chosen n ≡ Call Rename → Passed kind p c b → MayRename kind p b → Leaf kind n p c b (accept (withImage b (renamed kind (fileBy p b) (newBy p b .name) (b .image))))
+  nowRenamed : chosen n ≡ Call Rename → Passed kind p c b → MayRename kind p b
+      → Leaf kind n p c b (accept (withImage b (renamed kind (fileBy p b) (newBy p b .name) (b .image))))
   nowRead : chosen n ≡ Call Read → Passed kind p c b → (dma : List ℕ) → Leaf kind n p c b (accept (withDma b dma))
   nowWritten : (chosen n ≡ Call Write) ⊎ (chosen n ≡ Call WriteZeros) → Passed kind p c b → MayWrite kind p b → (zeros : Bool)
       → Leaf kind n p c b (accept (withImage b (imageWritten kind zeros p b (b .dma))))
   nowRewritten : chosen n ≡ Call TestWrite → Passed kind p c b → MayWrite kind p b → (blockOf kind (b .image) (fileBy p b) (recordOf (b .fcb)) ≡ 0 → ⊥)
       → (v : List ℕ) → 128 ≤ length v → v ≡ part 128 128 (b .dma) → Leaf kind n p c b (accept (withImage b (imageWritten kind false p b v)))
-  nowLocked : chosen n ≡ Call Lock → Passed kind p c b → MayLock kind p c b → Leaf kind n p c b (accept (withList b (pack (lockedRun p (fileBy p b) (recordOf (b .fcb)) c (listOf b)))))
+  nowLocked : chosen n ≡ Call Lock → Passed kind p c b → MayLock kind p c b
+      → Leaf kind n p c b (accept (withList b (pack (lockedRun p (fileBy p b) (recordOf (b .fcb)) c (listOf b)))))
   lockIdle : chosen n ≡ Call Lock → Passed kind p c b → Idle p b → Leaf kind n p c b (accept b)
-  nowUnlocked : chosen n ≡ Call Unlock → Passed kind p c b → MayUnlock p b → Leaf kind n p c b (accept (withList b (pack (unlockedRun p (fileBy p b) (recordOf (b .fcb)) c (listOf b)))))
+  nowUnlocked : chosen n ≡ Call Unlock → Passed kind p c b → MayUnlock p b
+      → Leaf kind n p c b (accept (withList b (pack (unlockedRun p (fileBy p b) (recordOf (b .fcb)) c (listOf b)))))
   unlockIdle : chosen n ≡ Call Unlock → Passed kind p c b → Idle p b → Leaf kind n p c b (accept b)
   nowTold : chosen n ≡ Call FreeSpace → Passed kind p c b → (dma : List ℕ) → Leaf kind n p c b (accept (withDma b dma))
   nowEnded : chosen n ≡ Call Terminate → Passed kind p c b → Leaf kind n p c b (accept (withList b (pack (terminated p (listOf b)))))

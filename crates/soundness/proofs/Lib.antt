@@ -18,5 +18,7 @@ pub mod Held
 pub mod Run
 pub mod Taken
 pub mod Ends
+pub mod Shapes
+pub mod Left
 pub mod Kept
 pub mod InBytes

@@ -67,7 +67,8 @@ module _ (kind : Kind) (p : ℕ) (b : Buffers) where
       }
 
   pub has-room : anyRow (rowsRoom kind (s p b) e (r p b)) ≡ false
-      → ((leb (entries kind) e and leb (entries kind) (freeEntry kind (s p b))) ≡ false) × ((eqb (blockIn kind (s p b) e (r p b)) 0 and leb (blocks kind (s p b)) (freeBlock kind (s p b))) ≡ false)
+      → ((leb (entries kind) e and leb (entries kind) (freeEntry kind (s p b))) ≡ false)
+      × ((eqb (blockIn kind (s p b) e (r p b)) 0 and leb (blocks kind (s p b)) (freeBlock kind (s p b))) ≡ false)
   unfolding rowsRoom anyRow
   has-room h = (or-fst _ _ h, or-fst _ _ (or-snd _ _ h))
 

@@ -90,7 +90,12 @@ module _ (kind : Kind) (s : List ℕ) (l : LockList) (j : ℕ) (it : Item) (h : 
   good-after : (x : Item) → GoodOpen kind s l x ⊎ GoodLock kind s l x → GoodOpen kind s after x ⊎ GoodLock kind s after x
   good-after x c =
       ⊎-elim (λ (o : GoodOpen kind s l x). inl (record { kind-one = o .kind-one; mode-fits = o .mode-fits; number-zero = o .number-zero; there = o .there }))
-      (λ (o : GoodLock kind s l x). inr (record { kind-two = o .kind-two; mode-one = o .mode-one; holder = holder-set l j it h inside (r .empty) (x .process) (x .name) (o .holder); block = o .block })) c
+      (λ (o : GoodLock kind s l x). inr (record {
+        kind-two = o .kind-two;
+        mode-one = o .mode-one;
+        holder = holder-set l j it h inside (r .empty) (x .process) (x .name) (o .holder);
+        block = o .block;
+      })) c
 
   place-after : (i : ℕ) → i < 64 → Vacant after i ⊎ Used kind s after i
   place-after i m =
@@ -135,15 +140,24 @@ module _ (kind : Kind) (s : List ℕ) (l : LockList) (j : ℕ) (it : Item) (h : 
       let k = g .keeps p m in
       and-both _ _
       (⊎-elim
-      (λ (q : isKindBy 1 p it ≡ true). rw (kind-more l j it h inside (r .empty) 1 p (λ (z : 1 ≡ 0). absurd (omega arith)) q) (le-leb (count (isKindByAt l 1 p) 64 + 1) (l .openlimit) (let u : count (isKindByAt l 1 p) 64 < l .openlimit = w .opens-fit p q in omega arith)))
-      (λ (q : isKindBy 1 p it ≡ false). rw (kind-count l j it h inside (r .empty) 1 p (λ (z : 1 ≡ 0). absurd (omega arith)) q) (and-fst _ _ k)) (either (isKindBy 1 p it)))
+      (λ (q : isKindBy 1 p it ≡ true). rw (kind-more l j it h inside (r .empty) 1 p (λ (z : 1 ≡ 0). absurd (omega arith)) q)
+      (le-leb (count (isKindByAt l 1 p) 64 + 1) (l .openlimit) (let u : count (isKindByAt l 1 p) 64 < l .openlimit = w .opens-fit p q in omega arith)))
+      (λ (q : isKindBy 1 p it ≡ false). rw (kind-count l j it h inside (r .empty) 1 p (λ (z : 1 ≡ 0). absurd (omega arith)) q) (and-fst _ _ k))
+      (either (isKindBy 1 p it)))
       (⊎-elim
-      (λ (q : isKindBy 2 p it ≡ true). rw (kind-more l j it h inside (r .empty) 2 p (λ (z : 2 ≡ 0). absurd (omega arith)) q) (le-leb (count (isKindByAt l 2 p) 64 + 1) (l .locklimit) (let u : count (isKindByAt l 2 p) 64 < l .locklimit = w .locks-fit p q in omega arith)))
-      (λ (q : isKindBy 2 p it ≡ false). rw (kind-count l j it h inside (r .empty) 2 p (λ (z : 2 ≡ 0). absurd (omega arith)) q) (and-snd _ _ k)) (either (isKindBy 2 p it)))
+      (λ (q : isKindBy 2 p it ≡ true). rw (kind-more l j it h inside (r .empty) 2 p (λ (z : 2 ≡ 0). absurd (omega arith)) q)
+      (le-leb (count (isKindByAt l 2 p) 64 + 1) (l .locklimit) (let u : count (isKindByAt l 2 p) 64 < l .locklimit = w .locks-fit p q in omega arith)))
+      (λ (q : isKindBy 2 p it ≡ false). rw (kind-count l j it h inside (r .empty) 2 p (λ (z : 2 ≡ 0). absurd (omega arith)) q) (and-snd _ _ k))
+      (either (isKindBy 2 p it)))
 
   pub set-sound : SoundLocks kind after s
   set-sound = record {
-    limits = record { capacity-good = g .limits .capacity-good; open-good = g .limits .open-good; lock-good = g .limits .lock-good; users-good = g .limits .users-good };
+    limits = record {
+      capacity-good = g .limits .capacity-good;
+      open-good = g .limits .open-good;
+      lock-good = g .limits .lock-good;
+      users-good = g .limits .users-good;
+    };
     place = place-after;
     apart = apart-after;
     keeps = keeps-after;

@@ -53,13 +53,15 @@ module _ (kind : Kind) (name t : List ℕ) (e : ℕ) (below : e < entries kind) 
   fresh-around : (d : ℕ) → (d ≡ e → ⊥) → Same t d (fresh name t e) d
   fresh-around d n = record {
     at = λ k l. fresh-out (32 * d + k)
-        (⊎-elim (λ (c : ltb d e ≡ true). let m = ltb-true d e c in inl (omega arith)) (λ (c : ltb d e ≡ false). let m = ltb-false d e c in let w : (d ≡ e → ⊥) = n in inr (omega arith)) (either (ltb d e)));
+        (⊎-elim (λ (c : ltb d e ≡ true). let m = ltb-true d e c in inl (omega arith))
+        (λ (c : ltb d e ≡ false). let m = ltb-false d e c in let w : (d ≡ e → ⊥) = n in inr (omega arith)) (either (ltb d e)));
   }
 
 -- byte k of an entry stands in the name or not
 where? : (k : ℕ) → ((j : ℕ) × (j < 11) × (k ≡ 1 + j)) ⊎ ((k ≡ 0) ⊎ (12 ≤ k))
 where? zero = inr (inl refl)
-where? (suc j) = ⊎-elim (λ (c : ltb j 11 ≡ true). inl (j, ltb-true j 11 c, omega arith)) (λ (c : ltb j 11 ≡ false). let m = ltb-false j 11 c in inr (inr (omega arith))) (either (ltb j 11))
+where? (suc j) = ⊎-elim (λ (c : ltb j 11 ≡ true). inl (j, ltb-true j 11 c, omega arith))
+    (λ (c : ltb j 11 ≡ false). let m = ltb-false j 11 c in inr (inr (omega arith))) (either (ltb j 11))
 
 fresh-local : (kind : Kind) (name s t : List ℕ) (e : ℕ) → e < entries kind → 32 * entries kind + 32 ≤ length s → 32 * entries kind + 32 ≤ length t
     → Same s e t e → Same (fresh name s e) e (fresh name t e) e
@@ -70,7 +72,8 @@ fresh-local kind name s t e l a b h = record {
       (λ (q : (j : ℕ) × (j < 11) × (k ≡ 1 + j)).
       let j = q .0 in
       let z : 32 * e + k ≡ 32 * e + 1 + j = omega (arith, q .2) in
-      rw z (fresh-in kind name t e l b j (q .1) ∙ ap (λ (x : ℕ). x / 128 * 128 + byte name j) (name-byte s e t e (head-of s e t e h) j (q .1)) ∙ sym (fresh-in kind name s e l a j (q .1))))
+      rw z (fresh-in kind name t e l b j (q .1) ∙ ap (λ (x : ℕ). x / 128 * 128 + byte name j) (name-byte s e t e (head-of s e t e h) j (q .1))
+      ∙ sym (fresh-in kind name s e l a j (q .1))))
       (λ (q : (k ≡ 0) ⊎ (12 ≤ k)).
       let c : (32 * e + k ≤ 32 * e) ⊎ (32 * e + 12 ≤ 32 * e + k) = ⊎-elim (λ (y : k ≡ 0). inl (omega arith)) (λ (y : 12 ≤ k). inr (omega arith)) q in
       fresh-out kind name t e l b (32 * e + k) c ∙ h .at k m ∙ sym (fresh-out kind name s e l a (32 * e + k) c))
@@ -151,7 +154,8 @@ module _ (kind : Kind) (s : List ℕ) (f : File) (name : List ℕ) (g : SoundIma
     low-now e l h k m =
         let c = clear k m in
         let z : byte (renamed kind f name s) (32 * e + 1 + k) ≡ byte s (32 * e + 1 + k) / 128 * 128 + byte name k =
-        name-byte (fresh name s e) e (renamed kind f name s) e (head-of (fresh name s e) e (renamed kind f name s) e (given-anew e l h)) k m ∙ fresh-in kind name s e l w k m in
+        name-byte (fresh name s e) e (renamed kind f name s) e (head-of (fresh name s e) e (renamed kind f name s) e (given-anew e l h)) k m
+        ∙ fresh-in kind name s e l w k m in
         omega arith
 
     pub renamed-new : (e : ℕ) → e < entries kind → isOf s f e ≡ true → fileAt (renamed kind f name s) e ≡ record { user = f .user; name = name }

@@ -152,7 +152,8 @@ module _ (kind : Kind) (s : List ℕ) (l₀ : LockList) (p : ℕ) (f : File) (r 
           (λ (z : itemAt l i .process ≡ p). absurd (never (held-found l p f (r + k) i m z x) new))
           (λ (z : itemAt l i .process ≡ p → ⊥). ⊎-elim
           (λ (e : itemAt l i ≡ itemAt l₀ i).
-          absurd (never (others-found l₀ p f (r + k) i m (λ y. z (ap (λ (v : Item). v .process) e ∙ y)) (subst (λ (y : Item). IsLock f (r + k) (userOf l₀ (y .process)) y) e x)) (t .none-others k below)))
+          absurd (never (others-found l₀ p f (r + k) i m (λ y. z (ap (λ (v : Item). v .process) e ∙ y))
+          (subst (λ (y : Item). IsLock f (r + k) (userOf l₀ (y .process)) y) e x)) (t .none-others k below)))
           (λ (e : Filled l₀ l p f r k i). absurd (z (ap (λ (v : Item). v .process) (e .now)))) (w .place i m))
           (equal? (itemAt l i .process) p))
           (λ q. q) (either (clash it (itemAt l i) and sameFile (fileOf l it) (fileOf l (itemAt l i))))
@@ -190,12 +191,18 @@ module _ (kind : Kind) (s : List ℕ) (l₀ : LockList) (p : ℕ) (f : File) (r 
                 (λ (q : i ≡ j). inr (record {
                   step = k;
                   before = omega arith;
-                  was-empty = rw q (⊎-elim (λ (e : itemAt l j ≡ itemAt l₀ j). sym (ap (λ (v : Item). v .kind) e) ∙ here .empty) (λ (e : Filled l₀ l p f r k j). e .was-empty) (w .place j inside));
+                  was-empty = rw q (⊎-elim (λ (e : itemAt l j ≡ itemAt l₀ j). sym (ap (λ (v : Item). v .kind) e) ∙ here .empty)
+                      (λ (e : Filled l₀ l p f r k j). e .was-empty) (w .place j inside));
                   now = rw q (at-here l j it (w .shape) inside);
                 }))
                 (λ (q : i ≡ j → ⊥). ⊎-elim
                 (λ (e : itemAt l i ≡ itemAt l₀ i). inl (at-other l j it (w .shape) inside i q ∙ e))
-                (λ (e : Filled l₀ l p f r k i). inr (record { step = e .step; before = (let b = e .before in omega arith); was-empty = e .was-empty; now = at-other l j it (w .shape) inside i q ∙ e .now }))
+                (λ (e : Filled l₀ l p f r k i). inr (record {
+                  step = e .step;
+                  before = (let b = e .before in omega arith);
+                  was-empty = e .was-empty;
+                  now = at-other l j it (w .shape) inside i q ∙ e .now;
+                }))
                 (w .place i m))
                 (equal? i j);
             free =
@@ -219,7 +226,8 @@ module _ (kind : Kind) (s : List ℕ) (l₀ : LockList) (p : ℕ) (f : File) (r 
       shape = w .shape;
       sound = w .sound;
       place = λ i m. ⊎-elim (λ e. inl e)
-          (λ (e : Filled l₀ l p f r k i). inr (record { step = e .step; before = (let b = e .before in omega arith); was-empty = e .was-empty; now = e .now })) (w .place i m);
+          (λ (e : Filled l₀ l p f r k i). inr (record { step = e .step; before = (let b = e .before in omega arith); was-empty = e .was-empty; now = e .now }))
+          (w .place i m);
       free =
           let c = count-not (isNew l₀ p f r) k (not-of-true _ (sym held-same ∙ old)) in
           let a = w .free in

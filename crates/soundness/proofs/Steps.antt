@@ -48,7 +48,12 @@ module _ (kind : Kind) (s t : List ℕ) (n : ℕ) (below : n < entries kind) (wa
         ⊎-elim
         (λ (p : d ≡ n).
         let w′ : Is t (fileAt t e) (extentAt t e) n = rw p at w in
-        new e l (record { used = sym (empty-same s e t e h) ∙ u; file = sym (file-same s e t e h) ∙ sym (w′ .file); extent = sym (extent-same s e t e h) ∙ sym (w′ .extent) }))
+        new e l (record {
+          used = sym (empty-same s e t e h) ∙ u;
+          file = sym (file-same s e t e h) ∙ sym (w′ .file);
+          extent = sym (extent-same s e t e h)
+              ∙ sym (w′ .extent);
+        }))
         (λ (p : d ≡ n → ⊥).
         let w′ = comes (fileAt t e) (extentAt t e) d (omega arith) p w in
         g .single d e m l (sym (empty-same s e t e h) ∙ u) (rw (file-same s e t e h, extent-same s e t e h) at w′))
@@ -72,13 +77,19 @@ module _ (kind : Kind) (s t : List ℕ)
     (good : (e : ℕ) → e < entries kind → isEmpty t e ≡ false → goodFields highest s e ≡ true → goodFields highest t e ≡ true)
     (extent : (e : ℕ) → e < entries kind → isEmpty t e ≡ false → extentAt t e ≡ extentAt s e)
     (back : (d e : ℕ) → d < entries kind → e < entries kind → isEmpty t d ≡ false → isEmpty t e ≡ false → fileAt t d ≡ fileAt t e → fileAt s d ≡ fileAt s e)
-    (forth : (d e : ℕ) → d < entries kind → e < entries kind → isEmpty s d ≡ false → isEmpty t e ≡ false → fileAt s d ≡ fileAt s e → (isEmpty t d ≡ false) × (fileAt t d ≡ fileAt t e)) where
+    (forth : (d e : ℕ) → d < entries kind → e < entries kind → isEmpty s d ≡ false → isEmpty t e ≡ false → fileAt s d ≡ fileAt s e → (isEmpty t d ≡ false)
+    × (fileAt t d ≡ fileAt t e)) where
   pub moves : Entries kind highest s → Entries kind highest t
   moves g = record {
     fields = λ e l u. good e l u (g .fields e l (used e l u));
     single = λ d e m l u w.
         let k : d < entries kind = omega arith in
-        g .single d e m l (used e l u) (record { used = used d k (w .used); file = back d e k l (w .used) u (w .file); extent = sym (extent d k (w .used)) ∙ w .extent ∙ extent e l u });
+        g .single d e m l (used e l u) (record {
+          used = used d k (w .used);
+          file = back d e k l (w .used) u (w .file);
+          extent = sym (extent d k (w .used))
+              ∙ w .extent ∙ extent e l u;
+        });
     begun = λ e l u.
         let k = g .begun e l (used e l u) in
         let f = forth (k .0) e (k .1) l (k .2 .used) u (k .2 .file) in

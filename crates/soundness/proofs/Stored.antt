@@ -93,7 +93,11 @@ module _ (kind : Kind) (s t : List ℕ) (n : ℕ) (below : n < entries kind) (le
     touches = record {
       long = len;
       entry = λ e l. ⊎-elim
-          (λ (q : e ≡ n). inr (record { was = λ w. ap (λ (i : ℕ). fileAt s i) q ∙ file; now = λ w. file-same s e t e (tail-heads e) ∙ ap (λ (i : ℕ). fileAt s i) q ∙ file }))
+          (λ (q : e ≡ n). inr (record {
+            was = λ w. ap (λ (i : ℕ). fileAt s i) q ∙ file;
+            now = λ w. file-same s e t e (tail-heads e)
+                ∙ ap (λ (i : ℕ). fileAt s i) q ∙ file;
+          }))
           (λ (q : e ≡ n → ⊥). inl (tail-others e q)) (equal? e n);
     };
     data-kept = record { at = λ i l c. elsewhere i (inr (omega arith)) };
@@ -156,7 +160,8 @@ module _ (kind : Kind) (s : List ℕ) (n q b : ℕ) (f : File) (below : n < entr
   taken-else e k c l = number-else kind s n q b e k fits short l c
 
   pub taken-number : (e k : ℕ) → Names kind s e k → mapNumber kind (numbered kind n q b s) e k ≡ mapNumber kind s e k
-  taken-number e k m = taken-else e k (λ c. m .some (ap (λ (i : ℕ). mapNumber kind s i k) (c .0) ∙ ap (λ (i : ℕ). mapNumber kind s n i) (c .1) ∙ was)) (m .place-there)
+  taken-number e k m = taken-else e k (λ c. m .some (ap (λ (i : ℕ). mapNumber kind s i k) (c .0) ∙ ap (λ (i : ℕ). mapNumber kind s n i) (c .1) ∙ was))
+      (m .place-there)
 
   pub taken-rest : (e k : ℕ) → Names kind (numbered kind n q b s) e k → ((e ≡ n) × (k ≡ q)) ⊎ Stays kind s (numbered kind n q b s) e k
   taken-rest e k m =

@@ -80,7 +80,8 @@ caller-mine p l fcb = λ i. record { user = sym (caller-user p l fcb) i; name = 
 
 -- ---- a new open
 
-clash-one : (p : ℕ) (name : List ℕ) (mode : ℕ) (x : Item) → clash (freshOpen p name mode) x ≡ true → (eqb (x .kind) 1 and not (standBeside (freshOpen p name mode) x)) ≡ true
+clash-one : (p : ℕ) (name : List ℕ) (mode : ℕ) (x : Item) → clash (freshOpen p name mode) x ≡ true
+    → (eqb (x .kind) 1 and not (standBeside (freshOpen p name mode) x)) ≡ true
 unfolding clash _and_
 clash-one p name mode x h =
     ⊎-elim (λ q. q) (λ (q : (eqb (x .kind) 1 and not (standBeside (freshOpen p name mode) x)) ≡ false). absurd (never (or-so _ _ h q) refl))
@@ -89,7 +90,8 @@ clash-one p name mode x h =
 mode-small : (fcb : List ℕ) → (openMode fcb ≤ 2) × (makeMode fcb ≤ 2)
 unfolding openMode makeMode _if_else_
 mode-small fcb = (
-  ⊎-elim (λ q. rw q (omega arith)) (λ q. rw q (⊎-elim (λ z. rw z (omega arith)) (λ z. rw z (omega arith)) (either (leb 128 (byte fcb 5))))) (either (leb 128 (byte fcb 6))),
+  ⊎-elim (λ q. rw q (omega arith)) (λ q. rw q (⊎-elim (λ z. rw z (omega arith)) (λ z. rw z (omega arith)) (either (leb 128 (byte fcb 5)))))
+      (either (leb 128 (byte fcb 6))),
   ⊎-elim (λ z. rw z (omega arith)) (λ z. rw z (omega arith)) (either (leb 128 (byte fcb 5))),
 )
 
@@ -102,21 +104,29 @@ module _ (kind : Kind) (s : List ℕ) (p c : ℕ) (b : Buffers) (ok : Passed kin
 
   -- any other open of the file can stand beside it
   open-fits : (mode : ℕ) → mode ≤ 2 → legalName (b .fcb) 1 ≡ true → entryOf kind s f 0 < entries kind → opensBy l p < l .openlimit
-      → ((i : ℕ) → i < 64 → IsOpen (itemAt l i .process) (f .name) (itemAt l i) → userOf l (itemAt l i .process) ≡ f .user → standBeside (freshOpen p (f .name) mode) (itemAt l i) ≡ true)
+      → ((i : ℕ) → i < 64 → IsOpen (itemAt l i .process) (f .name) (itemAt l i) → userOf l (itemAt l i .process) ≡ f .user
+      → standBeside (freshOpen p (f .name) mode) (itemAt l i) ≡ true)
       → Fits kind s l (freePlace l) (freshOpen p (f .name) mode)
   unfolding isPlain isKindBy sameFile _and_
   open-fits mode small legal there within beside = record {
     name-long = caller-long p l (b .fcb);
-    plain = and-both _ _ (le-leb p 15 (let m = ok .process-fits in omega arith)) (and-both _ _ (caller-legal p l (b .fcb) legal) (and-both _ _ (caller-low p l (b .fcb)) refl));
+    plain = and-both _ _ (le-leb p 15 (let m = ok .process-fits in omega arith))
+        (and-both _ _ (caller-legal p l (b .fcb) legal) (and-both _ _ (caller-low p l (b .fcb)) refl));
     good = inl (record { kind-one = refl; mode-fits = small; number-zero = refl; there = rw (caller-mine p l (b .fcb)) there });
     no-clash = λ i m q.
         ⊎-elim
         (λ (y : (clash (freshOpen p (f .name) mode) (itemAt l i) and sameFile (record { user = userOf l p; name = f .name }) (fileOf l (itemAt l i))) ≡ true).
         let a = clash-one p (f .name) mode (itemAt l i) (and-fst (clash (freshOpen p (f .name) mode) (itemAt l i)) _ y) in
-        let e : sameFile (record { user = userOf l p; name = f .name }) (fileOf l (itemAt l i)) ≡ true = and-snd (clash (freshOpen p (f .name) mode) (itemAt l i)) _ y in
+        let e : sameFile (record { user = userOf l p; name = f .name }) (fileOf l (itemAt l i)) ≡ true = and-snd
+        (clash (freshOpen p (f .name) mode) (itemAt l i)) _ y in
         absurd (never (beside i m
-        (record { kind-one = eqb-true _ _ (and-fst (eqb (itemAt l i .kind) 1) _ a); by = refl; named = name-sym (f .name) (itemAt l i .name) (and-snd (eqb (userOf l p) (userOf l (itemAt l i .process))) _ e) })
-        (sym (eqb-true (userOf l p) (userOf l (itemAt l i .process)) (and-fst (eqb (userOf l p) (userOf l (itemAt l i .process))) _ e)) ∙ sym (caller-user p l (b .fcb))))
+        (record {
+          kind-one = eqb-true _ _ (and-fst (eqb (itemAt l i .kind) 1) _ a);
+          by = refl;
+          named = name-sym (f .name) (itemAt l i .name) (and-snd (eqb (userOf l p) (userOf l (itemAt l i .process))) _ e);
+        })
+        (sym (eqb-true (userOf l p) (userOf l (itemAt l i .process)) (and-fst (eqb (userOf l p) (userOf l (itemAt l i .process))) _ e))
+        ∙ sym (caller-user p l (b .fcb))))
         (not-true _ (and-snd (eqb (itemAt l i .kind) 1) _ a))))
         (λ y. y) (either (clash (freshOpen p (f .name) mode) (itemAt l i) and sameFile (record { user = userOf l p; name = f .name }) (fileOf l (itemAt l i))));
     opens-fit = λ q z. let e : p ≡ q = eqb-true p q z in rw (← e) within;
@@ -132,10 +142,13 @@ module _ (kind : Kind) (s : List ℕ) (p c : ℕ) (b : Buffers) (ok : Passed kin
       let opens : (eqb (itemAt l i .kind) 1 and eqb (userOf l (itemAt l i .process)) (f .user) and sameName (itemAt l i .name) (f .name)) ≡ true =
       and-both _ _ (eq-eqb _ _ (o .kind-one)) (and-both _ _ (eq-eqb _ _ u) (o .named)) in
       let n : itemAt l i .process ≡ p → ⊥ = λ q.
-      never (open-so p (f .name) (itemAt l i) (record { kind-one = o .kind-one; by = q; named = o .named })) (lowest-over (opensNameAt l p (f .name)) 64 i (w .unopened) m) in
-      let a : (eqb (openMode (b .fcb)) 0 or not (eqb (itemAt l i .mode) (openMode (b .fcb)))) ≡ false = then-false _ _ (not-of-false _ (ne-eqb _ _ n)) (then-false _ _ opens against) in
+      never (open-so p (f .name) (itemAt l i) (record { kind-one = o .kind-one; by = q; named = o .named }))
+      (lowest-over (opensNameAt l p (f .name)) 64 i (w .unopened) m) in
+      let a : (eqb (openMode (b .fcb)) 0 or not (eqb (itemAt l i .mode) (openMode (b .fcb)))) ≡ false = then-false _ _ (not-of-false _ (ne-eqb _ _ n))
+      (then-false _ _ opens against) in
       let e : itemAt l i .mode ≡ openMode (b .fcb) = eqb-true _ _ (not-false _ (or-snd _ _ a)) in
-      and-both _ _ (not-of-false _ (ne-eqb p (itemAt l i .process) (λ q. n (sym q)))) (and-both _ _ (eq-eqb (openMode (b .fcb)) (itemAt l i .mode) (sym e)) (not-of-false _ (or-fst _ _ a))))
+      and-both _ _ (not-of-false _ (ne-eqb p (itemAt l i .process) (λ q. n (sym q))))
+      (and-both _ _ (eq-eqb (openMode (b .fcb)) (itemAt l i .mode) (sym e)) (not-of-false _ (or-fst _ _ a))))
     where
       then-false : (x y : Bool) → x ≡ true → (x and y) ≡ false → y ≡ false
       then-false true y e h = unfold _and_ in h
@@ -146,14 +159,19 @@ module _ (kind : Kind) (s : List ℕ) (p c : ℕ) (b : Buffers) (ok : Passed kin
       → Fits kind s l (freePlace l) (freshOpen p (f .name) (makeMode (b .fcb)))
   maymake-fits s₀ h g₀ gone w there =
       open-fits (makeMode (b .fcb)) (mode-small (b .fcb) .1) (w .legal) there (w .within) (λ i m o u.
-      let e : fileOf l (itemAt l i) ≡ f = λ k. record { user = u k; name = name-is (itemAt l i .name) (f .name) (h .names-long i m) (caller-long p l (b .fcb)) (o .named) k } in
+      let e : fileOf l (itemAt l i) ≡ f = λ k. record {
+        user = u k;
+        name = name-is (itemAt l i .name) (f .name) (h .names-long i m) (caller-long p l (b .fcb)) (o .named) k;
+      } in
       let z : entryOf kind s₀ f 0 < entries kind = rw e at (opened-there s₀ h g₀ i m (o .kind-one)) in
       absurd (omega arith))
     where
-      opened-there : (s₀ : List ℕ) → Shape l → SoundLocks kind l s₀ → (i : ℕ) → i < 64 → itemAt l i .kind ≡ 1 → entryOf kind s₀ (fileOf l (itemAt l i)) 0 < entries kind
+      opened-there : (s₀ : List ℕ) → Shape l → SoundLocks kind l s₀ → (i : ℕ) → i < 64 → itemAt l i .kind ≡ 1
+          → entryOf kind s₀ (fileOf l (itemAt l i)) 0 < entries kind
       opened-there s₀ h g₀ i m k =
           ⊎-elim (λ (v : Vacant l i). let z = v .kind-zero in absurd (omega arith))
-          (λ (v : Used kind s₀ l i). ⊎-elim (λ (o : GoodOpen kind s₀ l (itemAt l i)). o .there) (λ (o : GoodLock kind s₀ l (itemAt l i)). let z = o .kind-two in absurd (omega arith)) (v .good))
+          (λ (v : Used kind s₀ l i). ⊎-elim (λ (o : GoodOpen kind s₀ l (itemAt l i)). o .there)
+          (λ (o : GoodLock kind s₀ l (itemAt l i)). let z = o .kind-two in absurd (omega arith)) (v .good))
           (g₀ .place i m)
 
 -- ---- a file that nobody has open has no items
@@ -184,21 +202,24 @@ module _ (kind : Kind) (s : List ℕ) (p c : ℕ) (b : Buffers) (ok : Passed kin
 
   pub own-good : openBy p b < 64 → Used kind s (listOf b) (openBy p b)
   own-good m =
-      ⊎-elim (λ (v : Vacant (listOf b) (openBy p b)). let z = v .kind-zero in let y = own-open m .kind-one in absurd (omega arith)) (λ v. v) (g .place (openBy p b) m)
+      ⊎-elim (λ (v : Vacant (listOf b) (openBy p b)). let z = v .kind-zero in let y = own-open m .kind-one in absurd (omega arith)) (λ v. v)
+      (g .place (openBy p b) m)
 
   own-name : openBy p b < 64 → itemAt (listOf b) (openBy p b) .name ≡ fileBy p b .name
   own-name m = name-is _ _ (h .names-long (openBy p b) m) (caller-long p (listOf b) (b .fcb)) (own-open m .named)
 
   pub own-file : (m : openBy p b < 64) → fileOf (listOf b) (itemAt (listOf b) (openBy p b)) ≡ fileBy p b
   own-file m =
-      let u : userOf (listOf b) (itemAt (listOf b) (openBy p b) .process) ≡ fileBy p b .user = ap (λ (q : ℕ). userOf (listOf b) q) (own-open m .by) ∙ sym (caller-user p (listOf b) (b .fcb)) in
+      let u : userOf (listOf b) (itemAt (listOf b) (openBy p b) .process) ≡ fileBy p b .user = ap (λ (q : ℕ). userOf (listOf b) q) (own-open m .by)
+      ∙ sym (caller-user p (listOf b) (b .fcb)) in
       λ i. record { user = u i; name = own-name m i }
 
   -- the file of an open is there
   pub own-there : openBy p b < 64 → entryOf kind s (fileBy p b) 0 < entries kind
   own-there m =
       ⊎-elim (λ (o : GoodOpen kind s (listOf b) (itemAt (listOf b) (openBy p b))). rw (own-file m) at (o .there))
-      (λ (o : GoodLock kind s (listOf b) (itemAt (listOf b) (openBy p b))). let z = o .kind-two in let y = own-open m .kind-one in absurd (omega arith)) (own-good m .good)
+      (λ (o : GoodLock kind s (listOf b) (itemAt (listOf b) (openBy p b))). let z = o .kind-two in let y = own-open m .kind-one in absurd (omega arith))
+      (own-good m .good)
 
   pub own-holder : (m : openBy p b < 64) → modeBy p b ≡ 1 → Holder (listOf b) p (fileBy p b .name)
   own-holder m e = record { place = openBy p b; below = m; opens = open-so _ _ _ (own-open m); mode = e }

@@ -73,17 +73,20 @@ module _ (kind : Kind) (n p c : ℕ) (b : Buffers) (ok : Passed kind p c b) wher
         entry-room = leb-false _ _ (or-fst _ _ (or-snd _ _ h₃));
       }) _
 
-  close-leaf : chosen n ≡ Call Close → anyRow (rowsOf (Call Close) (asked kind p c b) b) ≡ false → Leaf kind n p c b (effectOf (Call Close) (asked kind p c b) b)
+  close-leaf : chosen n ≡ Call Close → anyRow (rowsOf (Call Close) (asked kind p c b) b) ≡ false
+      → Leaf kind n p c b (effectOf (Call Close) (asked kind p c b) b)
   unfolding rowsOf effectOf asked askedBy rows16 does16 anyRow
   close-leaf k h = nowClosed k ok (opened-so _ (or-fst _ _ h))
 
-  delete-leaf : chosen n ≡ Call Delete → anyRow (rowsOf (Call Delete) (asked kind p c b) b) ≡ false → Leaf kind n p c b (effectOf (Call Delete) (asked kind p c b) b)
+  delete-leaf : chosen n ≡ Call Delete → anyRow (rowsOf (Call Delete) (asked kind p c b) b) ≡ false
+      → Leaf kind n p c b (effectOf (Call Delete) (asked kind p c b) b)
   unfolding rowsOf effectOf asked askedBy rows19 does19 anyRow missing lookUp stopsDelete
   delete-leaf k h =
       let h₁ = or-snd _ _ h in
       nowErased k ok (record { legal = not-false _ (or-fst _ _ h); there = leb-false _ _ (or-fst _ _ h₁); unopened = or-fst _ _ (or-snd _ _ h₁) })
 
-  rename-leaf : chosen n ≡ Call Rename → anyRow (rowsOf (Call Rename) (asked kind p c b) b) ≡ false → Leaf kind n p c b (effectOf (Call Rename) (asked kind p c b) b)
+  rename-leaf : chosen n ≡ Call Rename → anyRow (rowsOf (Call Rename) (asked kind p c b) b) ≡ false
+      → Leaf kind n p c b (effectOf (Call Rename) (asked kind p c b) b)
   unfolding rowsOf effectOf asked askedBy rows23 does23 anyRow missing lookUp stopsRename
   rename-leaf k h =
       let h₁ = or-snd _ _ h in
@@ -100,11 +103,13 @@ module _ (kind : Kind) (n p c : ℕ) (b : Buffers) (ok : Passed kind p c b) wher
       → Leaf kind n p c b (does34 kind zeros (fileBy p b) (entryOf kind (b .image) (fileBy p b) 0) (e kind p b) (r p b) b)
   unfolding rowsOf asked askedBy rows34 does34 lookUp
   write-leaf zeros k h =
-      let g = any-append (rowsMay p (listOf b) (openBy p b) (fileBy p b) (entryOf kind (b .image) (fileBy p b) 0) (r p b) (b .image)) (rowsRoom kind (b .image) (e kind p b) (r p b)) h in
+      let g = any-append (rowsMay p (listOf b) (openBy p b) (fileBy p b) (entryOf kind (b .image) (fileBy p b) 0) (r p b) (b .image))
+      (rowsRoom kind (b .image) (e kind p b) (r p b)) h in
       let m = has-room kind p b (g .1) in
       nowWritten k ok (may-write kind p b (g .0) (m .0) (m .1)) zeros
 
-  test-leaf : chosen n ≡ Call TestWrite → anyRow (rowsOf (Call TestWrite) (asked kind p c b) b) ≡ false → Leaf kind n p c b (effectOf (Call TestWrite) (asked kind p c b) b)
+  test-leaf : chosen n ≡ Call TestWrite → anyRow (rowsOf (Call TestWrite) (asked kind p c b) b) ≡ false
+      → Leaf kind n p c b (effectOf (Call TestWrite) (asked kind p c b) b)
   unfolding rowsOf effectOf asked askedBy rows41 does41 lookUp
   test-leaf k h =
       let may = rowsMay p (listOf b) (openBy p b) (fileBy p b) (entryOf kind (b .image) (fileBy p b) 0) (r p b) (b .image) in
@@ -120,7 +125,8 @@ module _ (kind : Kind) (n p c : ℕ) (b : Buffers) (ok : Passed kind p c b) wher
   unfolding rowsRun anyRow
   run-open more h = opened-so _ (or-fst _ _ h)
 
-  run-more : (more : List Row) → eqb (modeBy p b) 1 ≡ true → anyRow (rowsRun (listOf b) (openBy p b) (r p b) c (b .dma) more) ≡ false → (r p b + c - 1 ≤ 262143) × (anyRow more ≡ false)
+  run-more : (more : List Row) → eqb (modeBy p b) 1 ≡ true → anyRow (rowsRun (listOf b) (openBy p b) (r p b) c (b .dma) more) ≡ false → (r p b + c - 1 ≤ 262143)
+      × (anyRow more ≡ false)
   unfolding rowsRun anyRow
   run-more more q h =
       let h₁ = any-only _ _ q (or-snd _ _ h) in
@@ -128,10 +134,12 @@ module _ (kind : Kind) (n p c : ℕ) (b : Buffers) (ok : Passed kind p c b) wher
       (ltb-false 262143 _ (or-fst _ _ h₂), or-snd _ _ h₂)
 
   lock-may : openBy p b < 64 → modeBy p b ≡ 1 → r p b + c - 1 ≤ 262143
-      → anyRow (rowsLacking kind (b .image) (fileBy p b) (r p b) c (firstLacking kind (b .image) (fileBy p b) (r p b) c) ++ rowsTake p (listOf b) (fileBy p b) (r p b) c) ≡ false → MayLock kind p c b
+      → anyRow (rowsLacking kind (b .image) (fileBy p b) (r p b) c (firstLacking kind (b .image) (fileBy p b) (r p b) c) ++ rowsTake p (listOf b) (fileBy p b)
+      (r p b) c) ≡ false → MayLock kind p c b
   unfolding rowsLacking rowsTake anyRow firstLacking lacks isOthers
   lock-may o m fits h =
-      let g = any-append (rowsLacking kind (b .image) (fileBy p b) (r p b) c (firstLacking kind (b .image) (fileBy p b) (r p b) c)) (rowsTake p (listOf b) (fileBy p b) (r p b) c) h in
+      let g = any-append (rowsLacking kind (b .image) (fileBy p b) (r p b) c (firstLacking kind (b .image) (fileBy p b) (r p b) c))
+      (rowsTake p (listOf b) (fileBy p b) (r p b) c) h in
       let lack : ltb (lowest (lacks kind (b .image) (fileBy p b) (r p b)) c) c ≡ false = or-fst _ _ (or-snd _ _ (g .0)) in
       let h₁ = or-snd _ _ (g .1) in
       record {
@@ -154,7 +162,8 @@ module _ (kind : Kind) (n p c : ℕ) (b : Buffers) (ok : Passed kind p c b) wher
       (λ (q : eqb (modeBy p b) 1 ≡ false). rw q (lockIdle k ok (record { is-open = run-open _ h; not-unlocked = eqb-false _ _ q })))
       (either (eqb (modeBy p b) 1))
 
-  unlock-leaf : chosen n ≡ Call Unlock → anyRow (rowsOf (Call Unlock) (asked kind p c b) b) ≡ false → Leaf kind n p c b (effectOf (Call Unlock) (asked kind p c b) b)
+  unlock-leaf : chosen n ≡ Call Unlock → anyRow (rowsOf (Call Unlock) (asked kind p c b) b) ≡ false
+      → Leaf kind n p c b (effectOf (Call Unlock) (asked kind p c b) b)
   unfolding rowsOf effectOf asked askedBy rows43 does43 _if_else_
   unlock-leaf k h =
       ⊎-elim
@@ -162,7 +171,8 @@ module _ (kind : Kind) (n p c : ℕ) (b : Buffers) (ok : Passed kind p c b) wher
       (λ (q : eqb (modeBy p b) 1 ≡ false). rw q (unlockIdle k ok (record { is-open = run-open _ h; not-unlocked = eqb-false _ _ q })))
       (either (eqb (modeBy p b) 1))
 
-  leaf : (k : Chosen) → chosen n ≡ k → isUnknown k ≡ false → anyRow (rowsOf k (asked kind p c b) b) ≡ false → Leaf kind n p c b (effectOf k (asked kind p c b) b)
+  leaf : (k : Chosen) → chosen n ≡ k → isUnknown k ≡ false → anyRow (rowsOf k (asked kind p c b) b) ≡ false
+      → Leaf kind n p c b (effectOf k (asked kind p c b) b)
   unfolding effectOf rowsOf asked askedBy lookUp does33 does46 does143 isUnknown
   leaf (Call Open) k u h = open-leaf k h
   leaf (Call Close) k u h = close-leaf k h
@@ -184,7 +194,8 @@ walk kind n p c b =
     ⊎-elim
     (λ (h : anyRow (rowsCall kind n p c b) ≡ true).
     subst (λ (o : Outcome). Leaf kind n p c b o) (sym (refused kind n p c b h))
-    (Rattle.soundness.proofs.Leaves.refused (firstOf (rowsCall kind n p c b)) (eqb-false _ _ (some-applies (rowsCall kind n p c b) (nonzero-call kind n p c b) h))))
+    (Rattle.soundness.proofs.Leaves.refused (firstOf (rowsCall kind n p c b))
+    (eqb-false _ _ (some-applies (rowsCall kind n p c b) (nonzero-call kind n p c b) h))))
     (λ (h : anyRow (rowsCall kind n p c b) ≡ false).
     let g = split h in
     subst (λ (o : Outcome). Leaf kind n p c b o) (sym (accepted kind n p c b h))

@@ -35,7 +35,8 @@ if-true x y t h = rw h
 -- ---- count, clear, store
 
 module _ (kind : Kind) (f : File) (a m i j : ℕ) where
-  count-step : (w : Spot) (r : ℕ) (s : List ℕ) → w .entry < entries kind → fileAt s (w .entry) ≡ f → SoundImage kind highest s → Change kind s (counted w r s) f a m i j
+  count-step : (w : Spot) (r : ℕ) (s : List ℕ) → w .entry < entries kind → fileAt s (w .entry) ≡ f → SoundImage kind highest s
+      → Change kind s (counted w r s) f a m i j
   unfolding counted _if_else_
   count-step w r s l file g =
       ⊎-elim (λ h. rw h (count-change kind s (w .entry) (countTo r) f l (omega arith) file g a m i j)) (λ h. rw h (no-change kind s f a m i j g))
@@ -63,7 +64,8 @@ module _ (kind : Kind) (f : File) (a m i j : ℕ) where
         rw h (data-change kind s (replicate (blockSize kind) 0) (blockSize kind * w .block) f clear-past clear-fits g a m i j c₀ (omega arith)))
         (λ (h : (zeros and w .taken) ≡ false). rw h (no-change kind s f a m i j g)) (either (zeros and w .taken))
 
-    store-step : (r : ℕ) (v : List ℕ) → 128 ≤ length v → a ≤ recordAt kind (w .block) r → recordAt kind (w .block) r + 128 ≤ a + m → Change kind s (stored kind w r v s) f a m i j
+    store-step : (r : ℕ) (v : List ℕ) → 128 ≤ length v → a ≤ recordAt kind (w .block) r → recordAt kind (w .block) r + 128 ≤ a + m
+        → Change kind s (stored kind w r v s) f a m i j
     unfolding stored
     store-step r v l from to =
         let k : length (take 128 v) ≡ 128 = length-take-le 128 v l in
@@ -74,7 +76,8 @@ module _ (kind : Kind) (f : File) (a m i j : ℕ) where
   -- all after the block is in the map
   ends-step : (zeros : Bool) (w : Spot) (r : ℕ) (v s : List ℕ) → w .entry < entries kind → fileAt s (w .entry) ≡ f → 2 ≤ w .block → w .block < blocks kind s
       → 128 ≤ length v → SoundImage kind highest s
-      → (w .taken ≡ true → (a ≤ blockSize kind * w .block) × (blockSize kind * w .block + blockSize kind ≤ a + m)) → a ≤ recordAt kind (w .block) r → recordAt kind (w .block) r + 128 ≤ a + m
+      → (w .taken ≡ true → (a ≤ blockSize kind * w .block) × (blockSize kind * w .block + blockSize kind ≤ a + m)) → a ≤ recordAt kind (w .block) r
+      → recordAt kind (w .block) r + 128 ≤ a + m
       → Change kind s (stored kind w r v (cleared kind zeros w (counted w r s))) f a m i j
   unfolding blocks
   ends-step zeros w r v s l file low high k g inside from to =
@@ -121,7 +124,12 @@ free-stays kind s t b h u =
     let w = any-some (holdsNumber kind t b e) (numbers kind) (and-snd _ _ y) in
     let q : mapNumber kind t e (w .0) ≡ b = eqb-true _ _ (w .2) in
     let n : Names kind t e (w .0) =
-    record { entry-there = k; place-there = w .1; entry-used = not-true _ (and-fst _ _ y); some = λ (z : mapNumber kind t e (w .0) ≡ 0). absurd (omega arith) } in
+    record {
+      entry-there = k;
+      place-there = w .1;
+      entry-used = not-true _ (and-fst _ _ y);
+      some = λ (z : mapNumber kind t e (w .0) ≡ 0). absurd (omega arith);
+    } in
     let z = h e (w .0) n in
     absurd (free-unnamed kind s b u e (w .0) (z .named) (sym (z .number) ∙ q)))
     (λ (y : namesBlock kind t b e ≡ false). y) (either (namesBlock kind t b e)))))
@@ -133,9 +141,11 @@ module _ (kind : Kind) (zeros : Bool) (s : List ℕ) (f : File) (r : ℕ) (v : L
   free-so h = lowest-holds (isFree kind s) (blocks kind s) h
 
   -- a free block b into place r's of entry n of t, and what follows
-  take-step : (w : Spot) (t : List ℕ) → w .taken ≡ true → w .entry < entries kind → Is t f (r / 128) (w .entry) → mapNumber kind t (w .entry) (mapPlace kind r) ≡ 0
+  take-step : (w : Spot) (t : List ℕ) → w .taken ≡ true → w .entry < entries kind → Is t f (r / 128) (w .entry)
+      → mapNumber kind t (w .entry) (mapPlace kind r) ≡ 0
       → w .block < blocks kind t → isFree kind t (w .block) ≡ true → SoundImage kind highest t
-      → Wrote kind t (stored kind w r v (cleared kind zeros w (counted w r (mapped kind w r t)))) f r (blockSize kind * w .block) (blockSize kind) (w .entry) (w .block)
+      → Wrote kind t (stored kind w r v (cleared kind zeros w (counted w r (mapped kind w r t)))) f r (blockSize kind * w .block) (blockSize kind) (w .entry)
+      (w .block)
   unfolding mapped blocks
   take-step w t e₁ l is was high free g′ =
       let q = mapPlace kind r in
@@ -179,7 +189,12 @@ module _ (kind : Kind) (zeros : Bool) (s : List ℕ) (f : File) (r : ℕ) (v : L
       let no : Names kind s n (mapPlace kind r) → ⊥ = λ m. never (free-empty kind s room) (m .entry-used) in
       let was : mapNumber kind t n (mapPlace kind r) ≡ 0 = ⊎-elim (λ h. eqb-true _ _ h)
       (λ (h : eqb (mapNumber kind t n (mapPlace kind r)) 0 ≡ false).
-      absurd (no (st n (mapPlace kind r) (record { entry-there = room; place-there = place-fits kind r; entry-used = is .used; some = eqb-false _ _ h }) .named)))
+      absurd (no (st n (mapPlace kind r) (record {
+        entry-there = room;
+        place-there = place-fits kind r;
+        entry-used = is .used;
+        some = eqb-false _ _ h;
+      }) .named)))
       (either (eqb (mapNumber kind t n (mapPlace kind r)) 0)) in
       let k = take-step w t refl room is was (rw (c .touches .long) high) (free-stays kind s t b st (free-so high)) (c .sound) in
       record {
@@ -237,8 +252,10 @@ module _ (kind : Kind) (zeros : Bool) (s : List ℕ) (f : File) (r : ℕ) (v : L
   abbrev here : ℕ
   here = entryOf kind s f (r / 128)
 
-  pub written-step : (leb (entries kind) here and leb (entries kind) (freeEntry kind s)) ≡ false → (eqb (blockIn kind s here r) 0 and leb (blocks kind s) (freeBlock kind s)) ≡ false
-      → Old kind s (written kind zeros (spotAt kind s here r) (entryOf kind s f 0) f r v s) f r ⊎ New kind s (written kind zeros (spotAt kind s here r) (entryOf kind s f 0) f r v s) f r
+  pub written-step : (leb (entries kind) here and leb (entries kind) (freeEntry kind s)) ≡ false
+      → (eqb (blockIn kind s here r) 0 and leb (blocks kind s) (freeBlock kind s)) ≡ false
+      → Old kind s (written kind zeros (spotAt kind s here r) (entryOf kind s f 0) f r v s) f r
+      ⊎ New kind s (written kind zeros (spotAt kind s here r) (entryOf kind s f 0) f r v s) f r
   unfolding spotAt blockIn _if_else_ _and_
   written-step room block =
       ⊎-elim
@@ -259,7 +276,8 @@ module _ (kind : Kind) (zeros : Bool) (s : List ℕ) (f : File) (r : ℕ) (v : L
       (either (leb (entries kind) here))
 
   -- the extent then stands at the spot's entry
-  pub written-entry : (leb (entries kind) here and leb (entries kind) (freeEntry kind s)) ≡ false → (eqb (blockIn kind s here r) 0 and leb (blocks kind s) (freeBlock kind s)) ≡ false
+  pub written-entry : (leb (entries kind) here and leb (entries kind) (freeEntry kind s)) ≡ false
+      → (eqb (blockIn kind s here r) 0 and leb (blocks kind s) (freeBlock kind s)) ≡ false
       → Is (written kind zeros (spotAt kind s here r) (entryOf kind s f 0) f r v s) f (r / 128) (spotAt kind s here r .entry)
   unfolding spotAt blockIn _if_else_ _and_ fresh-step taken-step old-step
   written-entry room block =
@@ -284,7 +302,8 @@ module _ (kind : Kind) (zeros : Bool) (s : List ℕ) (f : File) (r : ℕ) (v : L
   grown-to : (t : List ℕ) → Old kind s t f r ⊎ New kind s t f r → Grown kind s t
   grown-to t w = ⊎-elim (λ (k : Old kind s t f r). k .wrote .change .grown) (λ (k : New kind s t f r). k .wrote .change .grown) w
 
-  pub written-first : (leb (entries kind) here and leb (entries kind) (freeEntry kind s)) ≡ false → (eqb (blockIn kind s here r) 0 and leb (blocks kind s) (freeBlock kind s)) ≡ false
+  pub written-first : (leb (entries kind) here and leb (entries kind) (freeEntry kind s)) ≡ false
+      → (eqb (blockIn kind s here r) 0 and leb (blocks kind s) (freeBlock kind s)) ≡ false
       → Is (written kind zeros (spotAt kind s here r) (entryOf kind s f 0) f r v s) f 0 (entryOf kind s f 0)
   written-first room block =
       let i = found-is kind s f 0 named there in

@@ -1,0 +1,93 @@
+-- What a call does to the list and to the image: each end of a call is one of a few. Assumes nothing.
+use Prim.Native.Nat.{ℕ, _≤_, _<_}
+use mathlib.Core.Path.{_≡_}
+use mathlib.Core.Bool.{Bool, true, false}
+use mathlib.Core.List.{List, map}
+use native.Mathlib.Omega.{arith}
+use lib.ListN.{length}
+use borrow.Author.Tests.{eqb-true}
+use Rattle.words.specs.Bytes.{areBytes}
+use Rattle.words.proofs.Tests.{and-fst, and-snd}
+use Rattle.words.proofs.AreBytes.{bytes-part}
+use Rattle.rules.specs.declared.kind.Kind.{Kind}
+use Rattle.rules.specs.declared.file.File.{File}
+use Rattle.rules.specs.declared.item.Item.{Item}
+use Rattle.rules.specs.Serves.{Buffers, Outcome}
+use Rattle.rules.specs.Drive.{freeEntry}
+use Rattle.rules.specs.Locks.{freePlace, pack, withItems}
+use Rattle.rules.specs.Asks.{recordOf}
+use Rattle.rules.specs.Effects.{opened, made, erased, renamed, closed, lockedRun, unlockedRun, terminated, isOfFile, isInRun}
+use Rattle.rules.specs.Call.{call}
+use Rattle.rules.proofs.Passed.{Passed}
+use Rattle.soundness.proofs.Emptied.{Empties, Whole, close-empties, close-whole, unlock-empties, unlock-whole, end-empties, end-whole}
+use Rattle.soundness.proofs.Shapes.{SoundShape, opened-shape, made-shape}
+use Rattle.soundness.proofs.Leaves.{Leaf, listOf, fileBy, newBy, MayMake, MayDelete, MayRename, MayWrite, MayLock, imageWritten, refused, reopened, newlyOpened, newlyMade, nowClosed, nowErased, nowRenamed, nowRead, nowWritten, nowRewritten, nowLocked, lockIdle, nowUnlocked, unlockIdle, nowTold, nowEnded}
+use Rattle.soundness.proofs.Walk.{walk}
+
+-- the list, beside the image t: nothing, one place set, a run set, places emptied
+pub data ListLeft (kind : Kind) (p c : ℕ) (b : Buffers) : List ℕ → List ℕ → Type 0 where
+  list-same : (t : List ℕ) → ListLeft kind p c b t (b .list)
+  one-set : Passed kind p c b → (t : List ℕ) (mode : ℕ) → freePlace (listOf b) < listOf b .capacity → SoundShape kind (opened p (fileBy p b) mode (listOf b)) t
+      → ListLeft kind p c b t (pack (opened p (fileBy p b) mode (listOf b)))
+  run-set : Passed kind p c b → MayLock kind p c b → ListLeft kind p c b (b .image) (pack (lockedRun p (fileBy p b) (recordOf (b .fcb)) c (listOf b)))
+  emptied : Passed kind p c b → (away : Item → Bool) (turn : Item → Item) → Empties away turn → Whole (listOf b) away
+      → ((it : Item) → away it ≡ true → it .process ≡ p)
+      → ListLeft kind p c b (b .image) (pack (withItems (listOf b) (map turn (listOf b .items))))
+
+-- the image: nothing, an entry made, a record written, a file's entries erased or renamed
+pub data ImageLeft (kind : Kind) (p c : ℕ) (b : Buffers) : List ℕ → Type 0 where
+  image-same : ImageLeft kind p c b (b .image)
+  entry-made : Passed kind p c b → MayMake kind p b → ImageLeft kind p c b (made (freeEntry kind (b .image)) (fileBy p b) (b .image))
+  record-stored : Passed kind p c b → MayWrite kind p b → (zeros : Bool) (v : List ℕ) → 128 ≤ length v → (areBytes (b .dma) ≡ true → areBytes v ≡ true)
+      → ImageLeft kind p c b (imageWritten kind zeros p b v)
+  file-erased : Passed kind p c b → MayDelete kind p b → ImageLeft kind p c b (erased kind (fileBy p b) (b .image))
+  file-renamed : Passed kind p c b → MayRename kind p b → ImageLeft kind p c b (renamed kind (fileBy p b) (newBy p b .name) (b .image))
+
+pub record Left (kind : Kind) (p c : ℕ) (b : Buffers) (o : Outcome) : Type 0 where
+  pub list : ListLeft kind p c b (o .left .image) (o .left .list)
+  pub image : ImageLeft kind p c b (o .left .image)
+
+-- items that go are the caller's
+close-own : (p : ℕ) (f : File) (it : Item) → isOfFile p f it ≡ true → it .process ≡ p
+unfolding isOfFile
+close-own p f it h = eqb-true _ _ (and-fst _ _ (and-snd _ _ h))
+
+unlock-own : (p : ℕ) (f : File) (r n : ℕ) (it : Item) → isInRun p f r n it ≡ true → it .process ≡ p
+unfolding isInRun
+unlock-own p f r n it h = close-own p f it (and-snd _ _ (and-snd _ _ (and-snd _ _ h)))
+
+module _ (kind : Kind) (n p c : ℕ) (b : Buffers) where
+  dma-full : Passed kind p c b → 128 ≤ length (b .dma)
+  dma-full ok = let w = ok .ready .dma-long in omega arith
+
+  left-by : (o : Outcome) → Leaf kind n p c b o → Left kind p c b o
+  unfolding closed unlockedRun terminated
+  left-by o (refused code z) = record { list = list-same _; image = image-same }
+  left-by o (reopened k ok w fcb) = record { list = list-same _; image = image-same }
+  left-by o (newlyOpened k ok w fcb) = record { list = one-set ok _ _ (w .room) (opened-shape kind p c b ok w); image = image-same }
+  left-by o (newlyMade k ok w fcb) = record { list = one-set ok _ _ (w .room) (made-shape kind p c b ok w); image = entry-made ok w }
+  left-by o (nowClosed k ok w) = record {
+    list = emptied ok _ _ (close-empties p (fileBy p b)) (close-whole (listOf b) p (fileBy p b)) (close-own p (fileBy p b));
+    image = image-same;
+  }
+  left-by o (nowErased k ok w) = record { list = list-same _; image = file-erased ok w }
+  left-by o (nowRenamed k ok w) = record { list = list-same _; image = file-renamed ok w }
+  left-by o (nowRead k ok dma) = record { list = list-same _; image = image-same }
+  left-by o (nowWritten k ok w zeros) = record { list = list-same _; image = record-stored ok w zeros (b .dma) (dma-full ok) (λ h. h) }
+  left-by o (nowRewritten k ok w some v full from) = record {
+    list = list-same _;
+    image = record-stored ok w false v full (λ h. rw from (bytes-part 128 128 (b .dma) h));
+  }
+  left-by o (nowLocked k ok w) = record { list = run-set ok w; image = image-same }
+  left-by o (lockIdle k ok w) = record { list = list-same _; image = image-same }
+  left-by o (nowUnlocked k ok w) = record {
+    list = emptied ok _ _ (unlock-empties p (fileBy p b) (recordOf (b .fcb)) c) (unlock-whole (listOf b) p (fileBy p b) (recordOf (b .fcb)) c)
+        (unlock-own p (fileBy p b) (recordOf (b .fcb)) c);
+    image = image-same;
+  }
+  left-by o (unlockIdle k ok w) = record { list = list-same _; image = image-same }
+  left-by o (nowTold k ok dma) = record { list = list-same _; image = image-same }
+  left-by o (nowEnded k ok) = record { list = emptied ok _ _ (end-empties p) (end-whole (listOf b) p) (λ it h. eqb-true _ _ h); image = image-same }
+
+  pub left : Left kind p c b (call kind n p c b)
+  left = left-by _ (walk kind n p c b)
