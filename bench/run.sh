@@ -1,34 +1,35 @@
 #!/usr/bin/env bash
-# run.sh [--docs] [ROUNDS]: times the engine, its plain C version and the reference, all built for this machine's own
-# processor, on the same books in one run, on both kinds of drive; and calls for several records, beside the engine's
-# single calls. Writes
-# figures.md, rows.csv, plot.svg, several.csv and several.svg to target/bench and prints the summary.
+# run.sh [--docs] [ROUNDS]: times the engine, the same work in plain C (tests/plain) and the reference, all built for this
+# machine's own processor, on the same books in one run, on both kinds of drive; and calls for several records, beside
+# the engine's single calls. Writes figures.md, rows.csv, plot.svg, several.csv and several.svg to target/bench and
+# prints the summary.
 # --docs: puts the figures into docs/PERFORMANCE.md, the plots and all rows beside it.
 # run.sh --agree: times nothing, only compares what the three and the engine's single calls answer and leave.
-# run.sh --before ARCHIVE [ROUNDS]: times the engine of the archive, which native.sh has made at an earlier commit, and
-# this tree's, taking turns in one run: the image check alone and the calls, with their stack. First the two have to
-# answer and leave the same. Writes before.md and, with every call, before.csv to target/bench and prints the former.
-# What parameters the archive's functions have is told by the mpm.h that native.sh has left beside it; where there is
-# none, they are those of version 2, with one kind of drive. Then the small kind alone is timed.
+# run.sh --before ARCHIVE [ROUNDS]: times the engine of the archive, which machine/native.sh has made at an earlier
+# commit, and this tree's, taking turns in one run: the image check alone and the calls, with their stack. First the two
+# have to answer and leave the same. Writes before.md and, with every call, before.csv to target/bench and prints the
+# former. What parameters the archive's functions have is told by the mpm.h that native.sh has left beside it; where
+# there is none, they are those of version 2, with one kind of drive. Then the small kind alone is timed.
 set -euo pipefail
 here=$(cd "$(dirname "${BASH_SOURCE[0]}")" && pwd -P)
-# shellcheck source=../host/kit.sh
-. "$here/../host/kit.sh"
+# shellcheck source=../machine/kit.sh
+. "$here/../machine/kit.sh"
 work=$root/target/bench
+plain=$root/tests/plain
 docs=$root/docs/PERFORMANCE.md
 objects=$native:$work/plain-small.o:$work/plain-large.o:$work/plain.o:$work/stack.o
 
 plain_clang() { # WORDS..
     "$own/toolchain/bin/clang" --target="$(uname -m)-unknown-linux-gnu" --no-default-config -nostdinc \
-        -isystem "$root/host/libc" -I "$root/include" -std=c99 -O3 -fPIC "${warnings[@]}" "$@"
+        -isystem "$root/machine/libc" -I "$root/include" -std=c99 -O3 -fPIC "${warnings[@]}" "$@"
 }
 
 build() { # CARGO'S WORDS..
     make_native
     mkdir -p "$work"
-    plain_clang -DKIND=SMALL -c "$here/plain.c" -o "$work/plain-small.o"
-    plain_clang -DKIND=LARGE -c "$here/plain.c" -o "$work/plain-large.o"
-    plain_clang -c "$here/plain_call.c" -o "$work/plain.o"
+    plain_clang -DKIND=SMALL -c "$plain/plain.c" -o "$work/plain-small.o"
+    plain_clang -DKIND=LARGE -c "$plain/plain.c" -o "$work/plain-large.o"
+    plain_clang -c "$plain/plain_call.c" -o "$work/plain.o"
     "${CC:-cc}" -std=c99 -O2 -fPIC "${warnings[@]}" -c "$here/stack.c" -o "$work/stack.o"
     MPM_ARCHIVE=$native MPM_OBJECTS=$objects \
         cargo build --quiet --release --offline -j2 --manifest-path "$here/Cargo.toml" --target-dir "$work/cargo" "$@"

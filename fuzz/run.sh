@@ -8,9 +8,10 @@
 # Exit status: 0 if all is well, 1 if the engine does wrong or a bad one was not found, 2 for wrong use.
 set -euo pipefail
 here=$(cd "$(dirname "${BASH_SOURCE[0]}")" && pwd -P)
-# shellcheck source=../host/kit.sh
-. "$here/../host/kit.sh"
+# shellcheck source=../machine/kit.sh
+. "$here/../machine/kit.sh"
 work=$root/target/fuzz
+plain=$root/tests/plain
 clang=${FUZZ_CLANG:-clang}
 sanitizers=("-fsanitize=address,undefined" -fno-sanitize-recover=all)
 seconds=60 seed=1 mode=fuzz replayed=
@@ -41,7 +42,7 @@ read_words() {
 # ---- Building ----
 
 system_clang() {
-    "$clang" -std=c99 -O1 -g "${warnings[@]}" "${sanitizers[@]}" -I "$root/include" -I "$root/bench" "$@"
+    "$clang" -std=c99 -O1 -g "${warnings[@]}" "${sanitizers[@]}" -I "$root/include" -I "$plain" "$@"
 }
 
 compile() { # OBJECT WORDS..
@@ -66,7 +67,7 @@ compile_engine() { # LEVEL
 
 take_engine() {
     make_native
-    sed -E 's/^(attributes #[0-9]+ = \{)/\1 sanitize_address/' "$out/native/engine.ll" >"$work/engine.ll"
+    sed -E 's/^(attributes #[0-9]+ = \{)/\1 sanitize_address/' "$root/target/native/engine.ll" >"$work/engine.ll"
     compile_engine 1
 }
 
@@ -81,9 +82,9 @@ build() {
     command -v "$clang" >/dev/null || no_libfuzzer
     compile fuzz.o "$here/fuzz.c"
     compile mutate.o "$here/mutate.c"
-    compile plain-small.o -DKIND=SMALL "$root/bench/plain.c"
-    compile plain-large.o -DKIND=LARGE "$root/bench/plain.c"
-    compile plain.o "$root/bench/plain_call.c"
+    compile plain-small.o -DKIND=SMALL "$plain/plain.c"
+    compile plain-large.o -DKIND=LARGE "$plain/plain.c"
+    compile plain.o "$plain/plain_call.c"
     compile stub.o "$root/tests/pipe/stub.c"
     link stub fuzz.o stub.o 2>"$work/log" || no_libfuzzer
     system_clang "$here/seeds.c" -o "$work/make-seeds"

@@ -5,8 +5,8 @@
 #     cc host.c $(pkg-config --cflags --libs mpm) -o host
 # PREFIX may be moved: mpm.pc names its folders from its own place.
 set -euo pipefail
-# shellcheck source=kit.sh
-. "$(dirname "${BASH_SOURCE[0]}")/kit.sh"
+# shellcheck source=../machine/kit.sh
+. "$(dirname "${BASH_SOURCE[0]}")/../machine/kit.sh"
 [ $# -eq 1 ] || {
     echo "use: install.sh PREFIX" >&2
     exit 2

@@ -3,12 +3,12 @@
 # drive of each kind, and looks at the book after each restart (kill.py). A failure's folder is kept and named.
 # kill.sh --selftest [--native]: hosts with one fault each (wrong_save.c), each of which has to be found.
 # kill.sh --speed [--native]: kills nothing, but times a write with its saving, and with the whole book written anew.
-# --native takes the engine that native.sh makes and the system's compiler (CC) in place of the archive that ships.
+# --native takes the engine of machine/native.sh and the system's compiler (CC) in place of the archive that ships.
 set -euo pipefail
 here=$(cd "$(dirname "${BASH_SOURCE[0]}")" && pwd -P)
-# shellcheck source=kit.sh
-. "$here/kit.sh"
-work=$out/kill
+# shellcheck source=../machine/kit.sh
+. "$here/../machine/kit.sh"
+work=$root/target/host/kill
 times=50 seed=$RANDOM mode=kills native_build=
 
 usage() {
@@ -51,7 +51,7 @@ link() { # PROGRAM OBJECTS..
 }
 
 host() { # PROGRAM: its command
-    if [ -n "$native_build" ]; then command=("$work/$1"); else command=("$here/run.sh" "$work/$1"); fi
+    if [ -n "$native_build" ]; then command=("$work/$1"); else command=("$root/machine/run.sh" "$work/$1"); fi
 }
 
 make_minimal() {

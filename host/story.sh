@@ -3,10 +3,11 @@
 # fresh clone the engine is proved first, which takes minutes. The book stays in target/host/book/ORDERS.BOOK.
 set -euo pipefail
 here=$(cd "$(dirname "${BASH_SOURCE[0]}")" && pwd -P)
-# shellcheck source=kit.sh
-. "$here/kit.sh"
+# shellcheck source=../machine/kit.sh
+. "$here/../machine/kit.sh"
+out=$root/target/host
 
-"$here/build.sh"
+"$root/machine/build.sh" "$here/story.c" "$out/story" "$here/save.c"
 mkdir -p "$out/book"
 rm -f "$out/book/ORDERS.BOOK"
-"$here/run.sh" "$out/story" "$out/book" "$@"
+"$root/machine/run.sh" "$out/story" "$out/book" "$@"

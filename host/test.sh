@@ -5,14 +5,16 @@
 # ones (the plain engine of a bad one is as bad, so that the two do not give each other away); saving on a disk that
 # fails and a machine that stops; the minimal host on a full disk, in a read-only folder and killed 50 times. Beside the
 # kit it wants pkg-config, python3 and, on x86-64, a C compiler.
-# With ARCHIVE, an engine for this machine's own processor (of native.sh, or the reference of tests/pipe/exports): the
-# header, the helpers, the story and saving with the system's compilers (CC, CXX), under the sanitizers of addresses and
-# undefined behaviour.
+# With ARCHIVE, an engine for this machine's own processor (of machine/native.sh, or the reference of
+# tests/pipe/exports): the header, the helpers, the story and saving with the system's compilers (CC, CXX), under the
+# sanitizers of addresses and undefined behaviour.
 set -euo pipefail
 here=$(cd "$(dirname "${BASH_SOURCE[0]}")" && pwd -P)
-# shellcheck source=kit.sh
-. "$here/kit.sh"
-work=$out/test
+# shellcheck source=../machine/kit.sh
+. "$here/../machine/kit.sh"
+work=$root/target/host/test
+build=$root/machine/build.sh
+run=$root/machine/run.sh
 story=$work/story
 stub=$root/tests/pipe/stub.c
 spoiled=$root/fuzz/spoiled.c
@@ -66,8 +68,8 @@ keeps_an_old_book() { # RUN..
 
 sees_a_bad_engine() { # STUB
     kit_clang -std=c99 -O2 -fPIC -DSTUB="$1" -c "$stub" -o "$work/stub.o" &&
-        MPM_ARCHIVE=$work/stub.o "$here/build.sh" "$here/story.c" "$work/bad" "$here/save.c" &&
-        fresh_book && ends_with 1 "$here/run.sh" "$work/bad" "$work/book"
+        MPM_ARCHIVE=$work/stub.o "$build" "$here/story.c" "$work/bad" "$here/save.c" &&
+        fresh_book && ends_with 1 "$run" "$work/bad" "$work/book"
 }
 
 sees_a_fault() { # SPOILED KIND
@@ -76,7 +78,7 @@ sees_a_fault() { # SPOILED KIND
         kit_clang -std=c99 -O2 -fPIC -c "$here/save.c" -o "$work/save.o" &&
         kit_clang -std=c99 -O2 -fPIC "${warnings[@]}" -DSPOILED="$1" -c "$spoiled" -o "$work/spoiled.o" &&
         kit_link "$work/bad" "$work/bad.o" "$work/save.o" "$work/spoiled.o" "$archive" &&
-        fresh_book && ends_with 1 "$here/run.sh" "$work/bad" "$work/book" "$2"
+        fresh_book && ends_with 1 "$run" "$work/bad" "$work/book" "$2"
 }
 
 try_the_story() { # RUN..
@@ -104,15 +106,15 @@ sees_state() { # a host has some
 cc_for_x86_64() {
     [ "$(uname -m)" != x86_64 ] || return 0
     mkdir -p "$work/bin"
-    printf '#!/usr/bin/env bash\n. "%s"\nkit_cc "$@"\n' "$here/kit.sh" >"$work/bin/cc"
+    printf '#!/usr/bin/env bash\n. "%s"\nkit_cc "$@"\n' "$root/machine/kit.sh" >"$work/bin/cc"
     chmod +x "$work/bin/cc"
     PATH=$work/bin:$PATH
 }
 
 # The minimal host, copied away with nothing of the repository but what is installed. It has to serve clerks, too.
 makes_a_host_outside() {
-    local away run=("$here/run.sh")
-    [ "$(uname -m)" != x86_64 ] || run=()
+    local away through=("$run")
+    [ "$(uname -m)" != x86_64 ] || through=()
     away=$(mktemp -d) && "$here/install.sh" "$away/prefix" && cp "$here"/{minimal.c,save.c,save.h} "$away" &&
         mkdir "$away/served" &&
         (
@@ -120,15 +122,15 @@ makes_a_host_outside() {
             cc_for_x86_64 && cd "$away" && export PKG_CONFIG_PATH=$away/prefix/lib/pkgconfig &&
                 cc -std=c99 minimal.c save.c $(pkg-config --cflags --libs mpm) -o minimal &&
                 head -c 65536 /dev/zero | tr '\0' '\345' >IMAGE &&
-                "${run[@]}" ./minimal new BOOK IMAGE && "${run[@]}" ./minimal image BOOK COPY && cmp IMAGE COPY &&
-                python3 "$here/kill.py" --times 1 --seed 3 served "${run[@]}" "$away/minimal"
+                "${through[@]}" ./minimal new BOOK IMAGE && "${through[@]}" ./minimal image BOOK COPY && cmp IMAGE COPY &&
+                python3 "$here/kill.py" --times 1 --seed 3 served "${through[@]}" "$away/minimal"
         ) && rm -r "$away"
 }
 
 # ---- Saving and the minimal host
 
 makes_and_runs() { # SOURCE PROGRAM SOURCES..
-    "$here/build.sh" "$@" && "$here/run.sh" "$2"
+    "$build" "$@" && "$run" "$2"
 }
 
 saves_whatever_stops() { # RUN..
@@ -144,7 +146,7 @@ sees_a_careless_host() {
         -o "$work/bad-1.o" &&
         kit_clang -std=c99 -O2 -fPIC "${warnings[@]}" -DWRONG=CARELESS -c "$here/wrong_save.c" -o "$work/bad-2.o" &&
         kit_link "$work/bad" "$work/bad-1.o" "$work/bad-2.o" "$archive" && fresh_book &&
-        ends_with 1 python3 "$here/full.py" --limit 30000 "$work/book" "$here/run.sh" "$work/bad"
+        ends_with 1 python3 "$here/full.py" --limit 30000 "$work/book" "$run" "$work/bad"
 }
 
 try_saving() { # RUN..
@@ -163,19 +165,19 @@ with_the_kit() {
         -o "$work/header.o"
     try "mpm.h as C++11" kit_clang -x c++ -std=c++11 "${warnings[@]}" -c "$here/header.c" -o "$work/header.o"
     try "the helpers of mpm.h" makes_and_runs "$here/helpers.c" "$work/helpers"
-    "$here/build.sh" "$here/story.c" "$story" "$here/save.c"
+    "$build" "$here/story.c" "$story" "$here/save.c"
     try "the archive has no state of its own" has_no_state "$archive"
     try "a call takes at most 16 KB of stack" makes_and_runs "$here/stack.c" "$work/stack" "$root/bench/stack.c"
     try "a host outside the repository, by pkg-config" makes_a_host_outside
-    "$here/build.sh" "$here/save_faults.c" "$work/save_faults"
-    try_saving "$here/run.sh" "$work/save_faults"
-    "$here/build.sh" "$here/minimal.c" "$work/minimal" "$here/save.c"
+    "$build" "$here/save_faults.c" "$work/save_faults"
+    try_saving "$run" "$work/save_faults"
+    "$build" "$here/minimal.c" "$work/minimal" "$here/save.c"
     try "state of one's own is seen" sees_state
-    try "the minimal host on a full disk and in a read-only folder" "$here/disk.sh" "$here/run.sh" "$work/minimal"
+    try "the minimal host on a full disk and in a read-only folder" "$here/disk.sh" "$run" "$work/minimal"
     try "a host that acknowledges what a full disk has refused is seen" sees_a_careless_host
     "$here/kill.sh"
     "$here/kill.sh" --selftest
-    try_the_story "$here/run.sh" "$story"
+    try_the_story "$run" "$story"
     try "an engine that refuses all is seen" sees_a_bad_engine 1
     try "an engine that accepts all is seen" sees_a_bad_engine 2
     try "an engine that spoils the image is seen" sees_a_bad_engine 6

@@ -7,7 +7,7 @@ here=$(cd "$(dirname "${BASH_SOURCE[0]}")" && pwd -P)
 root=$(cd "$here/.." && pwd -P)
 [ $# -gt 0 ] || set -- --seed 1 --calls 200000
 
-cargo build --quiet --release --offline -j2 --manifest-path "$here/reference/Cargo.toml"
-bash "$root/host/build.sh" "$here/pipe/pipe.c" "$root/target/host/pipe"
-"$here/reference/target/release/compare" "$@" --failures "$root/target/failures" -- \
-    bash "$root/host/run.sh" "$root/target/host/pipe"
+cargo build --quiet --release --offline -j2 --manifest-path "$here/Cargo.toml"
+bash "$root/machine/build.sh" "$here/pipe/pipe.c" "$root/target/pipe/pipe"
+"$here/target/release/compare" "$@" --failures "$root/target/failures" -- \
+    bash "$root/machine/run.sh" "$root/target/pipe/pipe"

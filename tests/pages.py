@@ -4,8 +4,8 @@
     pages.py          prints each line that is wrong; ends with 1 if there is one
     pages.py --wrap   wraps anew each paragraph and list item of a page that has too long a line
 
-Pages are the .md files. Tables, code and headings may be longer. In pages, and in the text files of crates, include, host,
-tests, fuzz, bench and .ci, the document is "document 01", the changes to it "document 02"."""
+Pages are the .md files. Tables, code and headings may be longer. In pages, and in the text files of crates, include,
+machine, host, tests, fuzz, bench and .ci, the document is "document 01", the changes to it "document 02"."""
 import pathlib
 import re
 import sys
@@ -14,7 +14,7 @@ import textwrap
 ROOT = pathlib.Path(__file__).resolve().parent.parent
 COLUMNS = 120
 OTHER_NAMES = re.compile(r"\b(the|this|that) papers?\b|\bpaper's\b|\bscope document\b|\bthe build definition\b")
-FOLDERS = ["crates", "include", "host", "tests", "fuzz", "bench", ".ci"]
+FOLDERS = ["crates", "include", "machine", "host", "tests", "fuzz", "bench", ".ci"]
 ITEM = re.compile(r" *(?:[-*]|\d+\.) +")
 
 

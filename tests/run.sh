@@ -6,7 +6,7 @@ here=$(cd "$(dirname "${BASH_SOURCE[0]}")" && pwd -P)
 seconds=${1:-30}
 log=$(mktemp)
 trap 'rm -f "$log"' EXIT
-cd "$here/reference"
+cd "$here"
 
 # Runs a step quietly; shows its output only if it failed.
 step() {
@@ -29,7 +29,7 @@ if cargo clippy --version >/dev/null 2>&1; then
 fi
 step "test" cargo test --release --offline -j1
 if command -v python3 >/dev/null 2>&1; then
-    step "cases of mpmcalls" python3 "$here/mpmcalls/cases.py" --document -- "$here/reference/target/release/reference-mpmcalls"
+    step "cases of mpmcalls" python3 "$here/mpmcalls/cases.py" --document -- "$here/target/release/reference-mpmcalls"
 fi
 step "compare mpmcalls, 5 seconds" target/release/compare-mpmcalls --seconds 5 -- target/release/reference-mpmcalls
 step "compare over a pipe, 5 seconds" target/release/compare --seconds 5 -- target/release/reference-pipe

@@ -1,9 +1,9 @@
 //! The books that calls are timed on, and the call of each function on them.
 
-use reference::build::{lock_item, open_item, put_entry, put_item, Entry, Fcb};
+use compare::build::{lock_item, open_item, put_entry, put_item, Entry, Fcb};
+use compare::random::Random;
 use reference::calls::DMA_LENGTH;
 use reference::kind::{Kind, ENTRY};
-use reference::random::Random;
 use std::ops::Range;
 
 const LOCKED_FILE: usize = 0;
@@ -202,7 +202,7 @@ fn names(count: usize, random: &mut Random) -> Vec<[u8; 11]> {
     let stem = &"ORDERS"[..8 - digits];
     let mut numbers: Vec<usize> = (0..10usize.pow(digits as u32)).collect();
     random.shuffle(&mut numbers);
-    let name = |number: &usize| reference::build::name(&format!("{stem}{number:0digits$}.DAT"));
+    let name = |number: &usize| compare::build::name(&format!("{stem}{number:0digits$}.DAT"));
     numbers[..count].iter().map(name).collect()
 }
 
@@ -296,7 +296,7 @@ fn full_items(names: &[[u8; 11]], records: u32) -> Vec<[u8; 20]> {
 pub fn call(function: u32, filling: Filling, book: &Book) -> Call {
     let unheld = if filling.is_list_full() { 0 } else { 10 };
     let of = |file: usize| Fcb::of(name(book, file));
-    let fresh = reference::build::name("NEWFILE.DAT");
+    let fresh = compare::build::name("NEWFILE.DAT");
     let (process, fcb) = match function {
         15 => (STRANGER, of(SECOND_FILE).unlocked()),
         19 => (CALLER, of(11)),
@@ -338,7 +338,7 @@ pub fn runs() -> Vec<Run> {
 
 /// The name of a file, or one that no file has.
 fn name(book: &Book, file: usize) -> [u8; 11] {
-    let nobody = reference::build::name("NOBODY.DAT");
+    let nobody = compare::build::name("NOBODY.DAT");
     book.names.get(file).copied().unwrap_or(nobody)
 }
 

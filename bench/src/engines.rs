@@ -1,9 +1,9 @@
 //! The three that are timed and the engine's plain side, called in one way.
 
 use crate::books::Call;
+use compare::engine::{Engine, Reference};
+use compare::linked::Linked;
 use reference::calls::{Buffers, Numbers};
-use reference::engine::{Engine, Reference};
-use reference::linked::Linked;
 
 /// mpm_call and all that have its parameters.
 pub type CCall = unsafe extern "C" fn(

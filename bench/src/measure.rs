@@ -3,9 +3,9 @@
 
 use crate::books::{self, Book, Call, Drive, Filling, Run, BY_RECORDS, COUNTS, FUNCTIONS};
 use crate::engines::{Timed, Who, THREE};
-use reference::engine::Engine;
-use reference::linked::Linked;
-use reference::random::Random;
+use compare::engine::Engine;
+use compare::linked::Linked;
+use compare::random::Random;
 use reference::singly::plain_answer;
 use std::ops::Range;
 use std::time::Instant;

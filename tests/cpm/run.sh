@@ -41,7 +41,7 @@ kind=0 block=1024 in_block=8
 first_kind() { kind=0 block=1024 in_block=8; }
 second_kind() { kind=1 block=2048 in_block=16; }
 
-book() { bash "$root/host/run.sh" "$work/book" "$kind" "$@"; }
+book() { bash "$root/machine/run.sh" "$work/book" "$kind" "$@"; }
 
 # A refusal ends the commands; its line is what is wanted then.
 refused() { # WANTED IMAGE COMMANDS..
@@ -561,7 +561,7 @@ define_all() {
 
 install_tools
 ok "cpmtools"
-bash "$root/host/build.sh" "$here/book.c" "$work/book" || fail "book.c cannot be built"
+bash "$root/machine/build.sh" "$here/book.c" "$work/book" || fail "book.c cannot be built"
 ok "book.c with the kit alone"
 
 cd "$work"

@@ -6,5 +6,5 @@ here=$(cd "$(dirname "${BASH_SOURCE[0]}")" && pwd -P)
 root=$(cd "$here/../.." && pwd -P)
 [ $# -gt 0 ] || set -- --runs 300
 
-cargo build --quiet --release --offline -j2 --manifest-path "$root/tests/reference/Cargo.toml"
-"$root/tests/reference/target/release/compare-mpmcalls" "$@" -- bash "$root/host/run.sh" "$root/target/bin/mpmcalls"
+cargo build --quiet --release --offline -j2 --manifest-path "$root/tests/Cargo.toml"
+"$root/tests/target/release/compare-mpmcalls" "$@" -- bash "$root/machine/run.sh" "$root/target/bin/mpmcalls"

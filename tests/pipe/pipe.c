@@ -1,5 +1,5 @@
 /* Serves the engine's functions over a pipe: steps come in batches on descriptor 0, replies go
-   out on descriptor 1. reference/src/wire.rs has the bytes of steps and replies; a batch is its
+   out on descriptor 1. compare/src/wire.rs has the bytes of steps and replies; a batch is its
    length (4 bytes, low byte first) and then so many bytes of whole steps.
 
    Every buffer lent to the engine lies in an area of its own between guard bytes. Each call is
@@ -8,7 +8,7 @@
 
    An image over 64 KB is compared whole only when a step asks for it. After the others it is
    compared where a right call can change it: in the directory, and in the blocks that entries have
-   for the call's records, before the call or after it. reference/src/parts.rs does the same.
+   for the call's records, before the call or after it. compare/src/parts.rs does the same.
 
    Exit status: 0 at the end of input, 3 for a batch that makes no sense, 4 if writing fails. */
 

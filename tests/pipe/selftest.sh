@@ -3,10 +3,10 @@
 # that is wrong about the kind of drive different. Needs a C compiler (CC, else cc) and the built `compare`.
 set -euo pipefail
 here=$(cd "$(dirname "${BASH_SOURCE[0]}")" && pwd -P)
-compare=$here/../reference/target/release/compare
+compare=$here/../target/release/compare
 seconds=${1:-5}
 flags=(-std=c99 -O2 -Wall -Wextra -Wpedantic -Wshadow -Wconversion -Werror)
-archive=$here/exports/target/release/libexports.a
+archive=$here/../target/release/libexports.a
 libraries=(-lpthread -ldl -lm)
 work=$(mktemp -d)
 trap 'rm -rf "$work"' EXIT
@@ -33,7 +33,7 @@ build_wrong() { # NUMBER FILE FUNCTIONS..
     "${CC:-cc}" "${flags[@]}" -DWRONG="$number" "$work/pipe.o" "$here/$file" "$archive" "${libraries[@]}" -o "$work/engine"
 }
 
-cargo build --quiet --release --offline -j1 --manifest-path "$here/exports/Cargo.toml"
+cargo build --quiet --release --offline -j1 -p exports --manifest-path "$here/../Cargo.toml"
 "${CC:-cc}" "${flags[@]}" "$here/pipe.c" "$archive" "${libraries[@]}" -o "$work/pipe"
 "$compare" --seconds "$seconds" --failures "$work/failures" -- "$work/pipe" >"$work/out" 2>/dev/null || {
     cat "$work/out"

@@ -1,2 +1,3 @@
+-- The proofs of `directory`.
 pub mod Arms
 pub mod Places

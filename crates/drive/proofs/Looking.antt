@@ -67,12 +67,14 @@ module _ (kind : Kind) (r : Bool) (top u : ℕ) (name s : List ℕ) (e : r ≡ m
   unfolding lookBlock _if_else_
   looked-block f b q h g = rw may (g ∙ ap (λ (x : File). blockOf kind s x q) h)
 
-pub looked-not : (kind : Kind) (r : Bool) (top u : ℕ) (name s : List ℕ) (q : ℕ) → r ≡ mayLook kind top u name s → not r ≡ true → 0 ≡ lookBlock kind top u name q s
+pub looked-not : (kind : Kind) (r : Bool) (top u : ℕ) (name s : List ℕ) (q : ℕ) → r ≡ mayLook kind top u name s → not r ≡ true
+    → 0 ≡ lookBlock kind top u name q s
 unfolding lookBlock _if_else_
 looked-not kind r top u name s q e n = let k : mayLook kind top u name s ≡ false = sym e ∙ not-true r n in rw k
 
 -- where its part begins
-pub look-begins : (kind : Kind) (r b top u : ℕ) (name : List ℕ) (q : ℕ) (s : List ℕ) → b ≡ lookBlock kind top u name q s → r ≡ partAt kind b q → r ≡ lookAt kind top u name q s
+pub look-begins : (kind : Kind) (r b top u : ℕ) (name : List ℕ) (q : ℕ) (s : List ℕ) → b ≡ lookBlock kind top u name q s → r ≡ partAt kind b q
+    → r ≡ lookAt kind top u name q s
 unfolding lookAt
 look-begins kind r b top u name q s h e = e ∙ ap (λ (x : ℕ). partAt kind x q) h
 

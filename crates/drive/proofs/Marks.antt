@@ -94,7 +94,8 @@ pub marks-long : (kind : Kind) (low : ℕ) (s : List ℕ) (e k : ℕ) (seen : Li
 marks-long kind low s e k seen b m l = omega (arith, m .long)
 
 -- a number in range has a mark
-pub range-fits : (kind : Kind) (s : List ℕ) (e k m b : ℕ) → all (inRange kind s e) (numbers kind) ≡ true → m ≡ numbers kind → k < m → b ≡ mapNumber kind s e k → (b ≡ 0 → ⊥) → blocks kind s ≤ most kind → b < most kind
+pub range-fits : (kind : Kind) (s : List ℕ) (e k m b : ℕ) → all (inRange kind s e) (numbers kind) ≡ true → m ≡ numbers kind → k < m → b ≡ mapNumber kind s e k
+    → (b ≡ 0 → ⊥) → blocks kind s ≤ most kind → b < most kind
 unfolding inRange
 range-fits kind s e k m b h q l is z f =
     let r = or-so _ _ (all-at (inRange kind s e) (numbers kind) k h (omega arith)) (ne-eqb _ _ (λ w. z (is ∙ w))) in
@@ -102,7 +103,8 @@ range-fits kind s e k m b h q l is z f =
     omega arith
 
 -- it is in range by what the callees answered
-pub range-as : (kind : Kind) (r : Bool) (s : List ℕ) (e k b n : ℕ) → b ≡ mapNumber kind s e k → n ≡ blocks kind s → r ≡ (eqb b 0 or (leb 2 b and ltb b n)) → r ≡ inRange kind s e k
+pub range-as : (kind : Kind) (r : Bool) (s : List ℕ) (e k b n : ℕ) → b ≡ mapNumber kind s e k → n ≡ blocks kind s → r ≡ (eqb b 0 or (leb 2 b and ltb b n))
+    → r ≡ inRange kind s e k
 unfolding inRange
 range-as kind r s e k b n p q h = rw (← p, ← q) h
 
@@ -131,7 +133,8 @@ to-next : (kind : Kind) (s : List ℕ) (x e : ℕ) → namedBefore kind s x e 0 
 unfolding namedBefore
 to-next kind s x e = or-off _ _ (any-empty (holdsNumber kind s x e))
 
-marks-empty : (kind : Kind) (low : ℕ) (s : List ℕ) (e : ℕ) (seen : List ℕ) (r : Bool) → Marks kind low s e 0 seen → r ≡ isEmpty s e → r ≡ true → Marks kind low s (e + 1) 0 seen
+marks-empty : (kind : Kind) (low : ℕ) (s : List ℕ) (e : ℕ) (seen : List ℕ) (r : Bool) → Marks kind low s e 0 seen → r ≡ isEmpty s e → r ≡ true
+    → Marks kind low s (e + 1) 0 seen
 unfolding namesBlock _and_
 marks-empty kind low s e seen r m h t = record {
   long = m .long;
@@ -148,7 +151,8 @@ any-as : (f : ℕ → Bool) (e : ℕ) (t : Bool) → f e ≡ t → (any f e or t
 unfolding any
 any-as f e t h = rw (add-one, h)
 
-marks-used : (kind : Kind) (low : ℕ) (s : List ℕ) (e k : ℕ) (seen : List ℕ) → Marks kind low s e k seen → k ≡ numbers kind → isEmpty s e ≡ false → Marks kind low s (e + 1) 0 seen
+marks-used : (kind : Kind) (low : ℕ) (s : List ℕ) (e k : ℕ) (seen : List ℕ) → Marks kind low s e k seen → k ≡ numbers kind → isEmpty s e ≡ false
+    → Marks kind low s (e + 1) 0 seen
 unfolding namedBefore
 marks-used kind low s e k seen m q u = record {
   long = m .long;
@@ -167,7 +171,8 @@ module _ (kind : Kind) (top : ℕ) (s : List ℕ) (e : ℕ) (seen : List ℕ) wh
   pub judged-bad : false ≡ goodEntry kind top s e → Judged kind top s e false seen
   judged-bad h = record { good = h; marks = λ q. absurd (true≢false (sym q)) }
 
-  pub judged-last : (r m t : Bool) → r ≡ isEmpty s e → r ≡ false → Marked kind s e m seen → not m ≡ false → not t ≡ goodEntry kind top s e → Judged kind top s e (not t) seen
+  pub judged-last : (r m t : Bool) → r ≡ isEmpty s e → r ≡ false → Marked kind s e m seen → not m ≡ false → not t ≡ goodEntry kind top s e
+      → Judged kind top s e (not t) seen
   judged-last r m t h u k n g = record { good = g; marks = λ q. marks-used kind 1 s e (numbers kind) seen (k .marks (not-false m n)) refl (sym h ∙ u) }
 
   pub judged-marks : (r : Bool) → Judged kind top s e r seen → not r ≡ false → Marks kind 1 s (e + 1) 0 seen
@@ -184,7 +189,8 @@ used-none kind s v u m g =
     rw g (record {
       directory = λ x l.
           ⊎-elim (λ (q : x ≡ 1). rw q (set-here t 1 (omega (arith, m .long))))
-          (λ (q : x ≡ 1 → ⊥). let z : x ≡ 0 = omega arith in rw z (set-stays t 1 0 (omega (arith, m .long)) (set-here v 0 (omega (arith, m .long))))) (equal? x 1);
+          (λ (q : x ≡ 1 → ⊥). let z : x ≡ 0 = omega arith in rw z (set-stays t 1 0 (omega (arith, m .long)) (set-here v 0 (omega (arith, m .long)))))
+          (equal? x 1);
       named = record {
         long = rw (length-bit t 1, o) (m .long);
         mark = λ x p l.
@@ -222,10 +228,12 @@ module _ (kind : Kind) (s : List ℕ) (e k : ℕ) (used : List ℕ) (u : InUse k
 pub used-long : (used : List ℕ) (b : ℕ) → b / 8 < length used → b < 8 * length used
 used-long used b l = omega arith
 
-pub used-empty : (kind : Kind) (s : List ℕ) (e : ℕ) (used : List ℕ) (r : Bool) → InUse kind s e 0 used → r ≡ isEmpty s e → r ≡ true → InUse kind s (e + 1) 0 used
+pub used-empty : (kind : Kind) (s : List ℕ) (e : ℕ) (used : List ℕ) (r : Bool) → InUse kind s e 0 used → r ≡ isEmpty s e → r ≡ true
+    → InUse kind s (e + 1) 0 used
 used-empty kind s e used r u h t = record { directory = u .directory; named = marks-empty kind 2 s e used r (u .named) h t }
 
-pub used-end : (kind : Kind) (s : List ℕ) (e n : ℕ) (used : List ℕ) → InUse kind s e 0 used → n ≡ entries kind → n ≤ e → e ≤ n → InUse kind s (entries kind) 0 used
+pub used-end : (kind : Kind) (s : List ℕ) (e n : ℕ) (used : List ℕ) → InUse kind s e 0 used → n ≡ entries kind → n ≤ e → e ≤ n
+    → InUse kind s (entries kind) 0 used
 used-end kind s e n used u is g h = let q : e ≡ entries kind = omega arith in rw q at u
 
 -- a clear bit is a free block
@@ -289,7 +297,20 @@ module _ (kind one : Kind) (s : List ℕ) (q : kind ≡ one) where
 
 pub ruleset one-kind = (one-long, one-few, one-blocks, one-range, all-range, one-marks, one-marked, one-good, one-lowest, one-count, one-fits)
 
-pub ruleset marking = (needs, all-none, all-more, marks-skip, marks-set, range-fits, marks-long, marked-twice, marked-all, first-zero, first-unmarked, first-marked)
+pub ruleset marking = (
+  needs,
+  all-none,
+  all-more,
+  marks-skip,
+  marks-set,
+  range-fits,
+  marks-long,
+  marked-twice,
+  marked-all,
+  first-zero,
+  first-unmarked,
+  first-marked,
+)
 
 pub ruleset noting = (needs, is-no, small-none, large-none, none-long, used-none, used-set, used-skip, used-past, used-full, used-long, used-empty, used-end)
 

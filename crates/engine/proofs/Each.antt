@@ -28,13 +28,15 @@ use Rattle.rules.specs.declared.kind.Kind.{Kind}
 
 -- ---- its FCB and its DMA
 
-pub fcb-made : (fcb zero a v own : List ℕ) (r i : ℕ) → length fcb ≡ 36 → length zero ≡ 36 → r ≡ recordOf fcb → a ≡ put 0 fcb zero → v ≡ threeOf (r + i) → own ≡ put 33 v a → own ≡ fcbAt i fcb
+pub fcb-made : (fcb zero a v own : List ℕ) (r i : ℕ) → length fcb ≡ 36 → length zero ≡ 36 → r ≡ recordOf fcb → a ≡ put 0 fcb zero → v ≡ threeOf (r + i)
+    → own ≡ put 33 v a → own ≡ fcbAt i fcb
 unfolding fcbAt
 fcb-made fcb zero a v own r i n m hr ha hv h =
     h ∙ ap (λ (x : List ℕ). put 33 x a) (hv ∙ ap (λ (x : ℕ). threeOf (x + i)) hr)
     ∙ ap (λ (x : List ℕ). put 33 (threeOf (recordOf fcb + i)) x) (ha ∙ put-whole fcb zero (n ∙ sym m))
 
-pub dma-made : (dma zero a own : List ℕ) (i : ℕ) → length dma ≡ 2048 → length zero ≡ 2048 → a ≡ put 0 dma zero → own ≡ put 0 (take (128 * i + 128 - 128 * i) (drop (128 * i) dma)) a → own ≡ dmaAt i dma
+pub dma-made : (dma zero a own : List ℕ) (i : ℕ) → length dma ≡ 2048 → length zero ≡ 2048 → a ≡ put 0 dma zero
+    → own ≡ put 0 (take (128 * i + 128 - 128 * i) (drop (128 * i) dma)) a → own ≡ dmaAt i dma
 unfolding dmaAt
 dma-made dma zero a own i n m ha h =
     let k : 128 * i + 128 - 128 * i ≡ 128 = omega arith in
@@ -42,15 +44,18 @@ dma-made dma zero a own i n m ha h =
 
 -- ---- the single call
 
-module _ (kind : Kind) (n p i : ℕ) (b : Buffers) (fcb dma : List ℕ) (hf : fcb ≡ fcbAt i (b .fcb)) (hd : dma ≡ dmaAt i (b .dma)) (code : ℕ) (fcb′ dma′ list′ image′ : List ℕ) (d : Did (callBy kind false n p 1 (buffers fcb dma (b .list) (b .image))) code fcb′ dma′ list′ image′) where
+module _ (kind : Kind) (n p i : ℕ) (b : Buffers) (fcb dma : List ℕ) (hf : fcb ≡ fcbAt i (b .fcb)) (hd : dma ≡ dmaAt i (b .dma)) (code : ℕ)
+    (fcb′ dma′ list′ image′ : List ℕ) (d : Did (callBy kind false n p 1 (buffers fcb dma (b .list) (b .image))) code fcb′ dma′ list′ image′) where
   as-single : Did (call kind n p 1 (single i b)) code fcb′ dma′ list′ image′
   unfolding callBy single
-  as-single = did-as _ _ code fcb′ dma′ list′ image′ (ap (λ (x : List ℕ). call kind n p 1 (buffers x dma (b .list) (b .image))) hf ∙ ap (λ (x : List ℕ). call kind n p 1 (buffers (fcbAt i (b .fcb)) x (b .list) (b .image))) hd) d
+  as-single = did-as _ _ code fcb′ dma′ list′ image′ (ap (λ (x : List ℕ). call kind n p 1 (buffers x dma (b .list) (b .image))) hf
+      ∙ ap (λ (x : List ℕ). call kind n p 1 (buffers (fcbAt i (b .fcb)) x (b .list) (b .image))) hd) d
 
   still : (code ≡ 0 → ⊥) → call kind n p 1 (single i b) .left ≡ single i b
   still z =
       ⊎-elim (λ (h : anyRow (rowsCall kind n p 1 (single i b)) ≡ true). ap (λ (o : Outcome). o .left) (refused kind n p 1 (single i b) h))
-      (λ (h : anyRow (rowsCall kind n p 1 (single i b)) ≡ false). absurd (z (as-single .gives ∙ accepted-zero kind n p 1 (single i b) h))) (either (anyRow (rowsCall kind n p 1 (single i b))))
+      (λ (h : anyRow (rowsCall kind n p 1 (single i b)) ≡ false). absurd (z (as-single .gives ∙ accepted-zero kind n p 1 (single i b) h)))
+      (either (anyRow (rowsCall kind n p 1 (single i b))))
 
   -- refused
   pub one-refused : (code ≡ 0 → ⊥) → DidSingle kind n p i b code (b .dma) list′ image′
@@ -122,7 +127,8 @@ module _ (kind : Kind) (n p c i : ℕ) (b : Buffers) (fcb₁ dma₁ list₁ imag
 
 module _ (kind : Kind) (n p c : ℕ) (b : Buffers) (r : Bool) (e : r ≡ servesRun n) where
   -- one that takes no run of records
-  pub singly-other : (a : ℕ) (fcb dma list image : List ℕ) → not r ≡ true → Did (callBy kind false n p c b) a fcb dma list image → Did (callSingly kind n p c b) a fcb dma list image
+  pub singly-other : (a : ℕ) (fcb dma list image : List ℕ) → not r ≡ true → Did (callBy kind false n p c b) a fcb dma list image
+      → Did (callSingly kind n p c b) a fcb dma list image
   unfolding callBy
   singly-other a fcb dma list image h d = did-as _ _ a fcb dma list image (sym (singly-plain kind n p c b (not-no r _ e h))) d
 
@@ -132,11 +138,13 @@ module _ (kind : Kind) (n p c : ℕ) (b : Buffers) (r : Bool) (e : r ≡ servesR
     singly-stopped z =
         did-as _ _ _ _ _ _ _ (ap (λ (a : ℕ). outcome a b) k ∙ sym (singly-refused kind n p c b (not-yes r _ e h) (λ q. z (k ∙ q)))) (did-none code b)
 
-    pub singly-went : (a : ℕ) (fcb dma list image : List ℕ) → code ≡ 0 → Did (singly (several kind n p c b)) a fcb dma list image → Did (callSingly kind n p c b) a fcb dma list image
+    pub singly-went : (a : ℕ) (fcb dma list image : List ℕ) → code ≡ 0 → Did (singly (several kind n p c b)) a fcb dma list image
+        → Did (callSingly kind n p c b) a fcb dma list image
     singly-went a fcb dma list image z d = did-as _ _ a fcb dma list image (sym (singly-told kind n p c b (not-yes r _ e h) (sym k ∙ z))) d
 
 -- what the general table leaves to the single calls
-module _ (kind : Kind) (n p c : ℕ) (fcb dma list image : List ℕ) (code : ℕ) (k : code ≡ firstOf (rowsAll kind n p c (buffers fcb dma list image))) (z : code ≡ 0) where
+module _ (kind : Kind) (n p c : ℕ) (fcb dma list image : List ℕ) (code : ℕ) (k : code ≡ firstOf (rowsAll kind n p c (buffers fcb dma list image)))
+    (z : code ≡ 0) where
   all : Passed kind p c (buffers fcb dma list image)
   all = passed kind n p c _ (zero-none (rowsAll kind n p c (buffers fcb dma list image)) (nonzero-all kind n p c (buffers fcb dma list image)) (sym k ∙ z))
 

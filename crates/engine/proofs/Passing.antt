@@ -46,7 +46,8 @@ pub is-call : (n : ℕ) (r : Chosen) (k : Routine) → r ≡ chosen n → r ≡ 
 is-call n r k g h = sym g ∙ h
 
 -- one step down the list of function numbers
-key : (n m : ℕ) (j k : Routine) (rest : Chosen) → functionOf j ≡ m → (Call j if eqb n m else rest) ≡ Call k → (rest ≡ Call k → n ≡ functionOf k) → n ≡ functionOf k
+key : (n m : ℕ) (j k : Routine) (rest : Chosen) → functionOf j ≡ m → (Call j if eqb n m else rest) ≡ Call k → (rest ≡ Call k → n ≡ functionOf k)
+    → n ≡ functionOf k
 unfolding _if_else_
 key n m j k rest g h next =
     ⊎-elim
@@ -171,7 +172,8 @@ module _ (kind : Kind) (z : Bool) (n p c : ℕ) (b : Buffers) where
       ends-refused = refused code table
 
       -- the call is served
-      pub ends-served : (q : Chosen) (k : Routine) (a : ℕ) (fcb dma list image : List ℕ) → code ≡ 0 → q ≡ chosen n → Did (servedBy kind z n k p c b) a fcb dma list image → q ≡ Call k → Did (callBy kind z n p c b) a fcb dma list image
+      pub ends-served : (q : Chosen) (k : Routine) (a : ℕ) (fcb dma list image : List ℕ) → code ≡ 0 → q ≡ chosen n
+          → Did (servedBy kind z n k p c b) a fcb dma list image → q ≡ Call k → Did (callBy kind z n p c b) a fcb dma list image
       ends-served q k a fcb dma list image y g d m =
           did-as _ _ a fcb dma list image (sym (by-served k (sym g ∙ m) (sym table ∙ y))) d
 

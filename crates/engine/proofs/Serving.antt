@@ -53,12 +53,14 @@ module _ (kind : Kind) (z : Bool) (n p c : ℕ) (k : Routine) (b : Buffers) (a :
   by-one h d = let q : z ≡ false = not-true z h in rw q d
 
   -- a call that takes no run of records
-  pub by-none : not z ≡ false → (n ≡ 33 → ⊥) → (n ≡ 34 → ⊥) → (n ≡ 40 → ⊥) → Did (served kind (Call k) p c b) a fcb dma list image → Did (servedBy kind z n k p c b) a fcb dma list image
+  pub by-none : not z ≡ false → (n ≡ 33 → ⊥) → (n ≡ 34 → ⊥) → (n ≡ 40 → ⊥) → Did (served kind (Call k) p c b) a fcb dma list image
+      → Did (servedBy kind z n k p c b) a fcb dma list image
   unfolding servedBy servesRun _or_ _if_else_
   by-none h x y w d = let q : z ≡ true = not-false z h in rw (q, ne-eqb n 33 x, ne-eqb n 34 y, ne-eqb n 40 w) d
 
   -- one that does, of that number
-  pub by-run : (m : ℕ) → not z ≡ false → n ≡ m → servesRun m ≡ true → Did (told (several kind m p c b)) a fcb dma list image → Did (servedBy kind z n k p c b) a fcb dma list image
+  pub by-run : (m : ℕ) → not z ≡ false → n ≡ m → servesRun m ≡ true → Did (told (several kind m p c b)) a fcb dma list image
+      → Did (servedBy kind z n k p c b) a fcb dma list image
   unfolding servedBy _if_else_
   by-run m h e s d = let q : z ≡ true = not-false z h in rw (q, e, s) d
 

@@ -24,15 +24,18 @@ module _ (n : ℕ) (t : Told) (is : t ≡ toldKind n) where
     kind-is : Known kind ≡ toldKind n
     kind-is = sym known ∙ is
 
-    pub call-known : (f p c : ℕ) (b : Buffers) (a : ℕ) (fcb dma list image : List ℕ) → Did (callBy kind true f p c b) a fcb dma list image → Did (callTold (toldKind n) f p c b) a fcb dma list image
+    pub call-known : (f p c : ℕ) (b : Buffers) (a : ℕ) (fcb dma list image : List ℕ) → Did (callBy kind true f p c b) a fcb dma list image
+        → Did (callTold (toldKind n) f p c b) a fcb dma list image
     unfolding callTold callBy
     call-known f p c b a fcb dma list image d = did-as _ _ a fcb dma list image (ap (λ (x : Told). callTold x f p c b) kind-is) d
 
-    pub singly-known : (f p c : ℕ) (b : Buffers) (a : ℕ) (fcb dma list image : List ℕ) → Did (callSingly kind f p c b) a fcb dma list image → Did (singlyTold (toldKind n) f p c b) a fcb dma list image
+    pub singly-known : (f p c : ℕ) (b : Buffers) (a : ℕ) (fcb dma list image : List ℕ) → Did (callSingly kind f p c b) a fcb dma list image
+        → Did (singlyTold (toldKind n) f p c b) a fcb dma list image
     unfolding singlyTold
     singly-known f p c b a fcb dma list image d = did-as _ _ a fcb dma list image (ap (λ (x : Told). singlyTold x f p c b) kind-is) d
 
-    pub start-known : (c o k : ℕ) (users list : List ℕ) (a : ℕ) (left : List ℕ) → DidStart (start c o k users list) a left → DidStart (startTold (toldKind n) c o k users list) a left
+    pub start-known : (c o k : ℕ) (users list : List ℕ) (a : ℕ) (left : List ℕ) → DidStart (start c o k users list) a left
+        → DidStart (startTold (toldKind n) c o k users list) a left
     unfolding startTold
     start-known c o k users list a left d =
         let e : start c o k users list ≡ startTold (toldKind n) c o k users list = ap (λ (x : Told). startTold x c o k users list) kind-is in
@@ -61,7 +64,8 @@ module _ (n : ℕ) (t : Told) (is : t ≡ toldKind n) where
     pub start-other : (c o k : ℕ) (users list : List ℕ) → DidStart (startTold (toldKind n) c o k users list) 3583 list
     unfolding startTold
     start-other c o k users list =
-        let e : _≡_ {A = Started} (record { answer = 3583; list = list }) (startTold (toldKind n) c o k users list) = ap (λ (x : Told). startTold x c o k users list) other-is in
+        let e : _≡_ {A = Started} (record { answer = 3583; list = list }) (startTold (toldKind n) c o k users list) = ap
+        (λ (x : Told). startTold x c o k users list) other-is in
         record { gives = ap (λ (x : Started). x .answer) e; leaves = ap (λ (x : Started). x .list) e }
 
     pub check-other : (s : List ℕ) → 1 ≡ checkTold (toldKind n) s

@@ -3,6 +3,7 @@ use crate::refuse::bad_numbers;
 use crate::refuse::refusal;
 use crate::serve::serve_by;
 use locklist::unpack::unpack;
+use rules::code::BAD_CALL;
 use rules::kind::Kind;
 use rules::routine::Chosen;
 ghost use mathlib.Core.Path.{_≡_};
@@ -27,10 +28,10 @@ pub fn answer(
 {
     let chosen = routine_of(function);
     let Chosen::Call(routine) = chosen else {
-        return 3583;
+        return BAD_CALL;
     };
     if bad_numbers(function, routine, process, count, &*fcb, &*dma, &*list) {
-        return 3583;
+        return BAD_CALL;
     }
     let l = unpack(&*list);
     let code = refusal(kind, function, routine, l, &*fcb, &*list, &*image);
@@ -67,10 +68,10 @@ pub fn general_refusal(
 {
     let chosen = routine_of(function);
     let Chosen::Call(routine) = chosen else {
-        return 3583;
+        return BAD_CALL;
     };
     if bad_numbers(function, routine, process, count, fcb, dma, list) {
-        return 3583;
+        return BAD_CALL;
     }
     refusal(kind, function, routine, unpack(list), fcb, list, image)
 }

@@ -10,6 +10,7 @@ use drive::check::image_check;
 use drive::look::look_at;
 use locklist::start::start;
 use rules::answer::image_number;
+use rules::code::BAD_CALL;
 use rules::kind::Told;
 use rules::kind::told_kind;
 use singly::answer_singly;
@@ -35,7 +36,7 @@ pub extern "C" fn mpm_call(
 {
     let told = told_kind(kind);
     let Told::Known(known) = told else {
-        return 3583;
+        return BAD_CALL;
     };
     answer(known, true, function, process, count, fcb, dma, list, image)
 }
@@ -56,7 +57,7 @@ pub extern "C" fn mpm_singly(
 {
     let told = told_kind(kind);
     let Told::Known(known) = told else {
-        return 3583;
+        return BAD_CALL;
     };
     answer_singly(known, function, process, count, fcb, dma, list, image)
 }
@@ -75,7 +76,7 @@ pub extern "C" fn mpm_start(
 {
     let told = told_kind(kind);
     let Told::Known(_) = told else {
-        return 3583;
+        return BAD_CALL;
     };
     start(capacity, opens, locks, users, list)
 }

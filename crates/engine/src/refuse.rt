@@ -1,5 +1,8 @@
 use drive::check::sound_image;
 use listcheck::check::sound_list;
+use rules::code::BAD_DRIVE;
+use rules::code::BAD_IMAGE;
+use rules::code::BAD_LIST;
 use rules::kind::Kind;
 use rules::list::LockList;
 use rules::routine::Routine;
@@ -90,13 +93,13 @@ pub fn refusal(
     ensures { λ c. ⌜ c ≡ firstOf (rowsInside kind function (now (fcb .entry)) (now (list .entry)) (now (image .entry))) ⌝ }
 {
     if !sound_image(kind, image, 262143) {
-        return 511;
+        return BAD_IMAGE;
     }
     if !sound_list(kind, l, list, image) {
-        return 3327;
+        return BAD_LIST;
     }
     if bad_drive(function, routine, fcb) {
-        return 1279;
+        return BAD_DRIVE;
     }
     0
 }

@@ -1,3 +1,4 @@
+-- The proofs of `files`.
 pub mod Opening
 pub mod Making
 pub mod Removing

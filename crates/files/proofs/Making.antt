@@ -24,15 +24,18 @@ use Rattle.files.specs.By.{by22}
 use Rattle.rules.specs.declared.kind.Kind.{Kind}
 
 -- the lowest empty entry is there
-pub make-room : (kind : Kind) (p : ℕ) (l : LockList) (x : Found) (fcb s : List ℕ) (c e : ℕ) → c ≡ firstOf (rows22 kind p l x fcb s) → c ≡ 0 → e ≡ freeEntry kind s → e < entries kind
+pub make-room : (kind : Kind) (p : ℕ) (l : LockList) (x : Found) (fcb s : List ℕ) (c e : ℕ) → c ≡ firstOf (rows22 kind p l x fcb s) → c ≡ 0
+    → e ≡ freeEntry kind s → e < entries kind
 unfolding rows22
 make-room kind p l x fcb s c e hc z he =
     let k = leb-false (entries kind) (freeEntry kind s)
     (row-off 255 _ _ (λ y. omega arith)
-    (row-rest 3071 _ _ (λ y. omega arith) (row-rest 2815 _ _ (λ y. omega arith) (row-rest 2303 _ _ (λ y. omega arith) (row-rest 2559 _ _ (λ y. omega arith) (sym hc ∙ z)))))) in
+    (row-rest 3071 _ _ (λ y. omega arith) (row-rest 2815 _ _ (λ y. omega arith)
+    (row-rest 2303 _ _ (λ y. omega arith) (row-rest 2559 _ _ (λ y. omega arith) (sym hc ∙ z)))))) in
     omega (arith, he)
 
-module _ (kind : Kind) (p : ℕ) (l : LockList) (f : File) (b : Buffers) (x : Found) (c : ℕ) (hx : x ≡ lookUp kind (b .image) f) (hc : c ≡ firstOf (rows22 kind p l x (b .fcb) (b .image))) where
+module _ (kind : Kind) (p : ℕ) (l : LockList) (f : File) (b : Buffers) (x : Found) (c : ℕ) (hx : x ≡ lookUp kind (b .image) f)
+    (hc : c ≡ firstOf (rows22 kind p l x (b .fcb) (b .image))) where
   table : c ≡ firstOf (rows22 kind p l (lookUp kind (b .image) f) (b .fcb) (b .image))
   table = hc ∙ ap (λ (y : Found). firstOf (rows22 kind p l y (b .fcb) (b .image))) hx
 
@@ -40,7 +43,9 @@ module _ (kind : Kind) (p : ℕ) (l : LockList) (f : File) (b : Buffers) (x : Fo
   unfolding by22
   make-refused n = did-refuse _ b _ c table n
 
-  pub make-done : (mode e at : ℕ) (image fcb : List ℕ) (m : LockList) (list : List ℕ) → c ≡ 0 → mode ≡ makeMode (b .fcb) → e ≡ freeEntry kind (b .image) → at ≡ freePlace l → image ≡ made e f (b .image) → fcb ≡ fcbOpened image e mode at (b .fcb) → m ≡ opened p f mode l → list ≡ pack m → Did (by22 kind p l f b) 0 fcb (b .dma) list image
+  pub make-done : (mode e at : ℕ) (image fcb : List ℕ) (m : LockList) (list : List ℕ) → c ≡ 0 → mode ≡ makeMode (b .fcb) → e ≡ freeEntry kind (b .image)
+      → at ≡ freePlace l → image ≡ made e f (b .image) → fcb ≡ fcbOpened image e mode at (b .fcb) → m ≡ opened p f mode l → list ≡ pack m
+      → Did (by22 kind p l f b) 0 fcb (b .dma) list image
   unfolding by22 does22 makes
   make-done mode e at image fcb m list z hm he ha hi hf hl hp =
       let i : image ≡ made (freeEntry kind (b .image)) f (b .image) = hi ∙ ap (λ (k : ℕ). made k f (b .image)) he in
@@ -57,7 +62,8 @@ module _ (kind : Kind) (p : ℕ) (l : LockList) (f : File) (b : Buffers) (x : Fo
         leaves-image = i;
       })
 
-pub make-called : (kind : Kind) (p c : ℕ) (b : Buffers) (l : LockList) (f : File) (a : ℕ) (fcb dma list image : List ℕ) → l ≡ unpack (b .list) → f ≡ callerFile p l (b .fcb) → Did (by22 kind p l f b) a fcb dma list image → Did (served kind (Call Make) p c b) a fcb dma list image
+pub make-called : (kind : Kind) (p c : ℕ) (b : Buffers) (l : LockList) (f : File) (a : ℕ) (fcb dma list image : List ℕ) → l ≡ unpack (b .list)
+    → f ≡ callerFile p l (b .fcb) → Did (by22 kind p l f b) a fcb dma list image → Did (served kind (Call Make) p c b) a fcb dma list image
 unfolding by22 rowsOf effectOf askedBy
 make-called kind p c b l f a fcb dma list image hl hf d =
     did-as _ _ a fcb dma list image (served-as kind (Call Make) p c b l f (recordOf (b .fcb)) hl hf refl) d

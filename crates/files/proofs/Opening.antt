@@ -27,7 +27,8 @@ use Rattle.files.specs.By.{by15}
 use Rattle.rules.specs.declared.kind.Kind.{Kind}
 
 -- the FCB's two steps
-pub fcb-mapped : (s : List ℕ) (e : ℕ) (fcb mid out : List ℕ) → mid ≡ put 12 (0 ∷ 0 ∷ 0 ∷ []) fcb → out ≡ put 15 (take (32 * e + 15 + 17 - (32 * e + 15)) (drop (32 * e + 15) s)) mid → out ≡ fcbMapped s e fcb
+pub fcb-mapped : (s : List ℕ) (e : ℕ) (fcb mid out : List ℕ) → mid ≡ put 12 (0 ∷ 0 ∷ 0 ∷ []) fcb
+    → out ≡ put 15 (take (32 * e + 15 + 17 - (32 * e + 15)) (drop (32 * e + 15) s)) mid → out ≡ fcbMapped s e fcb
 unfolding fcbMapped
 fcb-mapped s e fcb mid out h k =
     let n : 32 * e + 15 + 17 - (32 * e + 15) ≡ 17 = omega arith in
@@ -40,7 +41,8 @@ place-fits l at h c = let k = lowest-within (isEmptyAt l) (l .capacity) in omega
 
 -- ---- the ends of 15
 
-module _ (kind : Kind) (p : ℕ) (l : LockList) (o : ℕ) (f : File) (b : Buffers) (x : Found) (c : ℕ) (hx : x ≡ lookUp kind (b .image) f) (hc : c ≡ firstOf (rows15 kind p l o f x (b .fcb))) where
+module _ (kind : Kind) (p : ℕ) (l : LockList) (o : ℕ) (f : File) (b : Buffers) (x : Found) (c : ℕ) (hx : x ≡ lookUp kind (b .image) f)
+    (hc : c ≡ firstOf (rows15 kind p l o f x (b .fcb))) where
   table : c ≡ firstOf (rows15 kind p l o f (lookUp kind (b .image) f) (b .fcb))
   table = hc ∙ ap (λ (y : Found). firstOf (rows15 kind p l o f y (b .fcb))) hx
 
@@ -68,7 +70,8 @@ module _ (kind : Kind) (p : ℕ) (l : LockList) (o : ℕ) (f : File) (b : Buffer
         }))
 
     -- a new item
-    pub open-new : (m : LockList) (list : List ℕ) → 64 ≤ o → at ≡ freePlace l → m ≡ opened p f mode l → list ≡ pack m → Did (by15 kind p l o f b) 0 fcb (b .dma) list (b .image)
+    pub open-new : (m : LockList) (list : List ℕ) → 64 ≤ o → at ≡ freePlace l → m ≡ opened p f mode l → list ≡ pack m
+        → Did (by15 kind p l o f b) 0 fcb (b .dma) list (b .image)
     unfolding by15 does15 isOpened _if_else_
     open-new m list lo ha hl hp =
         did-pass _ b _ c table 0 _ _ _ _ z
@@ -80,14 +83,16 @@ module _ (kind : Kind) (p : ℕ) (l : LockList) (o : ℕ) (f : File) (b : Buffer
           leaves-image = refl;
         }))
 
-pub open-called : (kind : Kind) (p c : ℕ) (b : Buffers) (l : LockList) (f : File) (o a : ℕ) (fcb dma list image : List ℕ) → l ≡ unpack (b .list) → f ≡ callerFile p l (b .fcb) → o ≡ openOf l p f → Did (by15 kind p l o f b) a fcb dma list image → Did (served kind (Call Open) p c b) a fcb dma list image
+pub open-called : (kind : Kind) (p c : ℕ) (b : Buffers) (l : LockList) (f : File) (o a : ℕ) (fcb dma list image : List ℕ) → l ≡ unpack (b .list)
+    → f ≡ callerFile p l (b .fcb) → o ≡ openOf l p f → Did (by15 kind p l o f b) a fcb dma list image → Did (served kind (Call Open) p c b) a fcb dma list image
 unfolding by15 rowsOf effectOf askedBy
 open-called kind p c b l f o a fcb dma list image hl hf ho d =
     did-as _ _ a fcb dma list image (served-as kind (Call Open) p c b l f (recordOf (b .fcb)) hl hf refl) (rw ho at d)
 
 -- ---- the ends of 16
 
-module _ (kind : Kind) (p c : ℕ) (b : Buffers) (l : LockList) (f : File) (o : ℕ) (hl : l ≡ unpack (b .list)) (hf : f ≡ callerFile p l (b .fcb)) (ho : o ≡ openOf l p f) where
+module _ (kind : Kind) (p c : ℕ) (b : Buffers) (l : LockList) (f : File) (o : ℕ) (hl : l ≡ unpack (b .list)) (hf : f ≡ callerFile p l (b .fcb))
+    (ho : o ≡ openOf l p f) where
   pub close-refused : 64 ≤ o → Did (served kind (Call Close) p c b) 1791 (b .fcb) (b .dma) (b .list) (b .image)
   unfolding rowsOf effectOf askedBy rows16 isOpened
   close-refused g =
@@ -95,7 +100,8 @@ module _ (kind : Kind) (p c : ℕ) (b : Buffers) (l : LockList) (f : File) (o : 
       did-as _ _ _ _ _ _ _ (served-as kind (Call Close) p c b l f (recordOf (b .fcb)) hl hf refl)
       (did-refuse _ b _ 1791 (row-yes 1791 1791 _ [] (not-of-false _ (le-ltb _ _ k)) refl) (λ y. omega arith))
 
-  pub close-done : (m : LockList) (list : List ℕ) → o < 64 → m ≡ closed p f l → list ≡ pack m → Did (served kind (Call Close) p c b) 0 (b .fcb) (b .dma) list (b .image)
+  pub close-done : (m : LockList) (list : List ℕ) → o < 64 → m ≡ closed p f l → list ≡ pack m
+      → Did (served kind (Call Close) p c b) 0 (b .fcb) (b .dma) list (b .image)
   unfolding rowsOf effectOf askedBy rows16 isOpened does16
   close-done m list g hm hp =
       let k : openOf l p f < 64 = rw ho at g in

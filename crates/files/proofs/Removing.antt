@@ -30,7 +30,8 @@ use Rattle.rules.specs.declared.kind.Kind.{Kind}
 
 -- ---- the ends of 19
 
-module _ (kind : Kind) (l : LockList) (f : File) (b : Buffers) (x : Found) (c : ℕ) (hx : x ≡ lookUp kind (b .image) f) (hc : c ≡ firstOf (rows19 kind l f x (b .fcb) (b .image))) where
+module _ (kind : Kind) (l : LockList) (f : File) (b : Buffers) (x : Found) (c : ℕ) (hx : x ≡ lookUp kind (b .image) f)
+    (hc : c ≡ firstOf (rows19 kind l f x (b .fcb) (b .image))) where
   table : c ≡ firstOf (rows19 kind l f (lookUp kind (b .image) f) (b .fcb) (b .image))
   table = hc ∙ ap (λ (y : Found). firstOf (rows19 kind l f y (b .fcb) (b .image))) hx
 
@@ -44,7 +45,8 @@ module _ (kind : Kind) (l : LockList) (f : File) (b : Buffers) (x : Found) (c : 
       did-pass _ b _ c table 0 _ _ _ _ z
       (record { gives = refl; leaves-fcb = refl; leaves-dma = refl; leaves-list = refl; leaves-image = h })
 
-pub delete-called : (kind : Kind) (p c : ℕ) (b : Buffers) (l : LockList) (f : File) (a : ℕ) (fcb dma list image : List ℕ) → l ≡ unpack (b .list) → f ≡ callerFile p l (b .fcb) → Did (by19 kind l f b) a fcb dma list image → Did (served kind (Call Delete) p c b) a fcb dma list image
+pub delete-called : (kind : Kind) (p c : ℕ) (b : Buffers) (l : LockList) (f : File) (a : ℕ) (fcb dma list image : List ℕ) → l ≡ unpack (b .list)
+    → f ≡ callerFile p l (b .fcb) → Did (by19 kind l f b) a fcb dma list image → Did (served kind (Call Delete) p c b) a fcb dma list image
 unfolding by19 rowsOf effectOf askedBy
 delete-called kind p c b l f a fcb dma list image hl hf d =
     did-as _ _ a fcb dma list image (served-as kind (Call Delete) p c b l f (recordOf (b .fcb)) hl hf refl) d
@@ -57,9 +59,11 @@ unfolding newFile fileFrom isLow
 name-low p l fcb new h =
     ap (λ (g : File). all (isLow (g .name)) 11) h
     ∙ all-make (isLow (tab (lowFrom fcb 17) 11)) 11
-    (λ k m. let e : getD (tab (lowFrom fcb 17) 11) k 0 ≡ lowFrom fcb 17 k = tab-at (lowFrom fcb 17) 11 k 0 m in lt-ltb (getD (tab (lowFrom fcb 17) 11) k 0) 128 (omega (arith, e)))
+    (λ k m. let e : getD (tab (lowFrom fcb 17) 11) k 0 ≡ lowFrom fcb 17 k = tab-at (lowFrom fcb 17) 11 k 0 m in
+    lt-ltb (getD (tab (lowFrom fcb 17) 11) k 0) 128 (omega (arith, e)))
 
-module _ (kind : Kind) (l : LockList) (f new : File) (b : Buffers) (x y : Found) (c : ℕ) (hx : x ≡ lookUp kind (b .image) f) (hy : y ≡ lookUp kind (b .image) new) (hc : c ≡ firstOf (rows23 kind l f x y (b .fcb) (b .image))) where
+module _ (kind : Kind) (l : LockList) (f new : File) (b : Buffers) (x y : Found) (c : ℕ) (hx : x ≡ lookUp kind (b .image) f)
+    (hy : y ≡ lookUp kind (b .image) new) (hc : c ≡ firstOf (rows23 kind l f x y (b .fcb) (b .image))) where
   renaming : c ≡ firstOf (rows23 kind l f (lookUp kind (b .image) f) (lookUp kind (b .image) new) (b .fcb) (b .image))
   renaming =
       hc ∙ ap (λ (v : Found). firstOf (rows23 kind l f v y (b .fcb) (b .image))) hx
@@ -75,7 +79,9 @@ module _ (kind : Kind) (l : LockList) (f new : File) (b : Buffers) (x y : Found)
       did-pass _ b _ c renaming 0 _ _ _ _ z
       (record { gives = refl; leaves-fcb = refl; leaves-dma = refl; leaves-list = refl; leaves-image = h })
 
-pub rename-called : (kind : Kind) (p c : ℕ) (b : Buffers) (l : LockList) (f new : File) (a : ℕ) (fcb dma list image : List ℕ) → l ≡ unpack (b .list) → f ≡ callerFile p l (b .fcb) → new ≡ newFile p l (b .fcb) → Did (by23 kind l f new b) a fcb dma list image → Did (served kind (Call Rename) p c b) a fcb dma list image
+pub rename-called : (kind : Kind) (p c : ℕ) (b : Buffers) (l : LockList) (f new : File) (a : ℕ) (fcb dma list image : List ℕ) → l ≡ unpack (b .list)
+    → f ≡ callerFile p l (b .fcb) → new ≡ newFile p l (b .fcb) → Did (by23 kind l f new b) a fcb dma list image
+    → Did (served kind (Call Rename) p c b) a fcb dma list image
 unfolding by23 rowsOf effectOf askedBy
 rename-called kind p c b l f new a fcb dma list image hl hf hn d =
     did-as _ _ a fcb dma list image (served-as kind (Call Rename) p c b l f (recordOf (b .fcb)) hl hf refl) (rw hn at d)

@@ -1,5 +1,6 @@
 use locklist::ask::caller_file;
 use locklist::pack::pack;
+use rules::code::CLOSE_NOT_OPEN;
 use rules::kind::Kind;
 use rules::list::LockList;
 ghost use mathlib.Core.Path.{_≡_};
@@ -24,7 +25,7 @@ pub fn close_file(
 {
     let f = caller_file(l, p, fcb);
     if 64 <= l.open_of(p, f) {
-        return 1791;
+        return CLOSE_NOT_OPEN;
     }
     pack(l.close(p, f), list);
     0

@@ -3,6 +3,10 @@ use directory::find::look_up;
 use directory::find::read_only;
 use directory::name::legal_name;
 use locklist::ask::caller_file;
+use rules::code::BAD_NAME;
+use rules::code::IN_USE;
+use rules::code::NOT_FOUND;
+use rules::code::READ_ONLY;
 use rules::file::File;
 use rules::file::Found;
 use rules::kind::Kind;
@@ -26,16 +30,16 @@ fn delete_refusal(kind: Kind, l: LockList, f: File, x: Found, fcb: &[u8], image:
     ensures { λ c. ⌜ c ≡ firstOf (rows19 kind l f x (now (fcb .entry)) (now (image .entry))) ⌝ }
 {
     if !legal_name(fcb, 1) {
-        return 2559;
+        return BAD_NAME;
     }
     if is_missing(kind, x) {
-        return 255;
+        return NOT_FOUND;
     }
     if l.any_open(f) {
-        return 1535;
+        return IN_USE;
     }
     if read_only(image, x.entry) {
-        return 1023;
+        return READ_ONLY;
     }
     0
 }

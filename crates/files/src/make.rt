@@ -8,6 +8,11 @@ use directory::name::legal_name;
 use locklist::ask::caller_file;
 use locklist::ask::make_mode;
 use locklist::pack::pack;
+use rules::code::BAD_NAME;
+use rules::code::EXISTS;
+use rules::code::NO_EMPTY_ENTRY;
+use rules::code::OPEN_LIMIT;
+use rules::code::OPEN_LIST_FULL;
 use rules::file::File;
 use rules::file::Found;
 use rules::kind::Kind;
@@ -43,19 +48,19 @@ fn make_refusal(kind: Kind, p: u8, l: LockList, x: Found, fcb: &[u8], image: &[u
     ensures { λ c. ⌜ c ≡ firstOf (rows22 kind p l x (now (fcb .entry)) (now (image .entry))) ⌝ }
 {
     if !legal_name(fcb, 1) {
-        return 2559;
+        return BAD_NAME;
     }
     if !is_missing(kind, x) {
-        return 2303;
+        return EXISTS;
     }
     if at_open_limit(l, p) {
-        return 2815;
+        return OPEN_LIMIT;
     }
     if no_place(l) {
-        return 3071;
+        return OPEN_LIST_FULL;
     }
     if no_entry(kind, image) {
-        return 255;
+        return NO_EMPTY_ENTRY;
     }
     0
 }

@@ -7,6 +7,11 @@ use directory::name::legal_name;
 use locklist::ask::caller_file;
 use locklist::ask::open_mode;
 use locklist::pack::pack;
+use rules::code::BAD_NAME;
+use rules::code::IN_USE;
+use rules::code::NOT_FOUND;
+use rules::code::OPEN_LIMIT;
+use rules::code::OPEN_LIST_FULL;
 use rules::file::File;
 use rules::file::Found;
 use rules::kind::Kind;
@@ -60,13 +65,13 @@ fn new_refusal(p: u8, l: LockList, f: File, fcb: &[u8]) -> u32
     ensures { λ c. ⌜ c ≡ firstOf (rowsNew p l f (now (fcb .entry))) ⌝ }
 {
     if any_against(p, l, f, fcb) {
-        return 1535;
+        return IN_USE;
     }
     if at_open_limit(l, p) {
-        return 2815;
+        return OPEN_LIMIT;
     }
     if no_place(l) {
-        return 3071;
+        return OPEN_LIST_FULL;
     }
     0
 }
@@ -77,13 +82,13 @@ fn open_refusal(kind: Kind, p: u8, l: LockList, o: usize, f: File, x: Found, fcb
     ensures { λ c. ⌜ c ≡ firstOf (rows15 kind p l o f x (now (fcb .entry))) ⌝ }
 {
     if !legal_name(fcb, 1) {
-        return 2559;
+        return BAD_NAME;
     }
     if is_missing(kind, x) {
-        return 255;
+        return NOT_FOUND;
     }
     if opened_otherwise(l, o, fcb) {
-        return 1535;
+        return IN_USE;
     }
     if o < 64 {
         return 0;

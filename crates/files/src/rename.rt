@@ -4,6 +4,11 @@ use directory::find::read_only;
 use directory::name::legal_name;
 use locklist::ask::caller_file;
 use locklist::ask::new_file;
+use rules::code::BAD_NAME;
+use rules::code::EXISTS;
+use rules::code::IN_USE;
+use rules::code::NOT_FOUND;
+use rules::code::READ_ONLY;
 use rules::file::File;
 use rules::file::Found;
 use rules::kind::Kind;
@@ -56,19 +61,19 @@ fn rename_refusal(
     ensures { λ c. ⌜ c ≡ firstOf (rows23 kind l f x y (now (fcb .entry)) (now (image .entry))) ⌝ }
 {
     if illegal_names(fcb) {
-        return 2559;
+        return BAD_NAME;
     }
     if is_missing(kind, x) {
-        return 255;
+        return NOT_FOUND;
     }
     if l.any_open(f) {
-        return 1535;
+        return IN_USE;
     }
     if read_only(image, x.entry) {
-        return 1023;
+        return READ_ONLY;
     }
     if is_there(kind, y) {
-        return 2303;
+        return EXISTS;
     }
     0
 }

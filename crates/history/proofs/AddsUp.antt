@@ -8,18 +8,19 @@ use native.Mathlib.Omega.{arith}
 use lib.ListN.{length}
 use lib.Dec.{eqb}
 use borrow.Author.Tests.{eq-eqb, ne-eqb, leb-true}
-use Rattle.words.specs.Tests.{_and_, _if_else_, count}
+use Rattle.words.specs.Tests.{_and_, _if_else_, count, sumBelow}
 use Rattle.words.proofs.Tests.{and-fst}
 use Rattle.words.proofs.Sets.{and-left, not-of-true}
 use Rattle.words.proofs.Counts.{count-up}
+use Rattle.words.proofs.Sums.{sum-ext, sum-add, sum-none, sum-one}
 use Rattle.rules.specs.declared.kind.Kind.{Kind}
 use Rattle.rules.specs.declared.item.Item.{Item}
 use Rattle.rules.specs.declared.list.LockList.{LockList}
 use Rattle.rules.specs.Locks.{itemAt, isKindBy, isKindByAt, opensBy, locksBy, isEmptyAt, freePlaces}
 use Rattle.rules.proofs.SoundList.{GoodOpen, GoodLock, Used, Vacant, SoundLocks, isPlain, capacity-fits}
-use Rattle.history.specs.Demands.{AddUp, sumBelow, itemsBy}
+use Rattle.history.specs.Demands.{AddUp, itemsBy}
 use Rattle.history.proofs.Tallied.{Tally, OfItems, passesAt}
-use Rattle.history.proofs.Solid.{Solid, isItem, split, empty-or-not, sum-ext, sum-add, sum-none, sum-one}
+use Rattle.history.proofs.Solid.{Solid, isItem, split, empty-or-not}
 
 abbrev bit : Bool → ℕ
 bit t = 1 if t else 0
@@ -103,6 +104,7 @@ module _ (kind : Kind) (l : LockList) (s : List ℕ) (g : SoundLocks kind l s) w
     held-many : length held ≡ count (passesAt isItem l) 64
     held-many = let a = split held in let b = w .none in let c = t .as-many isItem items in omega arith
 
+    -- what is held and what is free add up, and what is held is the sum over the processes
     pub adds-up : AddUp (l .capacity) l held
     unfolding freePlaces opensBy locksBy itemsBy passesAt isItem isKindByAt isEmptyAt
     adds-up = record {

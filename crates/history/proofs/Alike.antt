@@ -55,6 +55,7 @@ module _ (kind : Kind) (n p c : ℕ) (b : Buffers) (w : InBytes b) where
   way-bytes o (whole left r) = ran-bytes c left r
   way-bytes o (partly i m left r code z) = ran-bytes i left r
 
+  -- a call that is lent bytes leaves bytes, of one record or of several
   pub run-bytes : InBytes (callRun kind n p c b .left)
   run-bytes = way-bytes _ (ways kind n p c b)
 
@@ -124,18 +125,22 @@ module _ (kind : Kind) (e : Engine) (serves : Demand2 kind e) where
     from-start : Alike kind e [] qs (firstState kind g)
     from-start = alike g [] qs (firstState kind g) _ _ (begun-inv kind g) (first-kept kind g) may
 
+    -- after the same calls what is kept is the same, ..
     pub after-same : after kind e g qs ≡ after kind (ours kind) g qs
     unfolding after
     after-same = from-start .state-same
 
+    -- .. and so is the history; ..
     pub history-same : historyOf kind e g qs ≡ historyOf kind (ours kind) g qs
     unfolding historyOf
     history-same = from-start .events-same
 
+    -- .. a host can lend again what is kept, ..
     pub kept-so : isKept (after kind (ours kind) g qs) ≡ true
     unfolding after
     kept-so = from-start .stays-kept
 
+    -- .. and one more call has the same outcome
     pub outcome-same : (q : Ask) → isPossible q ≡ true → outcomeAfter kind e g qs q ≡ outcomeAfter kind (ours kind) g qs q
     unfolding outcomeAfter
     outcome-same q can = rw after-same (one-same qs q (after kind (ours kind) g qs) can kept-so)
@@ -175,6 +180,7 @@ module _ (kind : Kind) (e : Engine) (serves : Demand2 kind e) (g : Begun kind) (
       ap (λ (o : Outcome). eventsOf e (qs ++ (q ∷ [])) later (kept o)) (outcome-same kind e serves g qs first-may q may-now)
       ∙ alike kind e serves g (qs ++ (q ∷ [])) later (kept (outcomeOf (callRun kind) q s)) _ _ (call-inv kind g q s _ _ i) k may-later .events-same
 
+-- an engine that meets demand 2 meets demand 3
 pub meets-third : (kind : Kind) (e : Engine) → Demand2 kind e → Demand3 kind e
 meets-third kind e serves = record {
   stands = λ g qs may. rw (after-same kind e serves g qs may, history-same kind e serves g qs may) (demands.stands kind g qs);

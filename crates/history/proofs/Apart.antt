@@ -15,12 +15,12 @@ use Rattle.rules.specs.declared.item.Item.{Item}
 use Rattle.rules.specs.declared.list.LockList.{LockList}
 use Rattle.rules.specs.Serves.{Buffers}
 use Rattle.rules.specs.Drive.{highest, isEmpty, userByte, fileFrom}
-use Rattle.rules.specs.Locks.{itemAt, userOf, unpack, pack, withItems, freshOpen, freePlace}
+use Rattle.rules.specs.Locks.{itemAt, userOf, unpack, withItems, freshOpen, freePlace}
 use Rattle.rules.specs.Asks.{recordOf, newFile}
 use Rattle.rules.specs.Effects.{placed, opened, lockedRun}
 use Rattle.rules.proofs.Sound.{SoundImage}
 use Rattle.rules.proofs.Frames.{Same, same-refl, user-is}
-use Rattle.rules.proofs.SoundList.{Shape, capacity-fits, unpacked}
+use Rattle.rules.proofs.SoundList.{Shape, capacity-fits}
 use Rattle.soundness.proofs.Changes.{Touches, Theirs}
 use Rattle.soundness.proofs.Blocks.{At, at-grown, at-forth, at-back}
 use Rattle.soundness.proofs.Erased.{all-erased, erased-touches}
@@ -29,7 +29,7 @@ use Rattle.soundness.proofs.Written.{Old, New}
 use Rattle.soundness.proofs.Placed.{free-room, at-here, at-other}
 use Rattle.soundness.proofs.Emptied.{Empties, at-gone, at-kept}
 use Rattle.soundness.proofs.Run.{Filled, running}
-use Rattle.soundness.proofs.Shapes.{SoundShape, emptied-shape, locked-shape}
+use Rattle.soundness.proofs.Shapes.{packed, emptied-shape, locked-shape}
 use Rattle.soundness.proofs.Left.{ListLeft, ImageLeft, list-same, one-set, run-set, emptied, image-same, entry-made, record-stored, file-erased, file-renamed}
 use Rattle.soundness.proofs.Taken.{caller-long, caller-user}
 use Rattle.soundness.proofs.Ends.{shape-of, list-of, made-of, renamed-touch, written-of, takes-of}
@@ -85,6 +85,7 @@ module _ (kind : Kind) (p c : ℕ) (b : Buffers) (g : SoundImage kind highest (b
       (λ (x : New kind s t (fileBy p b) (recordOf (b .fcb))). x .wrote .change .touches) k)
       (λ f r d m z a. seen-written kind s t (fileBy p b) (recordOf (b .fcb)) g long f r d m a k (λ e. z (e .0)))
 
+  -- a call leaves the files of users other than the caller's as they were, ..
   pub others-left : (t : List ℕ) → ImageLeft kind p c b t → Others kind s t (userOf l p)
   others-left t image-same = others-same kind s (userOf l p)
   others-left t (entry-made ok w) =
@@ -117,9 +118,6 @@ module _ (p : ℕ) (it : Item) (h : isAnothers p it ≡ true) where
 
 items-same : (p : ℕ) (l : LockList) → ItemsApart p l l
 items-same p l = record { item-same = λ i m c. refl }
-
-packed : (kind : Kind) (p : ℕ) (l k : LockList) (s : List ℕ) → SoundShape kind k s → ItemsApart p l k → ItemsApart p l (unpack (pack k))
-packed kind p l k s h w = rw (unpacked kind k s (h .sound) (h .shape)) w
 
 -- one empty place set to an item of the caller
 items-set : (p : ℕ) (l : LockList) (j : ℕ) (it : Item) → Shape l → j < 64 → itemAt l j .kind ≡ 0 → it .process ≡ p
@@ -169,9 +167,11 @@ module _ (kind : Kind) (p c : ℕ) (b : Buffers) where
             (r .place i m);
       })
 
+  -- .. and the items of other processes
   pub items-left : (t list : List ℕ) → ListLeft kind p c b t list → ItemsApart p (listOf b) (unpack list)
   items-left t list (list-same u) = items-same p (listOf b)
-  items-left t list (one-set ok u mode room h) = packed kind p (listOf b) _ u h (opened-apart ok mode room)
-  items-left t list (run-set ok w) = packed kind p (listOf b) _ (b .image) (locked-shape kind p c b ok w) (run-apart ok w)
+  items-left t list (one-set ok u mode room h) = packed (ItemsApart p (listOf b)) kind _ u h (opened-apart ok mode room)
+  items-left t list (run-set ok w) = packed (ItemsApart p (listOf b)) kind _ (b .image) (locked-shape kind p c b ok w) (run-apart ok w)
   items-left t list (emptied ok away turn e w own) =
-      packed kind p (listOf b) _ (b .image) (emptied-shape kind p c b ok away turn e w) (items-gone p (listOf b) away turn e (shape-of kind p c b ok) own)
+      packed (ItemsApart p (listOf b)) kind _ (b .image) (emptied-shape kind p c b ok away turn e w)
+      (items-gone p (listOf b) away turn e (shape-of kind p c b ok) own)

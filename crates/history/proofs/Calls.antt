@@ -34,7 +34,7 @@ module _ (kind : Kind) (g : Begun kind) (q : Ask) (s : State) (items : List Item
   way-inv o (partly k m left w code r) =
       rw (deed-partly (g .users) q code k (w .serves) (r .some) (refuses-low kind _ _ _ _ code r)) (ran-inv kind g q s items groups i k left w)
 
-  -- one call
+  -- what holds before a call, of one record or of several, holds after it of what the history then tells
   pub call-inv : After (kept (outcomeOf (callRun kind) q s)) (deed (g .users) (event q (outcomeOf (callRun kind) q s .answer)))
   unfolding outcomeOf
   call-inv = way-inv _ (ways kind (q .function) (q .process) (q .count) (lent q s))
@@ -49,6 +49,7 @@ module _ (kind : Kind) (g : Begun kind) (q : Ask) (s : State) (items : List Item
     way-each o (whole left w) = ran-each kind g q s items groups i (q .count) left w R none join one
     way-each o (partly k m left w code r) = ran-each kind g q s items groups i k left w R none join one
 
+    -- so a call of one record or of several keeps it
     pub call-each : R s (kept (outcomeOf (callRun kind) q s))
     unfolding outcomeOf
     call-each = way-each _ (ways kind (q .function) (q .process) (q .count) (lent q s))
@@ -61,7 +62,7 @@ module _ (kind : Kind) (g : Begun kind) where
   run-inv before [] s items groups i = i
   run-inv before (q ∷ qs) s items groups i = run-inv (before ++ (q ∷ [])) qs (kept (outcomeOf (callRun kind) q s)) _ _ (call-inv kind g q s items groups i)
 
-  -- every history of calls
+  -- it holds after every list of calls
   pub always : (qs : List Ask) → Inv kind g (after kind (ours kind) g qs) (itemsOf kind g (historyOf kind (ours kind) g qs))
       (groupsBy kind g (historyOf kind (ours kind) g qs))
   unfolding after historyOf itemsOf groupsBy

@@ -56,6 +56,7 @@ module _ (kind : Kind) (e : Engine) (serves : Demand2 kind e) where
             ∙ w .no-trace (rw o at z));
       }
 
+  -- such an engine meets the three demands, and is that of single calls but for the four bits
   pub claims : Claims kind e
   unfolding Demand1 outcomeOf
   claims = record {
@@ -151,6 +152,7 @@ look-claims = record {
         → lookTold (Known kind) user name r s ≡ 0
     looks own kind other s sound user name r = unfold lookTold in other-look own kind other s sound user name r
 
+-- every promise, of every engine that keeps the contract, and of the rules
 pub all-claims : AllClaims
 all-claims = record {
   engine = told-claims;

@@ -11,6 +11,7 @@ use Rattle.words.specs.Tests.{_and_, _if_else_}
 use Rattle.words.proofs.Tests.{either, and-fst, same-test}
 use Rattle.words.proofs.Counts.{count-ext, count-set}
 use Rattle.words.proofs.Sets.{and-left, not-of-true}
+use Rattle.words.specs.Lists.{tally, without}
 use Rattle.rules.specs.declared.kind.Kind.{Kind}
 use Rattle.rules.specs.Kinds.{blockRecords, entries, numbers}
 use Rattle.rules.specs.declared.file.File.{File}
@@ -21,15 +22,14 @@ use Rattle.rules.proofs.Sound.{Names, SoundImage, file-long}
 use Rattle.rules.proofs.Frames.{head-of, file-same, extent-same, empty-same, of-file, file-of, map-same}
 use Rattle.rules.proofs.Items.{file-is, file-refl}
 use Rattle.soundness.proofs.Steps.{Stays}
-use Rattle.soundness.proofs.Changes.{Grown}
+use Rattle.soundness.proofs.Changes.{Grown, names-grown}
 use Rattle.soundness.proofs.Blocks.{At, only, is-grown, at-names}
 use Rattle.soundness.proofs.Written.{Old, New}
 use Rattle.soundness.proofs.Erased.{erased-gone, erased-kept}
 use Rattle.soundness.proofs.Renamed.{renamed-empty, renamed-extent, renamed-number, renamed-kept}
 use Rattle.soundness.proofs.Stored.{free-low}
-use Rattle.history.specs.Held.{tally, without}
 use Rattle.history.specs.Groups.{Group, group, isCounted, isNumbered, groupAt, touching, ofFile, carried, allNumbers}
-use Rattle.history.proofs.Tallies.{tally-without, tally-map}
+use Rattle.words.proofs.Tallies.{tally-without, tally-map}
 use Rattle.history.proofs.Positions.{Counted, holdsGroup, numbered-names, names-numbered, names-flat, at-group, counted-at, at-counted}
 
 -- two tests of the places that agree where a number stands
@@ -51,14 +51,6 @@ holds-on kind s test i x h e = rw (h, e) refl
 -- ---- a change that takes nothing away
 
 module _ (kind : Kind) (s t : List ℕ) (w : Grown kind s t) where
-  names-grown : (e k : ℕ) → Names kind s e k → Names kind t e k
-  names-grown e k n = record {
-    entry-there = n .entry-there;
-    place-there = n .place-there;
-    entry-used = empty-same s e t e (w .head e (n .entry-there) (n .entry-used)) ∙ n .entry-used;
-    some = λ z. n .some (sym (w .number e k n) ∙ z);
-  }
-
   group-grown : (i : ℕ) → Names kind s (i / numbers kind) (i % numbers kind) → groupAt kind t i ≡ groupAt kind s i
   unfolding groupAt
   group-grown i n =
@@ -72,9 +64,10 @@ module _ (kind : Kind) (s t : List ℕ) (w : Grown kind s t) where
   place-grown i m back test =
       holds-same kind s t test test i
       (same-test _ _ (λ h. names-numbered kind s i (back (numbered-names kind t i m h) .named))
-      (λ h. names-numbered kind t i (names-grown (i / numbers kind) (i % numbers kind) (numbered-names kind s i m h))))
+      (λ h. names-numbered kind t i (names-grown kind s t w (i / numbers kind) (i % numbers kind) (numbered-names kind s i m h))))
       (λ h. ap test (group-grown i (numbered-names kind s i m h)))
 
+  -- where no block number is new the groups stay
   pub counted-grown : (g : List Group) → ((e k : ℕ) → Names kind t e k → Stays kind s t e k) → Counted kind s g → Counted kind t g
   counted-grown g back c = record {
     as-many = λ test.
@@ -104,15 +97,17 @@ module _ (kind : Kind) (s t : List ℕ) (f : File) (r : ℕ) (l : length (f .nam
       rw (z .0, z .1) y)
       (λ (z : Stays kind s t e k). z) (w .wrote .change .rest e k n)
 
+  -- a record written in the block that it has: the groups stay, ..
   pub counted-old : Old kind s t f r → Counted kind t g
   counted-old w = counted-grown kind s t (w .wrote .change .grown) g (old-stays w) c
 
+  -- .. its own among them
   pub touched-old : Old kind s t f r → Counted kind t (touching (group f (r / blockRecords kind)) g)
   touched-old w =
       let a : At kind s f r (w .block) = record { entry = w .entry; below = w .wrote .below; is = w .was-is; number = w .was; some = w .some } in
       rw (touching-old (group f (r / blockRecords kind)) g (at-counted kind s g c f r (w .block) a)) (counted-old w)
 
-  -- no place of the record's group was numbered
+  -- a record that gets a block had none, ..
   pub new-none : New kind s t f r → (b : ℕ) → At kind s f r b → ⊥
   new-none w b a =
       let h = w .wrote .change in
@@ -120,7 +115,7 @@ module _ (kind : Kind) (s t : List ℕ) (f : File) (r : ℕ) (l : length (f .nam
       let e : a .entry ≡ w .entry = only kind t f (r / 128) (a .entry) (w .entry) (h .sound .files) (a .below) (w .wrote .below) i (w .wrote .is) in
       w .unnamed (rw e at (at-names kind s f r b a))
 
-  -- the block is new
+  -- .. and its group is then counted too
   pub touched-new : New kind s t f r → Counted kind t (touching (group f (r / blockRecords kind)) g)
   unfolding tally
   touched-new w =
@@ -213,6 +208,7 @@ module _ (kind : Kind) (s : List ℕ) (f : File) (w : SoundImage kind highest s)
       on true false y h = unfold _and_ in refl
       on false x y h = unfold _and_ in refl
 
+  -- Delete drops the file's groups
   pub dropped : Counted kind (erased kind f s) (without (ofFile f) g)
   dropped = record {
     as-many = λ test.
@@ -264,6 +260,7 @@ module _ (kind : Kind) (s : List ℕ) (f new : File) (w : SoundImage kind highes
       y ∙ sym (carried-no f new (groupAt kind s i) (group-of kind s f i l z ∙ h)))
       (either (isOf s f e))
 
+  -- Rename carries them over
   pub carried-over : Counted kind t (map (carried f new) g)
   carried-over = record {
     as-many = λ test.

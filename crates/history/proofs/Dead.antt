@@ -1,5 +1,5 @@
 -- The dead hold nothing, until they are granted something anew. Assumes nothing.
-use Prim.Native.Nat.{ℕ, zero, suc}
+use Prim.Native.Nat.{ℕ}
 use mathlib.Core.Path.{_≡_, refl, sym, _∙_}
 use mathlib.Core.Bool.{Bool, true, false, not}
 use mathlib.Core.List.{List, [], _∷_, _++_, append-assoc, append-nil}
@@ -8,41 +8,23 @@ use native.Mathlib.Omega.{arith}
 use lib.Dec.{eqb}
 use borrow.Author.Tests.{eqb-true, eq-eqb}
 use Rattle.words.specs.Tests.{_and_, _if_else_}
-use Rattle.words.specs.Lists.{turns}
-use Rattle.words.proofs.Tests.{either, and-fst, and-snd, or-fst, or-snd}
+use Rattle.words.proofs.Tests.{either, and-snd, or-fst, or-snd}
+use Rattle.words.specs.Lists.{tally}
 use Rattle.rules.specs.declared.kind.Kind.{Kind}
 use Rattle.rules.specs.declared.item.Item.{Item}
 use Rattle.rules.specs.Locks.{freshOpen, isKindBy}
 use Rattle.history.specs.History.{Engine, Ask, State, Begun, Event, event, outcomeOf, kept, stateAfter, eventsOf, firstState, after, historyOf, outcomeAfter}
 use Rattle.history.specs.Deeds.{Deed, nothing, opens, closes, locks, unlocks, ends, touches, drops, carries, tells, deed}
-use Rattle.history.specs.Held.{sameItem, tally, isAmong, granting, grantingAt, grantingRun, without, isBy, holding, heldAfter, isGrant, anyOpenBy}
+use Rattle.history.specs.Held.{sameItem, isAmong, grantingRun, isBy, holding, heldAfter, isGrant, anyOpenBy}
 use Rattle.history.specs.Demands.{itemsOf}
-use Rattle.history.proofs.Tallies.{tally-less, tally-without, tally-none}
-use Rattle.history.proofs.Items.{alike-of, among-tally, granting-held, granting-new}
+use Rattle.words.proofs.Tallies.{tally-less, tally-without, tally-none}
+use Rattle.history.proofs.Items.{alike-of, among-tally, NonePass, none-granting, none-run, none-without}
 
 -- ---- none of the process's items is held
 
-pub record NoneBy (p : ℕ) (g : List Item) : Type 0 where
-  pub none : tally (isBy p) g ≡ 0
-
-none-granting : (p : ℕ) (x : Item) (g : List Item) → isBy p x ≡ false → NoneBy p g → NoneBy p (granting x g)
-unfolding tally _if_else_
-none-granting p x g n w =
-    ⊎-elim (λ (q : isAmong x g ≡ true). rw (granting-held x g q) w)
-    (λ (q : isAmong x g ≡ false). rw (granting-new x g q) (record { none = rw n (let k = w .none in omega arith) })) (either (isAmong x g))
-
-none-run : (p q : ℕ) (name : List ℕ) (r n : ℕ) (g : List Item) → eqb q p ≡ false → NoneBy p g → NoneBy p (turns (grantingAt q name r) n g)
-unfolding turns grantingAt isBy
-none-run p q name r zero g e w = w
-none-run p q name r (suc n) g e w = none-granting p _ _ e (none-run p q name r n g e w)
-
-none-without : (p : ℕ) (away : Item → Bool) (g : List Item) → NoneBy p g → NoneBy p (without away g)
-none-without p away g w = record {
-  none =
-      let k = tally-less (λ (y : Item). isBy p y and not (away y)) (isBy p) g (λ y d. and-fst _ _ d) in
-      let m = w .none in
-      omega (arith, tally-without (isBy p) away g);
-}
+-- the process holds nothing
+abbrev pub NoneBy : ℕ → List Item → Type 0
+NoneBy p g = NonePass (isBy p) g
 
 -- who holds nothing has nothing open
 no-open : (p q : ℕ) (name : List ℕ) (g : List Item) → NoneBy p g → q ≡ p → isAmong (freshOpen q name 1) g ≡ true → ⊥
@@ -56,16 +38,16 @@ no-open p q name g w e h =
 none-holding : (p : ℕ) (d : Deed) (g : List Item) → isGrant p d ≡ false → NoneBy p g → NoneBy p (holding d g)
 unfolding holding grantingRun isGrant isBy _if_else_
 none-holding p nothing g n w = w
-none-holding p (opens q f m) g n w = none-granting p _ g n w
-none-holding p (closes q f) g n w = none-without p _ g w
+none-holding p (opens q f m) g n w = none-granting (isBy p) _ g n w
+none-holding p (closes q f) g n w = none-without (isBy p) _ g w
 none-holding p (locks q f r m) g n w =
     ⊎-elim
     (λ (e : isAmong (freshOpen q (f .name) 1) g ≡ true). ⊎-elim
     (λ (z : eqb q p ≡ true). absurd (no-open p q (f .name) g w (eqb-true q p z) e))
-    (λ (z : eqb q p ≡ false). rw e (none-run p q (f .name) r m g z w)) (either (eqb q p)))
+    (λ (z : eqb q p ≡ false). rw e (none-run (isBy p) q (f .name) r m g (λ k. z) w)) (either (eqb q p)))
     (λ (e : isAmong (freshOpen q (f .name) 1) g ≡ false). rw e w) (either (isAmong (freshOpen q (f .name) 1) g))
-none-holding p (unlocks q f r m) g n w = none-without p _ g w
-none-holding p (ends q) g n w = none-without p _ g w
+none-holding p (unlocks q f r m) g n w = none-without (isBy p) _ g w
+none-holding p (ends q) g n w = none-without (isBy p) _ g w
 none-holding p (touches f r m) g n w = w
 none-holding p (drops f) g n w = w
 none-holding p (carries f h) g n w = w
@@ -108,11 +90,11 @@ module _ (kind : Kind) (e : Engine) (g : Begun kind) (qs later : List Ask) (q : 
   unfolding itemsOf historyOf after eventsOf heldAfter outcomeAfter
   items-then = held-append e (g .users) [] qs (q ∷ later) (firstState kind g) []
 
-  -- an accepted 143 of process p, and no open granted to it later
+  -- an accepted 143 of process p, and no open granted to it later: it holds nothing
   pub none-then : (p : ℕ) → did ≡ ends p → anyOpenBy (g .users) p then ≡ false → NoneBy p (itemsOf kind g (historyOf kind e g (qs ++ (q ∷ later))))
   none-then p d none = rw (items-then, d) (none-after (g .users) p then _ none (none-ended p (itemsOf kind g (historyOf kind e g qs))))
 
--- an item of a kind is an item of its process
+-- a process that holds nothing holds none of any kind
 pub kind-by : (k p : ℕ) (g : List Item) → NoneBy p g → tally (isKindBy k p) g ≡ 0
 unfolding isKindBy isBy
 kind-by k p g w = let a = tally-less (isKindBy k p) (isBy p) g (λ x h. and-snd _ _ h) in let b = w .none in omega arith

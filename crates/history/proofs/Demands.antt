@@ -31,7 +31,7 @@ use Rattle.history.specs.Deeds.{ends, tells, deed}
 use Rattle.history.specs.Held.{anyOpenBy}
 use Rattle.history.specs.Groups.{Group, hasBlock, isNumbered, isInUse, blocksInUse, allNumbers}
 use Rattle.history.specs.Demands.{itemsOf, HeadStays, figureIn, Groups, Figure, NoneLeft, Stands, Next}
-use Rattle.history.proofs.Tallies.{tally-all}
+use Rattle.words.proofs.Tallies.{tally-all}
 use Rattle.history.proofs.Positions.{holdsGroup, each-counted}
 use Rattle.history.proofs.InUse.{in-use}
 use Rattle.history.proofs.Dead.{none-then}
@@ -120,6 +120,7 @@ module _ (kind : Kind) (g : Begun kind) (s : State) (items : List Item) (groups 
 
 -- ---- the engine of the rules meets demand 3, whatever it is called with
 
+-- after every list of calls it stands as demanded, ..
 pub stands : (kind : Kind) (g : Begun kind) (qs : List Ask) → Stands kind g (historyOf kind (ours kind) g qs) (after kind (ours kind) g qs)
 stands kind g qs =
     let i = always kind g qs in
@@ -132,6 +133,7 @@ stands kind g qs =
       figure-fixed = figure kind g _ _ _ i;
     }
 
+-- .. one more call does as demanded, ..
 pub next : (kind : Kind) (g : Begun kind) (qs : List Ask) (q : Ask)
     → Next kind g (historyOf kind (ours kind) g qs) (after kind (ours kind) g qs) q (outcomeAfter kind (ours kind) g qs q)
 unfolding outcomeAfter forgetful
@@ -145,6 +147,7 @@ next kind g qs q =
       full-when = full kind g _ _ _ i q;
     }
 
+-- .. and the dead hold nothing
 pub dead-hold-nothing : (kind : Kind) (g : Begun kind) (qs later : List Ask) (q : Ask) (p : ℕ)
     → deed (g .users) (event q (outcomeAfter kind (ours kind) g qs q .answer)) ≡ ends p
     → anyOpenBy (g .users) p (eventsOf (ours kind) (qs ++ (q ∷ [])) later (kept (outcomeAfter kind (ours kind) g qs q))) ≡ false

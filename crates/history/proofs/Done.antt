@@ -25,9 +25,11 @@ use Rattle.history.specs.Deeds.{Deed, nothing, touches, tells, deedBy, d
 use Rattle.history.specs.Held.{holding}
 use Rattle.history.specs.Groups.{Group, touchingRun, counting}
 
+-- the users in the list
 abbrev pub usersIn : State → List ℕ
 usersIn s = unpack (s .list) .users
 
+-- an accepted call did what its function does
 pub deed-done : (users : List ℕ) (q : Ask) (k : Chosen) → chosen (q .function) ≡ k → deed users (event q (0 ∕ 0)) ≡ deedBy k users q
 unfolding deed _if_else_
 deed-done users q k e = ap (λ (x : Chosen). deedBy x users q) e
@@ -58,16 +60,17 @@ count-refused kind users q code g z low =
     same true f r n e = unfold counting touchingRun turns _if_else_ in rw e refl
     same false f r n e = unfold counting _if_else_ in refl
 
--- the files that the history names are those that the call meant
+-- the file that the history names is the one that the call meant, ..
 pub file-meant : (q : Ask) (l : LockList) → fileBy (l .users) q ≡ callerFile (q .process) l (q .fcb)
 unfolding fileBy callerFile
 file-meant q l = refl
 
+-- .. and so is the new one of 23
 pub new-meant : (q : Ask) (l : LockList) → newBy (l .users) q ≡ newFile (q .process) l (q .fcb)
 unfolding newBy newFile
 new-meant q l = refl
 
--- a call that told a figure is an accepted 46
+-- only 46 tells a figure
 tells-is : (k : Chosen) (users : List ℕ) (q : Ask) → deedBy k users q ≡ tells → k ≡ Call FreeSpace
 unfolding deedBy
 tells-is (Call Open) users q h = let z : _≡_ {A = ℕ} 0 1 = cc in absurd (omega arith)
@@ -90,6 +93,7 @@ unfolding _if_else_
 refused-tells true f r n h = let y : touches f r n ≡ tells = h in let z : _≡_ {A = ℕ} 0 1 = cc in omega arith
 refused-tells false f r n h = let y : nothing ≡ tells = h in let z : _≡_ {A = ℕ} 0 1 = cc in omega arith
 
+-- a call that told a figure is an accepted 46
 pub told : (users : List ℕ) (q : Ask) (answer : ℕ) → deed users (event q answer) ≡ tells → (answer ≡ 0 ∕ 0) × (chosen (q .function) ≡ Call FreeSpace)
 told users q answer h =
     ⊎-elim

@@ -64,6 +64,7 @@ module _ (kind : Kind) (n p c : ℕ) (b : Buffers) where
       let e : doneIn (code + 0 ∕ (16 * i)) ≡ i = omega arith in
       rw e (run-told kind n p i b (w .serves) (passes-fewer kind n p c i b (w .passes) (omega arith) (omega arith)) ∙ ap told (w .is))
 
+-- a call that the engine of the rules refuses leaves no trace
 pub leaves-no-trace : (kind : Kind) (q : Ask) (s : State) → NoTrace (callRun kind) q s
 unfolding outcomeOf
 leaves-no-trace kind q s = record {
@@ -73,6 +74,7 @@ leaves-no-trace kind q s = record {
 
 -- ---- the call of just the records done is one that a host can make
 
+-- a host can make the call with any other count of 32 bits, ..
 pub counted-possible : (q : Ask) (n : ℕ) → isPossible q ≡ true → n < 4294967296 → isPossible (withCount n q) ≡ true
 unfolding isPossible isWord
 counted-possible q n may h =
@@ -86,6 +88,7 @@ way-fewer kind n p c b o (barred h code w) = let k = refuses-low kind n p c b co
 way-fewer kind n p c b o (whole left w) = omega arith
 way-fewer kind n p c b o (partly i m left w code r) = let low = refuses-low kind _ _ _ _ code r in omega arith
 
+-- .. so with the count of the records done
 pub fewer-possible : (kind : Kind) (q : Ask) (s : State) → isPossible q ≡ true → isPossible (withCount (doneIn (outcomeOf (callRun kind) q s .answer)) q) ≡ true
 unfolding outcomeOf
 fewer-possible kind q s may =

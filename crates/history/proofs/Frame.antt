@@ -9,51 +9,51 @@ use Rattle.rules.specs.declared.kind.Kind.{Kind}
 use Rattle.rules.specs.declared.item.Item.{Item}
 use Rattle.rules.specs.declared.list.LockList.{LockList}
 use Rattle.rules.specs.Serves.{Buffers}
-use Rattle.rules.specs.Locks.{unpack, pack, withItems}
+use Rattle.rules.specs.Locks.{unpack, withItems}
 use Rattle.rules.specs.Asks.{recordOf}
 use Rattle.rules.specs.Effects.{placed, opened, lockedRun}
 use Rattle.rules.specs.declared.file.File.{File}
-use Rattle.rules.proofs.SoundList.{unpacked}
 use Rattle.soundness.proofs.Erased.{all-erased}
 use Rattle.soundness.proofs.Renamed.{all-renamed}
 use Rattle.soundness.proofs.Written.{Old, New}
 use Rattle.soundness.proofs.Run.{running}
 use Rattle.soundness.proofs.Taken.{caller-long}
-use Rattle.soundness.proofs.Shapes.{SoundShape, emptied-shape, locked-shape}
+use Rattle.soundness.proofs.Shapes.{packed, emptied-shape, locked-shape}
 use Rattle.soundness.proofs.Left.{ListLeft, ImageLeft, list-same, one-set, run-set, emptied, image-same, entry-made, record-stored, file-erased, file-renamed}
 use Rattle.soundness.proofs.Ends.{image-of, shape-of, list-of, made-of, written-of, takes-of}
 use Rattle.soundness.proofs.Leaves.{listOf, fileBy, newBy}
 
+-- limits and users are the same
 pub record Framed (l k : LockList) : Type 0 where
   pub capacities : k .capacity ≡ l .capacity
   pub openlimits : k .openlimit ≡ l .openlimit
   pub locklimits : k .locklimit ≡ l .locklimit
   pub users : k .users ≡ l .users
 
+-- a list with other items has the same, ..
 pub framed : (l : LockList) (xs : List Item) → Framed l (withItems l xs)
 framed l xs = record { capacities = refl; openlimits = refl; locklimits = refl; users = refl }
 
 same : (l : LockList) → Framed l l
 same l = record { capacities = refl; openlimits = refl; locklimits = refl; users = refl }
 
-packed : (kind : Kind) (l k : LockList) (s : List ℕ) → SoundShape kind k s → Framed l k → Framed l (unpack (pack k))
-packed kind l k s h w = rw (unpacked kind k s (h .sound) (h .shape)) w
-
+-- .. and so has the list that a call leaves;
 pub list-framed : (kind : Kind) (p c : ℕ) (b : Buffers) (t list : List ℕ) → ListLeft kind p c b t list → Framed (listOf b) (unpack list)
 unfolding opened placed lockedRun
 list-framed kind p c b t list (list-same u) = same (listOf b)
-list-framed kind p c b t list (one-set ok u mode room h) = packed kind (listOf b) _ u h (framed (listOf b) _)
+list-framed kind p c b t list (one-set ok u mode room h) = packed (Framed (listOf b)) kind _ u h (framed (listOf b) _)
 list-framed kind p c b t list (run-set ok w) =
-    packed kind (listOf b) _ (b .image) (locked-shape kind p c b ok w)
+    packed (Framed (listOf b)) kind _ (b .image) (locked-shape kind p c b ok w)
     (let r = running kind (b .image) (listOf b) p (fileBy p b) (recordOf (b .fcb)) c (shape-of kind p c b ok) (list-of kind p c b ok)
     (takes-of kind p c b ok w) c (omega arith) in
     rw (r .is) (framed (listOf b) (r .items)))
-list-framed kind p c b t list (emptied ok away turn e w own) = packed kind (listOf b) _ (b .image) (emptied-shape kind p c b ok away turn e w)
+list-framed kind p c b t list (emptied ok away turn e w own) = packed (Framed (listOf b)) kind _ (b .image) (emptied-shape kind p c b ok away turn e w)
     (framed (listOf b) _)
 
 written-long : (kind : Kind) (s t : List ℕ) (f : File) (r : ℕ) → Old kind s t f r ⊎ New kind s t f r → length t ≡ length s
 written-long kind s t f r w = ⊎-elim (λ (k : Old kind s t f r). k .wrote .change .touches .long) (λ (k : New kind s t f r). k .wrote .change .touches .long) w
 
+-- the image that a call leaves is as long as before
 pub image-framed : (kind : Kind) (p c : ℕ) (b : Buffers) (t : List ℕ) → ImageLeft kind p c b t → length t ≡ length (b .image)
 image-framed kind p c b t image-same = refl
 image-framed kind p c b t (entry-made ok w) = made-of kind p c b ok w 0 0 0 0 .touches .long

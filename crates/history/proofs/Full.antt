@@ -138,19 +138,21 @@ module _ (kind : Kind) (n p c : ℕ) (b : Buffers) where
       let w = answer-plain kind n p c b (λ y. z (sym e ∙ y)) (omega arith) in
       never (own-code kind n p (w .0) (w .1) code z (general (w .0) (w .1)) (w .2 ∙ e)) (own (w .0) (w .1) (chosen n) (run-chosen n h))
 
-  pub answered-11 : callRun kind n p c b .answer ≡ 255 ∕ 11 → leb (unpack (b .list) .capacity) (freePlace (unpack (b .list))) ≡ true
-  answered-11 e =
+  -- such a code, where a call answers it, is that of a row of its own table
+  answered : (code : ℕ) → (code ≡ 0 → ⊥) → code < 4096 → ((d : ℕ) (a : Buffers) → anyCode code (rowsAll kind n p d a) ≡ false)
+      → ((d : ℕ) (a : Buffers) (k : Chosen) → Runs k → anyCode code (rowsOf k (asked kind p d a) a) ≡ false)
+      → callRun kind n p c b .answer ≡ code → anyCode code (rowsOf (chosen n) (asked kind p c b) b) ≡ true
+  answered code z low general own e =
       ⊎-elim
-      (λ (h : servesRun n ≡ true). absurd (run-never h (255 ∕ 11) (λ z. omega arith) (omega arith) (general-11 kind n p) (run-11 kind p) e))
-      (λ (h : servesRun n ≡ false).
-      own-11 kind n p c b (chosen n) (own-code kind n p c b (255 ∕ 11) (λ z. omega arith) (general-11 kind n p c b) (rw (run-plain kind n p c b h) at e)))
+      (λ (h : servesRun n ≡ true). absurd (run-never h code z low general own e))
+      (λ (h : servesRun n ≡ false). own-code kind n p c b code z (general c b) (rw (run-plain kind n p c b h) at e))
       (either (servesRun n))
 
+  -- a call answered 255/11: no place below the capacity is empty; ..
+  pub answered-11 : callRun kind n p c b .answer ≡ 255 ∕ 11 → leb (unpack (b .list) .capacity) (freePlace (unpack (b .list))) ≡ true
+  answered-11 e = own-11 kind n p c b (chosen n) (answered (255 ∕ 11) (λ z. omega arith) (omega arith) (general-11 kind n p) (run-11 kind p) e)
+
+  -- .. answered 14/0: the empty ones are fewer than the run's records that the process does not hold
   pub answered-14 : callRun kind n p c b .answer ≡ 14 ∕ 0
       → ltb (freePlaces (unpack (b .list))) (count (isNew (unpack (b .list)) p (callerFile p (unpack (b .list)) (b .fcb)) (recordOf (b .fcb))) c) ≡ true
-  answered-14 e =
-      ⊎-elim
-      (λ (h : servesRun n ≡ true). absurd (run-never h (14 ∕ 0) (λ z. omega arith) (omega arith) (general-14 kind n p) (run-14 kind p) e))
-      (λ (h : servesRun n ≡ false).
-      own-14 kind n p c b (chosen n) (own-code kind n p c b (14 ∕ 0) (λ z. omega arith) (general-14 kind n p c b) (rw (run-plain kind n p c b h) at e)))
-      (either (servesRun n))
+  answered-14 e = own-14 kind n p c b (chosen n) (answered (14 ∕ 0) (λ z. omega arith) (omega arith) (general-14 kind n p) (run-14 kind p) e)

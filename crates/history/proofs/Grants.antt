@@ -38,13 +38,15 @@ module _ (kind : Kind) (g : Begun kind) (s : State) (items : List Item) (groups 
   abbrev l : LockList
   l = unpack (s .list)
 
+  -- the image is sound, ..
   pub image-sound : SoundImage kind highest (s .image)
   image-sound = sound-of kind _ (s .image) (i .both .image-sound)
 
+  -- .. and the list is, against it
   pub list-sound : SoundLocks kind l (s .image)
   list-sound = list-sound-of kind (s .list) (s .image) (i .both .list-sound)
 
-  -- 2
+  -- 2: the list has each item as often as the history holds it, which is at most once
   pub holds-same : (x : Item) → (x .kind ≡ 0 → ⊥) → Holds x l items
   unfolding isItemAt passesAt
   holds-same x n = record {
@@ -52,11 +54,11 @@ module _ (kind : Kind) (g : Begun kind) (s : State) (items : List Item) (groups 
     once = i .once .once x;
   }
 
-  -- 3
+  -- 3: the items held and the free places add up
   pub add-up : AddUp (g .capacity) l items
   add-up = subst (λ (c : ℕ). AddUp c l items) (i .capacity) (adds-up kind l (s .image) list-sound items (i .tallied) (i .solid))
 
-  -- 8
+  -- a record is held exactly where the history holds its lock
   held-same : (p : ℕ) (f : File) (r : ℕ) → f .user ≡ userOf l p → held l p f r ≡ isAmong (freshLock p (f .name) r) items
   held-same p f r u =
       let some : freshLock p (f .name) r .kind ≡ 0 → ⊥ = λ (z : _≡_ {A = ℕ} 2 0). absurd (omega arith) in
@@ -70,6 +72,7 @@ module _ (kind : Kind) (g : Begun kind) (s : State) (items : List Item) (groups 
       let w : l .capacity ≤ lowest (isEmptyAt l) (l .capacity) = leb-true _ _ h in
       count-zero (isEmptyAt l) (l .capacity) (any-never (isEmptyAt l) (l .capacity) (λ j m. lowest-over (isEmptyAt l) (l .capacity) j w m))
 
+  -- 8: 255/11 and 14/0 are given only where these do not suffice; ..
   pub full : (q : Ask) → Full (g .capacity) (g .users) items q (outcomeOf (callRun kind) q s .answer)
   unfolding outcomeOf isUnheld isNew
   full q = record {
@@ -86,6 +89,7 @@ module _ (kind : Kind) (g : Begun kind) (s : State) (items : List Item) (groups 
         rw e (omega arith);
   }
 
+  -- .. of a process that holds nothing the list has no item
   pub none-left : (p : ℕ) → NoneBy p items → NoneLeft p l items
   unfolding itemsBy
   none-left p w = record {

@@ -33,11 +33,12 @@ use Rattle.history.proofs.Served.{writes-serve}
 use Rattle.history.proofs.Counting.{counted-grown, counted-old, touched-old, touched-new, new-none, dropped, carried-over}
 use Rattle.history.proofs.Done.{usersIn, deed-done, count-refused, file-meant, new-meant}
 
--- a run of one record touches its group; a run of one more touches the next one's too
+-- a run of one record touches its group, ..
 touching-one : (kind : Kind) (f : File) (r : ℕ) (g : List Group) → touchingRun kind f r 1 g ≡ touching (group f (r / blockRecords kind)) g
 unfolding touchingRun touchingAt turns
 touching-one kind f r g = let e : r + 0 ≡ r = omega arith in ap (λ (n : ℕ). touching (group f (n / blockRecords kind)) g) e
 
+-- .. a run of one more the next one's too
 pub touching-more : (kind : Kind) (f : File) (r i : ℕ) (g : List Group)
     → touchingRun kind f (r + i) 1 (touchingRun kind f r i g) ≡ touchingRun kind f r (suc i) g
 touching-more kind f r i g = touching-one kind f (r + i) (touchingRun kind f r i g) ∙ (unfold touchingRun touchingAt turns in refl)
@@ -90,6 +91,7 @@ module _ (kind : Kind) (q : Ask) (s : State) (g : List Group) (t : Counted kind 
       (λ (k : New kind (s .image) u f r). absurd (new-none kind (s .image) u f r long g t k _ (at-of kind (s .image) f r long some)))
       (written-of kind p c b ok w false v full)
 
+  -- after a plain call the image has just the groups that the history then counts
   pub count-step : (servesRun (q .function) ≡ true → c ≡ 1) → (o : Outcome) → o .answer < 4096 → Leaf kind (q .function) p c b o
       → Counted kind (o .left .image) (counting kind (deed (usersIn s) (event q (o .answer))) g)
   unfolding counting deedBy

@@ -8,6 +8,7 @@ use native.Mathlib.Omega.{arith}
 use borrow.Author.Tests.{eqb-true}
 use Rattle.words.specs.Tests.{_if_else_}
 use Rattle.words.proofs.Tests.{either, never, and-fst, and-snd, lowest-over}
+use Rattle.words.specs.Lists.{without}
 use Rattle.rules.specs.declared.kind.Kind.{Kind}
 use Rattle.rules.specs.Kinds.{entries}
 use Rattle.rules.specs.declared.file.File.{File}
@@ -31,7 +32,7 @@ use Rattle.rules.proofs.Passed.{Passed}
 use Rattle.soundness.proofs.Leaves.{Leaf, openBy, modeBy, Idle, refused, reopened, newlyOpened, newlyMade, nowClosed, nowErased, nowRenamed, nowRead, nowWritten, nowRewritten, nowLocked, lockIdle, nowUnlocked, unlockIdle, nowTold, nowEnded}
 use Rattle.history.specs.History.{Ask, State, event, lent}
 use Rattle.history.specs.Deeds.{Deed, deedBy, deed}
-use Rattle.history.specs.Held.{sameItem, isAmong, granting, grantingRun, without, isBy, holding}
+use Rattle.history.specs.Held.{sameItem, isAmong, granting, grantingRun, isBy, holding}
 use Rattle.history.proofs.Items.{alike-of, alike-so, granting-held, granting-new}
 use Rattle.history.proofs.Tallied.{Tally, held-listed, not-held, tally-set, tally-gone, tally-idle}
 use Rattle.history.proofs.Locking.{tally-run}
@@ -152,6 +153,7 @@ module _ (kind : Kind) (q : Ask) (s : State) (g : List Item) (t : Tally (unpack 
       let h = emptied-shape kind p c b ok away turn e w in
       rw (unpacked kind (withItems l (map turn (l .items))) (s .image) (h .sound) (h .shape)) (tally-gone l away turn e (shape-of kind p c b ok) g t)
 
+  -- after a plain call the list has just the items that the history then holds
   pub held-step : (o : Outcome) → Leaf kind (q .function) p c b o → Tally (unpack (o .left .list)) (holding (deed (usersIn s) (event q (o .answer))) g)
   unfolding holding deedBy grantingRun closed unlockedRun terminated isBy _if_else_
   held-step o (refused code z) = rw (held-refused (usersIn s) q code g z) t

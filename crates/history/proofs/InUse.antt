@@ -8,9 +8,9 @@ use native.Mathlib.Omega.{arith}
 use lib.Dec.{eqb, leb}
 use borrow.Author.Tests.{eqb-true, eq-eqb, ne-eqb, le-leb, leb-true, not-true}
 use Rattle.words.specs.Tests.{_and_, _or_, any, count}
-use Rattle.words.proofs.Tests.{either, and-fst, and-snd, any-found, any-some, any-never, same-test}
+use Rattle.words.proofs.Tests.{either, and-fst, and-snd, and-false, any-found, any-some, any-never, same-test}
 use Rattle.words.proofs.Counts.{count-ext, count-one, count-yes, count-not, count-zero}
-use Rattle.words.proofs.Sets.{and-both, and-left, not-of-false, count-none}
+use Rattle.words.proofs.Sets.{and-both, and-left, and-last, not-of-false, count-none}
 use Rattle.rules.specs.declared.kind.Kind.{Kind}
 use Rattle.rules.specs.Kinds.{entries, numbers}
 use Rattle.rules.specs.Drive.{highest, blocks, mapNumber, holdsNumber, namesBlock, isUsed}
@@ -30,11 +30,7 @@ module _ (m : ℕ → ℕ) (t : ℕ → Bool) (n : ℕ) (top : ℕ) where
       (once : (i j : ℕ) → i < top → j < top → t i ≡ true → t j ≡ true → m i ≡ m j → i ≡ j) where
     meets : (k : ℕ) → k ≤ top → count (λ (b : ℕ). leb 2 b and met k b) n ≡ count t k
     unfolding met any
-    meets zero s = count-zero _ n (any-never _ n (λ b l. none (leb 2 b))) ∙ count-none t
-      where
-        none : (x : Bool) → (x and false) ≡ false
-        none true = unfold _and_ in refl
-        none false = unfold _and_ in refl
+    meets zero s = count-zero _ n (any-never _ n (λ b l. and-false (leb 2 b))) ∙ count-none t
     meets (suc k) s =
         let z = meets k (omega arith) in
         let below : k < top = omega arith in
@@ -49,7 +45,7 @@ module _ (m : ℕ → ℕ) (t : ℕ → Bool) (n : ℕ) (top : ℕ) where
         let here : (leb 2 a and met (suc k) a) ≡ true = and-both _ _ (le-leb 2 a (w .0))
         (any-found (λ (i : ℕ). t i and eqb (m i) a) (suc k) k (omega arith) (and-both _ _ q (eq-eqb a a refl))) in
         count-one (λ (b : ℕ). leb 2 b and met k b) (λ (b : ℕ). leb 2 b and met (suc k) b) a n (w .1) fresh here
-        (λ b l y. ap (λ (x : Bool). leb 2 b and x) (skip (met k b) (t k and eqb (m k) b) (and-off (t k) (eqb (m k) b) (ne-eqb (m k) b (λ d. y (sym d))))))
+        (λ b l y. ap (λ (x : Bool). leb 2 b and x) (skip (met k b) (t k and eqb (m k) b) (and-last (t k) (eqb (m k) b) (ne-eqb (m k) b (λ d. y (sym d))))))
         ∙ ap (λ (x : ℕ). x + 1) z ∙ sym (count-yes t k q))
         (λ (q : t k ≡ false).
         count-ext (λ (b : ℕ). leb 2 b and met (suc k) b) (λ (b : ℕ). leb 2 b and met k b) n
@@ -61,12 +57,8 @@ module _ (m : ℕ → ℕ) (t : ℕ → Bool) (n : ℕ) (top : ℕ) where
         skip true y e = unfold _or_ in refl
         skip false y e = unfold _or_ in e
 
-        and-off : (x y : Bool) → y ≡ false → (x and y) ≡ false
-        and-off true y e = unfold _and_ in e
-        and-off false y e = unfold _and_ in refl
-
         absent : (k a : ℕ) → ((i : ℕ) → i < k → (t i and eqb (m i) a) ≡ false) → (leb 2 a and met k a) ≡ false
-        absent k a h = and-off (leb 2 a) (met k a) (any-never (λ (i : ℕ). t i and eqb (m i) a) k h)
+        absent k a h = and-last (leb 2 a) (met k a) (any-never (λ (i : ℕ). t i and eqb (m i) a) k h)
 
 -- ---- the numbers in the maps of a sound image
 
@@ -99,6 +91,7 @@ module _ (kind : Kind) (s : List ℕ) (g : SoundImage kind highest s) where
       (and-both _ _ (not-of-false _ (n .entry-used))
       (any-found (holdsNumber kind s b (w .0 / numbers kind)) (numbers kind) (w .0 % numbers kind) (n .place-there) (and-snd _ _ (w .2)))))
 
+  -- the blocks in use are as many as the places of the maps that hold a number
   pub in-use : blocksInUse kind s ≡ count (isNumbered kind s) (allNumbers kind)
   unfolding blocksInUse isInUse
   in-use =

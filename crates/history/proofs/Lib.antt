@@ -1,6 +1,6 @@
+-- Demands 1 to 3 hold of every engine that serves as the rules do, and the wrong engines fall. Assumes nothing.
 pub mod Opened
 pub mod Tried
-pub mod Tallies
 pub mod Start
 pub mod Items
 pub mod Tallied

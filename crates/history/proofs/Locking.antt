@@ -1,4 +1,4 @@
--- The run's records locked, and granted. Assumes nothing.
+-- The run's records locked in the list are those that the history grants. Assumes nothing.
 use Prim.Native.Nat.{ℕ, zero, suc, _+_, _≤_, _<_}
 use mathlib.Core.Path.{_≡_, sym, ap, _∙_}
 use mathlib.Core.Bool.{true, false}
@@ -24,7 +24,7 @@ use Rattle.history.proofs.Items.{alike-of, alike-so, granting-held, gra
 use Rattle.history.proofs.Tallied.{Tally, held-listed, not-held, tally-set}
 
 module _ (kind : Kind) (l : LockList) (s : List ℕ) (g : SoundLocks kind l s) (p : ℕ) (f : File) (r : ℕ) (under : f .user ≡ userOf l p) where
-  -- a lock that the process holds stands in the list
+  -- a lock that the process holds stands in the list, ..
   pub lock-listed : held l p f r ≡ true → (i : ℕ) × (i < 64) × (sameItem (freshLock p (f .name) r) (itemAt l i) ≡ true)
   lock-listed h =
       let x = held-some l p f r h in
@@ -40,6 +40,7 @@ module _ (kind : Kind) (l : LockList) (s : List ℕ) (g : SoundLocks kind l s) (
             (record { kinds = sym (w .kind-two); processes = sym (x .2); names = name-sym _ _ (w .named); modes = sym one; numbers = sym (w .number) }),
       )
 
+  -- .. and one that stands there it holds
   pub listed-lock : (i : ℕ) → i < 64 → sameItem (freshLock p (f .name) r) (itemAt l i) ≡ true → held l p f r ≡ true
   listed-lock i m h =
       let w = alike-of (freshLock p (f .name) r) (itemAt l i) h in
@@ -73,6 +74,7 @@ module _ (kind : Kind) (s : List ℕ) (l₀ : LockList) (p : ℕ) (f : File) (r 
       rw (q, granting-new it items (not-held l items z it some none)) (tally-set l (freePlace l) it (w .shape) inside (e .empty) items z))
       (either (held l p f (r + k)))
 
+  -- after each record of the run the list has just what is granted so far
   pub tally-run : (k : ℕ) → k ≤ n → Tally (turns (lockedAt p f r) k l₀) (turns (grantingAt p (f .name) r) k g)
   unfolding turns
   tally-run zero m = y

@@ -41,7 +41,7 @@ module _ (kind : Kind) (g : Begun kind) (s : State) (items : List Item) (groups 
   abbrev sound : SoundImage kind highest (s .image)
   sound = image-sound kind g s items groups i
 
-  -- 7
+  -- 7: it changes no item of another process, ..
   pub items-kept : (q : Ask) → ItemsApart (q .process) (unpack (s .list)) (unpack (outcomeOf (call kind) q s .left .list))
   unfolding outcomeOf
   items-kept q = items-left kind (q .process) (q .count) (lent q s) _ _ (left kind (q .function) (q .process) (q .count) (lent q s) .list)
@@ -67,6 +67,7 @@ module _ (kind : Kind) (g : Begun kind) (s : State) (items : List Item) (groups 
       let w = length-long kind (s .image) (sound .long) in
       part-same (s .image) t (32 * e) 32 (omega arith) long (λ k l. h .at k l)
 
+  -- .. and no file under another user
   pub files-kept : (q : Ask) (u : ℕ) → (byte (g .users) (q .process) ≡ u → ⊥) → FilesApart kind u (s .image) (outcomeOf (call kind) q s .left .image)
   unfolding isUnder hasBlock
   files-kept q u n =
@@ -91,7 +92,7 @@ module _ (kind : Kind) (g : Begun kind) (s : State) (items : List Item) (groups 
             w .forth f r (blockOf kind (s .image) f r) l (λ z. not-mine (f .user) z e) a .bytes;
       }
 
-  -- 6
+  -- 6: it does not change a record that another process has locked
   pub locked : (q : Ask) (p : ℕ) (name : List ℕ) (r : ℕ) → length name ≡ 11 → isAmong (freshLock p name r) items ≡ true → (q .process ≡ p → ⊥)
       → Unchanged kind (byte (g .users) p) name r (s .image) (outcomeOf (call kind) q s .left .image)
   unfolding outcomeOf isPlain

@@ -11,6 +11,7 @@ use Rattle.words.specs.Tests.{_and_, _or_, _if_else_, count}
 use Rattle.words.proofs.Tests.{either, never, and-fst, and-snd, any-found, any-some, same-test}
 use Rattle.words.proofs.Sets.{and-both, not-of-false}
 use Rattle.words.proofs.Counts.{any-count, count-any}
+use Rattle.words.specs.Lists.{tally}
 use Rattle.rules.specs.declared.kind.Kind.{Kind}
 use Rattle.rules.specs.Kinds.{blockRecords, numbers}
 use Rattle.rules.specs.declared.file.File.{File}
@@ -20,11 +21,11 @@ use Rattle.rules.proofs.Sizes.{place-fits, flat-entry, flat-place, flat-short, 
 use Rattle.rules.proofs.Sound.{Is, Names, SoundImage, file-long}
 use Rattle.rules.proofs.Items.{file-is, file-refl}
 use Rattle.soundness.proofs.Blocks.{At, at-of, of-at, at-names}
-use Rattle.history.specs.Held.{tally}
 use Rattle.history.specs.Groups.{Group, group, sameGroup, isCounted, hasBlock, isNumbered, groupAt, groupsBelow, groupsOf, allNumbers}
 
 -- ---- place k of entry e, and place numbers·e + k of all
 
+-- a place, numbered through all the maps, that holds a number names a block, ..
 pub numbered-names : (kind : Kind) (s : List ℕ) (i : ℕ) → i < allNumbers kind → isNumbered kind s i ≡ true → Names kind s (i / numbers kind) (i % numbers kind)
 unfolding isNumbered
 numbered-names kind s i m h = record {
@@ -34,24 +35,29 @@ numbered-names kind s i m h = record {
   some = eqb-false _ _ (not-true _ (and-snd _ _ h));
 }
 
+-- .. one that names a block holds a number, ..
 pub names-numbered : (kind : Kind) (s : List ℕ) (i : ℕ) → Names kind s (i / numbers kind) (i % numbers kind) → isNumbered kind s i ≡ true
 unfolding isNumbered
 names-numbered kind s i n = and-both _ _ (not-of-false _ (n .entry-used)) (not-of-false _ (ne-eqb _ _ (n .some)))
 
+-- .. and so it is of place k of entry e
 pub names-flat : (kind : Kind) (s : List ℕ) (e k : ℕ) → Names kind s e k → isNumbered kind s (numbers kind * e + k) ≡ true
 names-flat kind s e k n =
     names-numbered kind s (numbers kind * e + k) (rw (flat-entry kind e k (n .place-there), flat-place kind e k (n .place-there)) n)
 
 -- ---- groups
 
+-- what two groups that are the same have in common
 pub record Likewise (x y : Group) : Type 0 where
   pub number-same : x .number ≡ y .number
   pub files : sameFile (x .file) (y .file) ≡ true
 
+-- groups that are the same have both in common, ..
 pub likewise-of : (x y : Group) → sameGroup x y ≡ true → Likewise x y
 unfolding sameGroup
 likewise-of x y h = record { number-same = eqb-true _ _ (and-fst _ _ h); files = and-snd _ _ h }
 
+-- .. and groups that have are the same
 pub likewise-so : (x y : Group) → Likewise x y → sameGroup x y ≡ true
 unfolding sameGroup
 likewise-so x y h = and-both _ _ (eq-eqb _ _ (h .number-same)) (h .files)
@@ -73,12 +79,14 @@ below-many kind s test (suc n) =
     (λ (q : isNumbered kind s n ≡ true). rw q (ap (λ (m : ℕ). m + (1 if test (groupAt kind s n) else 0)) k))
     (λ (q : isNumbered kind s n ≡ false). rw q (omega arith)) (either (isNumbered kind s n))
 
+-- so it is of the groups that have a block at the start
 pub start-counted : (kind : Kind) (s : List ℕ) → Counted kind s (groupsOf kind s)
 unfolding groupsOf
 start-counted kind s = record { as-many = λ test. below-many kind s test (allNumbers kind) }
 
 -- ---- among the groups
 
+-- a group that is counted is in the tally, ..
 pub counted-tally : (x : Group) (g : List Group) → isCounted x g ≡ true → 1 ≤ tally (sameGroup x) g
 unfolding isCounted tally _or_ _if_else_
 counted-tally x [] h = absurd (never h refl)
@@ -86,6 +94,7 @@ counted-tally x (y ∷ ys) h =
     ⊎-elim (λ (q : sameGroup x y ≡ true). rw q (omega arith))
     (λ (q : sameGroup x y ≡ false). rw q (let k = counted-tally x ys (rw q at h) in omega arith)) (either (sameGroup x y))
 
+-- .. and one in the tally is counted
 pub tally-counted : (x : Group) (g : List Group) → 1 ≤ tally (sameGroup x) g → isCounted x g ≡ true
 unfolding isCounted tally _or_ _if_else_
 tally-counted x [] h = absurd (omega arith)
@@ -98,7 +107,7 @@ tally-counted x (y ∷ ys) h =
 
 -- ---- a group that the history counts has a block, and the other way round
 
--- the group of a record's number
+-- the place of a record's block number is of the record's group
 pub at-group : (kind : Kind) (s : List ℕ) (f : File) (r n e : ℕ) → Is s f (r / 128) e → n ≡ mapPlace kind r → n < numbers kind
     → groupAt kind s (numbers kind * e + n) ≡ group f (r / blockRecords kind)
 unfolding groupAt
@@ -108,6 +117,7 @@ at-group kind s f r n e w h l =
     rw (flat-entry kind e n l, flat-place kind e n l) (λ i. record { file = w .file i; number = x i })
 
 module _ (kind : Kind) (s : List ℕ) (g : List Group) (c : Counted kind s g) where
+  -- a group of a place that holds a number is counted, ..
   pub place-counted : (x : Group) (i : ℕ) → i < allNumbers kind → isNumbered kind s i ≡ true → sameGroup x (groupAt kind s i) ≡ true → isCounted x g ≡ true
   unfolding holdsGroup
   place-counted x i m h k =
@@ -115,6 +125,7 @@ module _ (kind : Kind) (s : List ℕ) (g : List Group) (c : Counted kind s g) wh
       (any-found (holdsGroup kind (sameGroup x) s) (allNumbers kind) i m (and-both _ _ h k)) in
       tally-counted x g (rw (c .as-many (sameGroup x)) at w)
 
+  -- .. and one that is counted has such a place;
   pub counted-place : (x : Group) → isCounted x g ≡ true → (i : ℕ) × (i < allNumbers kind) × (isNumbered kind s i ≡ true)
       × (sameGroup x (groupAt kind s i) ≡ true)
   unfolding holdsGroup
@@ -123,7 +134,7 @@ module _ (kind : Kind) (s : List ℕ) (g : List Group) (c : Counted kind s g) wh
       (count-any (holdsGroup kind (sameGroup x) s) (allNumbers kind) (rw (c .as-many (sameGroup x)) (counted-tally x g h))) in
       (w .0, w .1, and-fst _ _ (w .2), and-snd _ _ (w .2))
 
-  -- the record r of file f is in that group
+  -- a record whose group is counted has a block, ..
   pub counted-at : (f : File) (r : ℕ) → length (f .name) ≡ 11 → isCounted (group f (r / blockRecords kind)) g ≡ true → (b : ℕ) × At kind s f r b
   unfolding groupAt
   counted-at f r l h =
@@ -148,6 +159,7 @@ module _ (kind : Kind) (s : List ℕ) (g : List Group) (c : Counted kind s g) wh
         },
       )
 
+  -- .. and the group of one that has a block is counted: ..
   pub at-counted : (f : File) (r b : ℕ) → At kind s f r b → isCounted (group f (r / blockRecords kind)) g ≡ true
   at-counted f r b a =
       let n = at-names kind s f r b a in
@@ -156,6 +168,7 @@ module _ (kind : Kind) (s : List ℕ) (g : List Group) (c : Counted kind s g) wh
       place-counted x (numbers kind * a .entry + mapPlace kind r) (flat-below kind _ _ (n .entry-there) l) (names-flat kind s (a .entry) (mapPlace kind r) n)
       (rw (at-group kind s f r (mapPlace kind r) (a .entry) (a .is) refl l) (likewise-so x x (record { number-same = refl; files = file-refl f })))
 
+  -- .. a record has a block exactly where its group is counted
   pub each-counted : SoundImage kind highest s → (f : File) (r : ℕ) → length (f .name) ≡ 11
       → hasBlock kind s f r ≡ isCounted (group f (r / blockRecords kind)) g
   unfolding hasBlock

@@ -7,6 +7,7 @@ use native.Mathlib.Omega.{arith}
 use lib.ListN.{length}
 use Rattle.words.proofs.Tests.{any-never}
 use Rattle.words.proofs.Counts.{count-zero}
+use Rattle.words.specs.Lists.{tally}
 use Rattle.rules.specs.declared.kind.Kind.{Kind}
 use Rattle.rules.specs.declared.item.Item.{Item}
 use Rattle.rules.specs.declared.list.LockList.{LockList}
@@ -19,7 +20,7 @@ use Rattle.soundness.proofs.Walk.{walk}
 use Rattle.soundness.proofs.Left.{left}
 use Rattle.history.specs.History.{Ask, State, Begun, outcomeOf, kept, event, firstState, lent}
 use Rattle.history.specs.Deeds.{deed}
-use Rattle.history.specs.Held.{tally, holding}
+use Rattle.history.specs.Held.{holding}
 use Rattle.history.specs.Groups.{Group, counting, groupsOf}
 use Rattle.history.proofs.Start.{begun-list, begun-sound, begun-empty, first}
 use Rattle.history.proofs.Items.{Once, once-holding}
@@ -53,6 +54,7 @@ module _ (kind : Kind) (g : Begun kind) where
         (any-never (passesAt test (first kind g)) 64 (λ i m. w .not-empty _ (begun-empty kind g i m)));
   })
 
+  -- it holds at the start, ..
   pub begun-inv : Inv kind g (firstState kind g) [] (groupsOf kind (g .image))
   unfolding tally
   begun-inv = record {
@@ -68,7 +70,7 @@ module _ (kind : Kind) (g : Begun kind) where
     counted = start-counted kind (g .image);
   }
 
-  -- one plain call, of 33, 34 and 40 with count 1
+  -- .. and after one plain call, of 33, 34 and 40 with count 1
   pub step-inv : (q : Ask) (s : State) (items : List Item) (groups : List Group) → Inv kind g s items groups → (servesRun (q .function) ≡ true → q .count ≡ 1)
       → Inv kind g (kept (outcomeOf (call kind) q s)) (holding (deed (g .users) (event q (outcomeOf (call kind) q s .answer))) items)
       (counting kind (deed (g .users) (event q (outcomeOf (call kind) q s .answer))) groups)

@@ -1,4 +1,4 @@
--- A record's block and its 128 bytes, before and after a change of the image. Assumes nothing.
+-- A record keeps its block and its 128 bytes when other bytes of the image change. Assumes nothing.
 use Prim.Native.Nat.{ℕ, _+_, _*_, _≤_, _<_}
 use mathlib.Core.Path.{_≡_, sym, _∙_}
 use mathlib.Core.Bool.{true, false}
@@ -39,7 +39,7 @@ module _ (kind : Kind) (s t : List ℕ) (f : File) (r b : ℕ) (g : SoundImage k
   past : 32 * entries kind ≤ recordAt kind b r
   past = record-past kind b r (at-range kind s f r b g a .0)
 
-  -- all past the directory is the same, but for m bytes from x on, which are others
+  -- a record that keeps its block keeps its bytes where all past the directory is the same, but for m bytes from x on, which are others, ..
   pub seen-kept : (x m : ℕ) → Data kind s t x m → (recordAt kind b r + 128 ≤ x) ⊎ (x + m ≤ recordAt kind b r) → At kind t f r b → Seen kind s t f r b
   seen-kept x m d c w = record {
     there = w;
@@ -47,7 +47,7 @@ module _ (kind : Kind) (s t : List ℕ) (f : File) (r b : ℕ) (g : SoundImage k
         (⊎-elim (λ (z : recordAt kind b r + 128 ≤ x). inl (omega arith)) (λ (z : x + m ≤ recordAt kind b r). inr (omega arith)) c));
   }
 
-  -- all of it is
+  -- .. and where all of it is
   pub seen-all : ((i : ℕ) → 32 * entries kind ≤ i → byte t i ≡ byte s i) → At kind t f r b → Seen kind s t f r b
   seen-all h w = seen-kept 0 0 (record { at = λ i l c. h i l }) (inr (omega arith)) w
 
@@ -83,5 +83,6 @@ module _ (kind : Kind) (s t : List ℕ) (f : File) (r : ℕ) (g : SoundImage kin
           inr (omega (arith, block-inside kind y x v, record-over kind x q)))
           (either (ltb x y))
 
+  -- it keeps its block and its bytes
   pub seen-written : Old kind s t f r ⊎ New kind s t f r → ((h ≡ f) × (q ≡ r) → ⊥) → Seen kind s t h q b
   seen-written w n = ⊎-elim (λ (k : Old kind s t f r). seen-old k n) (λ (k : New kind s t f r). seen-new k) w

@@ -58,12 +58,13 @@ served-as n k e = same-test _ _ (chosen-on n) forth ∙ ap serves e
     forth : serves (chosen n) ≡ true → servesRun n ≡ true
     forth h = ⊎-elim (λ q. q) (λ (q : servesRun n ≡ false). absurd (never h (off q))) (either (servesRun n))
 
+-- 34 and 40 take one, ..
 pub writes-serve : (n : ℕ) → (chosen n ≡ Call Write) ⊎ (chosen n ≡ Call WriteZeros) → servesRun n ≡ true
 unfolding servesRun functionOf _or_
 writes-serve n k =
     ⊎-elim (λ (e : chosen n ≡ Call Write). served-as n Write e) (λ (e : chosen n ≡ Call WriteZeros). served-as n WriteZeros e) k
 
--- 46 takes none
+-- .. 46 takes none
 pub figure-plain : (n : ℕ) → chosen n ≡ Call FreeSpace → servesRun n ≡ false
 unfolding servesRun functionOf _or_
 figure-plain n e = served-as n FreeSpace e

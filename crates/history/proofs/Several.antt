@@ -36,6 +36,7 @@ use Rattle.history.proofs.Run.{Inv, step-inv}
 abbrev askAt : Ask → ℕ → Buffers → Ask
 askAt q i b = record { function = q .function; process = q .process; count = 1; fcb = fcbAt i (b .fcb); dma = dmaAt i (b .dma) }
 
+-- of the buffers, what the host keeps
 abbrev pub stateIn : Buffers → State
 stateIn b = state (b .list) (b .image)
 
@@ -48,6 +49,7 @@ touched-or-none users q i n h =
     of-three (λ (m : ℕ). (touches (fileBy users q) (recordOf (q .fcb)) i if writesRun m else nothing) ≡ deedBy (chosen m) users
     (withCount i q)) refl refl refl n h
 
+-- a call refused after i records did what an accepted call of these does
 pub deed-partly : (users : List ℕ) (q : Ask) (code i : ℕ) → servesRun (q .function) ≡ true → (code ≡ 0 → ⊥) → code < 4096
     → deed users (event q (code + 0 ∕ (16 * i))) ≡ deedBy (chosen (q .function)) users (withCount i q)
 deed-partly users q code i h z low =
@@ -143,9 +145,11 @@ module _ (kind : Kind) (g : Begun kind) (q : Ask) (s : State) (items : List Item
     taken : Steps kind n p (lent q s) i (run 0 i left)
     taken = rw (w .is) at (steps kind n p (lent q s) i)
 
+    -- what holds between calls holds after them, ..
     pub ran-inv : Inv kind g (stateIn left) (holding (deedTo i) items) (counting kind (deedTo i) groups)
     ran-inv = rw (held-run (chosen n) (run-chosen n (w .serves)) (g .users) (withCount i q) items) (inv-to (w .serves) long i (run 0 i left) taken .1)
 
+    -- .. and what each plain call of the process keeps, and two that follow each other keep together, they keep
     pub ran-each : (R : State → State → Type 0) → R s s → ((t v : State) → R s t → R t v → R s v)
         → ((a : Ask) (t : State) (gs : List Group) → a .process ≡ p → Inv kind g t items gs → R t (kept (outcomeOf (call kind) a t))) → R s (stateIn left)
     ran-each R none join one = each-to (w .serves) long R none join one i (run 0 i left) taken

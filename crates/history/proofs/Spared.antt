@@ -79,7 +79,7 @@ items-then p l m k x y = record {
 -- ---- every call
 
 module _ (kind : Kind) (g : Begun kind) (s : State) (items : List Item) (groups : List Group) (i : Inv kind g s items groups) (q : Ask) where
-  -- 6
+  -- 6: no call changes a record that another process has locked
   pub locked-stays : (p : ℕ) (name : List ℕ) (r : ℕ) → length name ≡ 11 → isAmong (freshLock p name r) items ≡ true → (q .process ≡ p → ⊥)
       → Unchanged kind (byte (g .users) p) name r (s .image) (outcomeOf (callRun kind) q s .left .image)
   locked-stays p name r long among n =
@@ -96,7 +96,7 @@ module _ (kind : Kind) (g : Begun kind) (s : State) (items : List Item) (groups 
       (λ t v. files-then kind u (s .image) (t .image) (v .image))
       (λ a t gs e w. files-kept kind g t items gs w a u (λ z. n (ap (λ (p : ℕ). byte (g .users) p) (sym e) ∙ z)))
 
-  -- a process over 15 has no user: its call is refused
+  -- 7: none changes a file under another user (a process over 15 has no user: its call is refused), ..
   pub files-apart : (u : ℕ) → (isUserOf (g .users) (q .process) u ≡ true → ⊥) → FilesApart kind u (s .image) (outcomeOf (callRun kind) q s .left .image)
   unfolding isUserOf outcomeOf badNumbers
   files-apart u n =
@@ -108,6 +108,7 @@ module _ (kind : Kind) (g : Begun kind) (s : State) (items : List Item) (groups 
       rw (bad-numbers kind (q .function) (q .process) (q .count) (lent q s) over) (files-same kind u (s .image)))
       (either (ltb (q .process) 16))
 
+  -- .. or an item of another process
   pub items-apart : ItemsApart (q .process) (unpack (s .list)) (unpack (outcomeOf (callRun kind) q s .left .list))
   items-apart =
       call-each kind g q s items groups i (λ (t v : State). ItemsApart (q .process) (unpack (t .list)) (unpack (v .list)))

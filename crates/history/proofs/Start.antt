@@ -1,4 +1,4 @@
--- The fresh list that Start writes. Assumes nothing.
+-- The fresh list that Start writes is sound, and all its places are empty. Assumes nothing.
 use Prim.Native.Nat.{ℕ, _*_, _<_}
 use mathlib.Core.Path.{_≡_, refl, sym, ap, _∙_}
 use mathlib.Core.Bool.{true, false}
@@ -28,7 +28,7 @@ use Rattle.soundness.proofs.InBytes.{pack-bytes}
 use Rattle.soundness.proofs.Kept.{SoundBoth}
 use Rattle.history.specs.History.{Begun, firstState}
 
--- its places, all empty
+-- as it reads: the limits and users given, and its places, all empty
 abbrev pub fresh : ℕ → ℕ → ℕ → List ℕ → LockList
 fresh c o k users = record { capacity = c; openlimit = o; locklimit = k; users = users; items = replicate 64 emptyPlace }
 
@@ -36,6 +36,7 @@ fresh-bytes : flat packItem (replicate 64 emptyPlace) ≡ replicate (placeSize *
 unfolding flat packItem tab le firstMark secondMark _if_else_
 fresh-bytes = refl
 
+-- packed it is the one that Start writes, ..
 pub fresh-packed : (c o k : ℕ) (users : List ℕ) → length users ≡ 16 → pack (fresh c o k users) ≡ freshList c o k users
 unfolding pack freshList tab
 fresh-packed c o k users h =
@@ -44,6 +45,7 @@ fresh-packed c o k users h =
 fresh-at : (i : ℕ) → i < 64 → (c o k : ℕ) (users : List ℕ) → itemAt (fresh c o k users) i ≡ emptyPlace
 fresh-at i m c o k users = getD-replicate 64 i emptyPlace blank m
 
+-- .. it has the shape of a list, ..
 pub fresh-shape : (c o k : ℕ) (users : List ℕ) → length users ≡ 16 → Shape (fresh c o k users)
 fresh-shape c o k users h = record {
   users-long = h;
@@ -58,6 +60,7 @@ module _ (kind : Kind) (c o k : ℕ) (users s : List ℕ) (g : Limits (fresh c o
       count-zero (isKindByAt (fresh c o k users) n p) 64 (any-never (isKindByAt (fresh c o k users) n p) 64 (λ i m.
       rw (fresh-at i m c o k users) (and-left _ _ (ne-eqb 0 n (λ q. z (sym q))))))
 
+  -- .. and is sound against any image
   pub fresh-sound : SoundLocks kind (fresh c o k users) s
   unfolding clashAt keepsLimits opensBy locksBy goodEmpty isZero all _and_
   fresh-sound = record {
@@ -96,6 +99,7 @@ module _ (c o k : ℕ) (users list : List ℕ) where
   unfolding rowsStart
   none-bad z = row-off (255 ∕ 13) (badStart c o k users list) [] (λ y. omega arith) (eqb-true _ _ z)
 
+  -- a Start that was accepted has tested all of it
   pub started : start c o k users list .answer ≡ 0 ∕ 0 → Started c o k users list
   unfolding start startEnds _if_else_
   started h =
@@ -108,6 +112,7 @@ module _ (c o k : ℕ) (users list : List ℕ) where
 
 -- the beginning is sound, and its list is the fresh one
 module _ (kind : Kind) (g : Begun kind) where
+  -- the list at the beginning, as it reads
   abbrev pub first : LockList
   first = fresh (g .capacity) (g .openlimit) (g .locklimit) (g .users)
 
@@ -123,9 +128,11 @@ module _ (kind : Kind) (g : Begun kind) where
   first-shape : Shape first
   first-shape = fresh-shape (g .capacity) (g .openlimit) (g .locklimit) (g .users) (told .users-long)
 
+  -- what Start wrote reads as that list, ..
   pub begun-list : unpack (firstState kind g .list) ≡ first
   begun-list = rw first-is (unpacked kind first (g .image) first-sound first-shape)
 
+  -- .. it is sound, and so is the image, ..
   pub begun-sound : SoundBoth kind (firstState kind g .list) (g .image)
   begun-sound = rw first-is (record {
     image-sound = g .sound;
@@ -133,8 +140,10 @@ module _ (kind : Kind) (g : Begun kind) where
     list-sound = list-sound-so kind first (g .image) first-sound first-shape;
   })
 
+  -- .. it is bytes, ..
   pub begun-bytes : areBytes (firstState kind g .list) ≡ true
   begun-bytes = rw first-is (pack-bytes kind first (g .image) first-sound first-shape)
 
+  -- .. and its places are empty
   pub begun-empty : (i : ℕ) → i < 64 → itemAt first i .kind ≡ 0
   begun-empty i m = ap (λ (it : Item). it .kind) (fresh-at i m (g .capacity) (g .openlimit) (g .locklimit) (g .users))

@@ -9,47 +9,53 @@ use borrow.Author.Tests.{ne-eqb}
 use Rattle.words.specs.Tests.{_and_, _if_else_, count}
 use Rattle.words.proofs.Tests.{either, any-found, any-some, any-never}
 use Rattle.words.proofs.Counts.{count-ext, count-zero, any-count, count-any, count-set}
-use Rattle.words.proofs.Sets.{and-left}
+use Rattle.words.proofs.Sets.{and-left, and-last}
+use Rattle.words.specs.Lists.{tally, without}
 use Rattle.rules.specs.declared.item.Item.{Item}
 use Rattle.rules.specs.declared.list.LockList.{LockList}
 use Rattle.rules.specs.Locks.{itemAt, withItems, emptyPlace}
 use Rattle.rules.proofs.SoundList.{Shape}
 use Rattle.soundness.proofs.Placed.{at-here, at-other}
 use Rattle.soundness.proofs.Emptied.{Empties, at-gone, at-kept}
-use Rattle.history.specs.Held.{sameItem, tally, isAmong, without}
-use Rattle.history.proofs.Tallies.{tally-without}
+use Rattle.history.specs.Held.{sameItem, isAmong}
+use Rattle.words.proofs.Tallies.{tally-without}
 use Rattle.history.proofs.Items.{among-so, among-not, among-tally}
 
 -- a test that no empty place passes
 pub record OfItems (test : Item → Bool) : Type 0 where
   pub not-empty : (it : Item) → it .kind ≡ 0 → test it ≡ false
 
+-- the item at place i passes
 unfoldable pub passesAt : (Item → Bool) → LockList → ℕ → Bool
 passesAt test l i = test (itemAt l i)
 
+-- as many in the list pass as of those held
 pub record Tally (l : LockList) (g : List Item) : Type 0 where
   pub as-many : (test : Item → Bool) → OfItems test → count (passesAt test l) 64 ≡ tally test g
 
 -- ---- the same item
 
+-- being the same as an item is such a test
 pub same-items : (x : Item) → (x .kind ≡ 0 → ⊥) → OfItems (sameItem x)
 unfolding sameItem
 same-items x n = record { not-empty = λ it z. and-left _ _ (ne-eqb (x .kind) (it .kind) (λ q. n (q ∙ z))) }
 
 module _ (l : LockList) (g : List Item) (t : Tally l g) (x : Item) (n : x .kind ≡ 0 → ⊥) where
-  -- it is among those held where it stands in the list
+  -- an item that stands in the list is among those held, ..
   pub held-listed : (i : ℕ) → i < 64 → sameItem x (itemAt l i) ≡ true → isAmong x g ≡ true
   unfolding passesAt
   held-listed i m h =
       let k = any-count (passesAt (sameItem x) l) 64 (any-found (passesAt (sameItem x) l) 64 i m h) in
       among-so x g (rw (t .as-many (sameItem x) (same-items x n)) at k)
 
+  -- .. one that does not is not, ..
   pub not-held : ((i : ℕ) → i < 64 → sameItem x (itemAt l i) ≡ false) → isAmong x g ≡ false
   unfolding passesAt
   not-held h =
       let k = count-zero (passesAt (sameItem x) l) 64 (any-never (passesAt (sameItem x) l) 64 h) in
       among-not x g (sym (t .as-many (sameItem x) (same-items x n)) ∙ k)
 
+  -- .. and one that is among them stands there
   pub listed-held : isAmong x g ≡ true → (i : ℕ) × (i < 64) × (sameItem x (itemAt l i) ≡ true)
   unfolding passesAt
   listed-held h =
@@ -59,6 +65,7 @@ module _ (l : LockList) (g : List Item) (t : Tally l g) (x : Item) (n : x .kind 
 -- ---- one place set
 
 module _ (l : LockList) (j : ℕ) (it : Item) (h : Shape l) (inside : j < 64) (empty : itemAt l j .kind ≡ 0) (g : List Item) (t : Tally l g) where
+  -- an item put into an empty place is one more that is held
   pub tally-set : Tally (withItems l (set (l .items) j it)) (it ∷ g)
   unfolding passesAt tally
   tally-set = record {
@@ -73,6 +80,7 @@ module _ (l : LockList) (j : ℕ) (it : Item) (h : Shape l) (inside : j < 64) (e
 -- ---- places emptied
 
 module _ (l : LockList) (away : Item → Bool) (turn : Item → Item) (e : Empties away turn) (h : Shape l) (g : List Item) (t : Tally l g) where
+  -- items whose places are emptied are held no more
   pub tally-gone : Tally (withItems l (map turn (l .items))) (without away g)
   unfolding passesAt _and_
   tally-gone = record {
@@ -83,16 +91,12 @@ module _ (l : LockList) (away : Item → Bool) (turn : Item → Item) (e : Empti
         let k : count (passesAt test now) 64 ≡ count (passesAt stays l) 64 =
         count-ext (passesAt test now) (passesAt stays l) 64 (λ i m. ⊎-elim
         (λ (q : away (itemAt l i) ≡ true). ap test (at-gone l away turn e h i m q) ∙ w .not-empty emptyPlace refl
-        ∙ sym (and-right′ (test (itemAt l i)) (not (away (itemAt l i))) (rw q refl)))
+        ∙ sym (and-last (test (itemAt l i)) (not (away (itemAt l i))) (rw q refl)))
         (λ (q : away (itemAt l i) ≡ false). ap test (at-kept l away turn e h i m q) ∙ sym (and-true (test (itemAt l i)) (not (away (itemAt l i))) (rw q refl)))
         (either (away (itemAt l i)))) in
         k ∙ t .as-many stays v ∙ sym (tally-without test away g);
   }
     where
-      and-right′ : (x y : Bool) → y ≡ false → (x and y) ≡ false
-      and-right′ true y q = q
-      and-right′ false y q = refl
-
       and-true : (x y : Bool) → y ≡ true → (x and y) ≡ x
       and-true true y q = q
       and-true false y q = refl

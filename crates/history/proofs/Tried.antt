@@ -4,7 +4,8 @@ use mathlib.Core.Path.{_≡_, refl}
 use mathlib.Core.Bool.{Bool, true, false}
 use mathlib.Core.List.{List, [], _∷_, map}
 use lib.ListN.{length, take, replicate}
-use Rattle.words.specs.Tests.{count}
+use Rattle.words.specs.Tests.{count, sumBelow}
+use Rattle.words.specs.Lists.{tally}
 use Rattle.rules.specs.declared.item.Item.{Item}
 use Rattle.rules.specs.declared.kind.Kind.the-variants.{Small}
 use Rattle.rules.specs.Drive.{highest, blocks, freeBlocks, fileFrom, soundImage}
@@ -13,9 +14,9 @@ use Rattle.rules.specs.Look.{look}
 use Rattle.session.specs.Open.{rules}
 use Rattle.session.specs.Session.{Step, Line, session, orders, fcbWith, dmaWith, firstImage, list0, list3, list11, list12, image0, image2, image5}
 use Rattle.history.specs.History.{Ask, Event, event}
-use Rattle.history.specs.Held.{sameItem, tally, isBy, heldAfter}
+use Rattle.history.specs.Held.{sameItem, isBy, heldAfter}
 use Rattle.history.specs.Groups.{Group, group, isCounted, hasBlock, groupsOf, blocksInUse, countedAfter}
-use Rattle.history.specs.Demands.{isItemAt, sumBelow, itemsBy, isUnheld, figureIn}
+use Rattle.history.specs.Demands.{isItemAt, itemsBy, isUnheld, figureIn}
 use Rattle.history.proofs.Opened.{history, listed}
 
 asked : Step → Ask

@@ -89,6 +89,7 @@ module _ (kind : Kind) (q c : ℕ) (b : Buffers) (i : ℕ) (inside : i < 64) (ot
         seen-written kind s _ (fileBy q b) (recordOf (b .fcb)) g (caller-long q l (b .fcb)) f r block long
         at (written-of kind q c b ok w zeros v full) (unwritten w)
 
+  -- a call of another process leaves a locked record its block and its bytes
   pub seen-left : (t : List ℕ) → ImageLeft kind q c b t → Seen kind s t f r block
   seen-left t image-same = still
   seen-left t (entry-made ok w) =
@@ -133,6 +134,7 @@ look-is kind u name r s b g v l m e low =
     ) in
     rw (k, e, ne-eqb b 0 (λ (z : b ≡ 0). absurd (omega arith)), ne-eqb (recordAt kind b r) 0 some) refl
 
+-- a record that has its block and its bytes still is shown as before
 pub unchanged : (kind : Kind) (u : ℕ) (name : List ℕ) (r b : ℕ) (s t : List ℕ) → SoundImage kind highest s → SoundImage kind highest t
     → soundImage kind highest s ≡ true → soundImage kind highest t ≡ true → u ≤ 15 → length name ≡ 11 → legalName name 0 ≡ true → all (isLow name) 11 ≡ true
     → At kind s (record { user = u; name = name }) r b → Seen kind s t (record { user = u; name = name }) r b → Unchanged kind u name r s t

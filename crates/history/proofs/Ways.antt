@@ -19,9 +19,11 @@ pub record Refuses (kind : Kind) (n p c : ℕ) (b : Buffers) (code : ℕ) : Type
   pub some : code ≡ 0 → ⊥
   pub answers : call kind n p c b .answer ≡ code
 
+-- the answer of a plain call tells of no record done, ..
 pub answer-low : (kind : Kind) (n p c : ℕ) (b : Buffers) → call kind n p c b .answer < 4096
 answer-low kind n p c b = rw (answer-is kind n p c b) (call-below kind n p c b)
 
+-- .. nor does the code of its refusal
 pub refuses-low : (kind : Kind) (n p c : ℕ) (b : Buffers) (code : ℕ) → Refuses kind n p c b code → code < 4096
 refuses-low kind n p c b code w = rw (w .answers) at (answer-low kind n p c b)
 
@@ -57,6 +59,7 @@ module _ (kind : Kind) (n p c : ℕ) (b : Buffers) where
       rw e (partly (g .done) (fewer-done kind n p b c z) (g .left) w (g .code) (record { some = z; answers = r })))
       (equal? (g .code) 0)
 
+  -- every call ends in one of these
   pub ways : Way kind n p c b (callRun kind n p c b)
   ways =
       ⊎-elim
@@ -69,13 +72,14 @@ module _ (kind : Kind) (n p c : ℕ) (b : Buffers) where
       (λ (h : servesRun n ≡ false). rw (run-plain kind n p c b h) (plain h))
       (either (servesRun n))
 
-  -- a refusal that tells of no record done is the answer of a plain call of that function
+  -- by each of these ways
   answer-by : (o : Outcome) → Way kind n p c b o → (o .answer ≡ 0 → ⊥) → o .answer < 4096 → (d : ℕ) × (a : Buffers) × (call kind n p d a .answer ≡ o .answer)
   answer-by o (plain h) z low = (c, b, refl)
   answer-by o (barred h code w) z low = (c, b, w .answers)
   answer-by o (whole left w) z low = absurd (z refl)
   answer-by o (partly i m left w code r) z low = (1, single i left, r .answers ∙ omega arith)
 
+  -- a refusal that tells of no record done is the answer of a plain call of that function
   pub answer-plain : (callRun kind n p c b .answer ≡ 0 → ⊥) → callRun kind n p c b .answer < 4096
       → (d : ℕ) × (a : Buffers) × (call kind n p d a .answer ≡ callRun kind n p c b .answer)
   answer-plain z low = answer-by (callRun kind n p c b) ways z low

@@ -9,6 +9,7 @@ use borrow.Author.Tests.{eq-eqb}
 use Rattle.words.specs.Bytes.{byte, put, le}
 use Rattle.words.specs.Tables.{_∕_}
 use Rattle.words.specs.Tests.{_and_, _if_else_, count}
+use Rattle.words.specs.Lists.{tally}
 use Rattle.rules.specs.declared.kind.Kind.the-variants.{Small}
 use Rattle.rules.specs.Serves.{Outcome, buffers, outcome}
 use Rattle.rules.specs.Kinds.{entries, numbers}
@@ -20,7 +21,7 @@ use Rattle.session.specs.Session.{AsListed, session, orders, fcbWith, dmaWith, 
 use Rattle.session.proofs.Session.{the-session}
 use Rattle.history.specs.History.{Ask, Engine, Event, Begun, state, isPossible, arePossible, outcomeOf, event, eventsOf, after, historyOf, outcomeAfter}
 use Rattle.history.specs.Deeds.{tells, deed}
-use Rattle.history.specs.Held.{sameItem, tally}
+use Rattle.history.specs.Held.{sameItem}
 use Rattle.history.specs.Groups.{Group, isNumbered, groupsBelow, groupsOf, blocksInUse, countedAfter}
 use Rattle.history.specs.Demands.{Demand2, Demand3, itemsOf, groupsBy, isItemAt, figureIn}
 use Rattle.history.specs.Wrong.{refusing, accepting, unstored, idle, pretending, butAfter, figured, madeUp, unbitted, unlimited, lavish, promoted, isWriting, promoting}
@@ -129,6 +130,7 @@ idle-held : tally (sameItem (freshOpen 1 orders 1)) (itemsOf Small begun (histor
 unfolding rules listed history begun by makes idle unstored
 idle-held = refl
 
+-- the engine that stores nothing falls, ..
 pub not-idle : Demand3 Small (idle Small) → ⊥
 not-idle d = not-held (idle Small) (makes ∷ []) 1 idle-listed idle-held d may-make
 
@@ -141,6 +143,7 @@ pretending-held : tally (sameItem (freshOpen 2 orders 1)) (itemsOf Small begun (
 unfolding rules listed history begun by makes opens pretending unstored
 pretending-held = refl
 
+-- .. the one that pretends from the second call on, ..
 pub not-pretending : Demand3 Small (pretending Small) → ⊥
 not-pretending d = not-held (pretending Small) (makes ∷ opens ∷ []) 2 pretending-listed pretending-held d may-make-open
 
@@ -199,6 +202,7 @@ not-always-two d =
     let z : _≡_ {A = ℕ} 16 8 = ap (λ (s : List ℕ). byte s 0) then in
     omega arith
 
+-- .. the one with a made-up figure, ..
 pub not-made-up : (figure : ℕ) → figure < 16777216 → Demand3 Small (madeUp Small figure) → ⊥
 not-made-up figure m d =
     let first : figure ≡ 16 = figure-is figure 16 m (omega arith)
@@ -218,6 +222,7 @@ singly-used : blocksInUse Small (after Small (unbitted Small) begun (makes ∷ w
 unfolding rules listed history begun by makes writes-two unbitted
 singly-used = refl
 
+-- .. single calls without the four bits, ..
 pub not-unbitted : Demand3 Small (unbitted Small) → ⊥
 not-unbitted d = let z = d .stands begun (makes ∷ writes-two ∷ []) may-make-two .blocks-are-groups .as-many in let a = singly-counted in let b = singly-used in
     omega arith
@@ -235,6 +240,7 @@ lavish-limit : byte (take 19 (after Small (lavish Small) begun (asks ∷ []) .li
 unfolding rules listed history begun by asks lavish butAfter unlimited
 lavish-limit = refl
 
+-- .. the one that sets both limits to 64, ..
 pub not-lavish : Demand3 Small (lavish Small) → ⊥
 not-lavish d =
     let z : byte (take 19 (after Small (lavish Small) begun (asks ∷ []) .list)) 1 ≡ begun .openlimit = ap (λ (s : List ℕ). byte s 1)
@@ -247,6 +253,7 @@ promoted-user : byte (take 19 (after Small (promoting Small) begun (dies ∷ [])
 unfolding rules listed history begun by dies promoting isWriting butAfter promoted
 promoted-user = refl
 
+-- .. and the one that adds to the caller's user
 pub not-promoting : Demand3 Small (promoting Small) → ⊥
 not-promoting d =
     let z : byte (take 19 (after Small (promoting Small) begun (dies ∷ []) .list)) 4 ≡ byte (begun .users) 1 = ap (λ (s : List ℕ). byte s 4)
@@ -315,6 +322,7 @@ not-none d =
     let z : _≡_ {A = ℕ} 0 16 = ap (λ (s : List ℕ). byte s 0) free in
     omega arith
 
+-- so no made-up figure is right at both
 pub made-up-differs : (figure : ℕ) → figure < 16777216 → Demand2 Small (madeUp Small figure) → ⊥
 unfolding Demand2 rules listed history by asks
 made-up-differs figure m d =

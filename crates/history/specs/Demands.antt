@@ -1,14 +1,15 @@
 -- Demands 1, 2 and 3, each a statement about an engine. Assumes nothing.
-use Prim.Native.Nat.{ℕ, zero, suc, _+_, _-_, _*_, _≤_, _<_}
+use Prim.Native.Nat.{ℕ, _+_, _-_, _*_, _≤_, _<_}
 use mathlib.Core.Path.{_≡_}
 use mathlib.Core.Bool.{Bool, true, false, not}
 use mathlib.Core.List.{List, [], _∷_, _++_}
 use mathlib.Core.Logic.{_⊎_}
 use lib.ListN.{length, take}
 use lib.Dec.{ltb, eqb}
-use Rattle.words.specs.Tests.{_and_, count}
+use Rattle.words.specs.Tests.{_and_, count, sumBelow}
 use Rattle.words.specs.Bytes.{byte, part, put, le}
 use Rattle.words.specs.Tables.{_∕_}
+use Rattle.words.specs.Lists.{tally}
 use Rattle.rules.specs.declared.kind.Kind.{Kind}
 use Rattle.rules.specs.Kinds.{blockRecords, entries}
 use Rattle.rules.specs.declared.file.File.{File}
@@ -22,7 +23,7 @@ use Rattle.rules.specs.Look.{look}
 use Rattle.rules.specs.Several.{callRun}
 use Rattle.history.specs.History.{Ask, State, Serving, Engine, Event, Begun, withCount, isPossible, arePossible, EachCall, lent, outcomeOf, kept, eventsOf, event, after, historyOf, outcomeAfter}
 use Rattle.history.specs.Deeds.{ends, tells, deed, doneIn, fileBy}
-use Rattle.history.specs.Held.{sameItem, tally, isAmong, isBy, heldAfter, anyOpenBy}
+use Rattle.history.specs.Held.{sameItem, isAmong, isBy, heldAfter, anyOpenBy}
 use Rattle.history.specs.Groups.{Group, groupOf, hasBlock, isCounted, groupsOf, blocksInUse, countedAfter}
 
 -- ---- Demand 1: a refusal leaves all four buffers unchanged. Of several records the refused one and those after it leave no
@@ -75,11 +76,6 @@ pub record Holds (x : Item) (l : LockList) (items : List Item) : Type 0 where
 
 -- ---- 3. The items that the history holds and the free places (those that 255/11 and 14/0 count) add up to the capacity; no place
 -- from the capacity on is used; the items are the sum over the processes of their opens and locks.
-
--- f 0 + .. + f (n - 1)
-unfoldable pub sumBelow : (ℕ → ℕ) → ℕ → ℕ
-sumBelow f zero = 0
-sumBelow f (suc n) = sumBelow f n + f n
 
 -- a process's opens and locks in the list
 unfoldable pub itemsBy : LockList → ℕ → ℕ

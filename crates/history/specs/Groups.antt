@@ -6,7 +6,7 @@ use mathlib.Core.Bool.{Bool, false, not}
 use mathlib.Core.List.{List, [], _∷_, map}
 use lib.Dec.{leb, eqb}
 use Rattle.words.specs.Tests.{_and_, _or_, _if_else_, count}
-use Rattle.words.specs.Lists.{turns}
+use Rattle.words.specs.Lists.{turns, without}
 use Rattle.rules.specs.declared.kind.Kind.{Kind}
 use Rattle.rules.specs.Kinds.{blockRecords, entries, numbers}
 use Rattle.rules.specs.declared.file.File.{File}
@@ -14,7 +14,6 @@ use Rattle.rules.specs.Drive.{blocks, isEmpty, fileAt, extentAt, mapNumber, blo
 use Rattle.rules.specs.Locks.{sameFile}
 use Rattle.history.specs.History.{Event}
 use Rattle.history.specs.Deeds.{Deed, nothing, opens, closes, locks, unlocks, ends, touches, drops, carries, tells, deed}
-use Rattle.history.specs.Held.{without}
 
 pub record Group : Type 0 where
   pub file : File

@@ -4,7 +4,7 @@ use mathlib.Core.Bool.{Bool, false}
 use mathlib.Core.List.{List, [], _∷_}
 use lib.Dec.{eqb}
 use Rattle.words.specs.Tests.{_and_, _or_, _if_else_}
-use Rattle.words.specs.Lists.{turns}
+use Rattle.words.specs.Lists.{turns, without}
 use Rattle.rules.specs.declared.item.Item.{Item}
 use Rattle.rules.specs.Locks.{freshOpen, freshLock, modeUnlocked, sameName}
 use Rattle.rules.specs.Effects.{isOfFile, isInRun}
@@ -15,11 +15,6 @@ unfoldable pub sameItem : Item → Item → Bool
 sameItem a b =
     eqb (a .kind) (b .kind) and eqb (a .process) (b .process) and sameName (a .name) (b .name)
     and eqb (a .mode) (b .mode) and eqb (a .number) (b .number)
-
--- how many of a list pass a test
-unfoldable pub tally : {A : Type 0} → (A → Bool) → List A → ℕ
-tally t [] = 0
-tally t (x ∷ xs) = tally t xs + (1 if t x else 0)
 
 -- the item is among those
 unfoldable pub isAmong : Item → List Item → Bool
@@ -35,10 +30,6 @@ grantingAt p name r k g = granting (freshLock p name (r + k)) g
 
 unfoldable pub grantingRun : ℕ → List ℕ → ℕ → ℕ → List Item → List Item
 grantingRun p name r n g = turns (grantingAt p name r) n g
-
-unfoldable pub without : {A : Type 0} → (A → Bool) → List A → List A
-without away [] = []
-without away (x ∷ xs) = without away xs if away x else x ∷ without away xs
 
 unfoldable pub isBy : ℕ → Item → Bool
 isBy p it = eqb (it .process) p

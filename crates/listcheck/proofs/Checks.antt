@@ -41,7 +41,8 @@ pub ruleset lows = (alls, low-yes, low-no)
 
 -- ---- what was found of a file on the image
 
-pub missing-as : (kind : Kind) (s : List ℕ) (f g : File) (x : Found) (r : Bool) → r ≡ missing kind x → x ≡ lookUp kind s f → f ≡ g → not r ≡ not (missing kind (lookUp kind s g))
+pub missing-as : (kind : Kind) (s : List ℕ) (f g : File) (x : Found) (r : Bool) → r ≡ missing kind x → x ≡ lookUp kind s f → f ≡ g
+    → not r ≡ not (missing kind (lookUp kind s g))
 missing-as kind s f g x r h e d = cc
 
 pub block-as : (kind : Kind) (s : List ℕ) (f g : File) (r b : ℕ) → b ≡ blockOf kind s f r → f ≡ g → not (eqb b 0) ≡ not (eqb (blockOf kind s g r) 0)
@@ -71,7 +72,8 @@ unfolding lockOpenedAt lockOpened _if_else_
 opened-skip l i h = rw (ne-eqb _ _ h)
 
 -- o: how far its open was looked for
-module _ (l : LockList) (i o p : ℕ) (name : List ℕ) (k : itemAt l i .kind ≡ 2) (w : p ≡ itemAt l i .process) (v : name ≡ itemAt l i .name) (h : any (opensNameAt l p name) o ≡ false) where
+module _ (l : LockList) (i o p : ℕ) (name : List ℕ) (k : itemAt l i .kind ≡ 2) (w : p ≡ itemAt l i .process) (v : name ≡ itemAt l i .name)
+    (h : any (opensNameAt l p name) o ≡ false) where
   opened-is : (t : Bool) → t ≡ opensUnlocked l (lowest (opensNameAt l p name) 64) → t ≡ lockOpenedAt l i
   unfolding lockOpenedAt lockOpened openOf _if_else_
   opened-is t e = rw (eq-eqb _ _ k, ← w, ← v) e
@@ -124,7 +126,9 @@ dead true x y = refl
 dead false x y = refl
 
 -- e: an empty place is good; o, and m with b: an open's and a lock's own tests; u: the lock has its open
-split : (k : ℕ) (e c p n w t o m u b : Bool) → (e if eqb k 0 else (c and leb k 2 and p and n and w and t and (o if eqb k 1 else (m and u and b)))) ≡ ((e if eqb k 0 else (c and leb k 2 and p and n and w and t and (o if eqb k 1 else (m and b)))) and (u if eqb k 2 else true))
+split : (k : ℕ) (e c p n w t o m u b : Bool) → (e if eqb k 0 else (c and leb k 2 and p and n and w and t
+    and (o if eqb k 1 else (m and u and b)))) ≡ ((e if eqb k 0 else (c and leb k 2 and p and n and w and t and (o if eqb k 1 else (m and b))))
+    and (u if eqb k 2 else true))
 unfolding _if_else_
 split zero e c p n w t o m u b = with-true _
 split (suc zero) e c p n w t o m u b = with-true _
@@ -168,18 +172,24 @@ join-two true false x = refl
 join-two false b x = refl
 
 -- the list check in the order of its parts
-pub sound-as : (kind : Kind) (s list : List ℕ) (l : LockList) (r : Bool) → l ≡ unpack list → r ≡ (all (zeroAt list) 64 and goodHead (l .capacity) (l .openlimit) (l .locklimit) (l .users) and all (placeAloneAt kind s l) 64 and all (lockOpenedAt l) 64 and all (isApart l) 64 and all (keepsLimits l) 16) → r ≡ soundList kind highest list s
+pub sound-as : (kind : Kind) (s list : List ℕ) (l : LockList) (r : Bool) → l ≡ unpack list
+    → r ≡ (all (zeroAt list) 64 and goodHead (l .capacity) (l .openlimit) (l .locklimit) (l .users) and all (placeAloneAt kind s l) 64 and all
+    (lockOpenedAt l) 64 and all (isApart l) 64 and all (keepsLimits l) 16) → r ≡ soundList kind highest list s
 unfolding soundList soundLocks goodHead
 sound-as kind s list l r e h =
     let g = all-both (goodPlace kind highest s l) (placeAloneAt kind s l) (lockOpenedAt l) 64 (place-split kind s l) in
     let rest = join-two _ _ _ ∙ ap (λ (x : Bool). x and all (isApart l) 64 and all (keepsLimits l) 16) (sym g) in
-    h ∙ ap (λ (x : Bool). all (zeroAt list) 64 and x) (ap (λ (x : Bool). goodHead (l .capacity) (l .openlimit) (l .locklimit) (l .users) and x) rest ∙ sym (join-four _ _ _ _ _))
+    h ∙ ap (λ (x : Bool). all (zeroAt list) 64 and x) (ap (λ (x : Bool). goodHead (l .capacity) (l .openlimit) (l .locklimit) (l .users) and x) rest
+    ∙ sym (join-four _ _ _ _ _))
     ∙ ap (λ (m : LockList). all (zeroAt list) 64 and soundLocks kind highest m s) e
 
 -- its first four parts were found good
-pub sound-after : (kind : Kind) (s list : List ℕ) (l : LockList) (a b c d r : Bool) → l ≡ unpack list → a ≡ all (zeroAt list) 64 → not a ≡ false → b ≡ goodHead (l .capacity) (l .openlimit) (l .locklimit) (l .users) → not b ≡ false → c ≡ all (placeAloneAt kind s l) 64 → not c ≡ false → d ≡ all (lockOpenedAt l) 64 → not d ≡ false → r ≡ (all (isApart l) 64 and all (keepsLimits l) 16) → r ≡ soundList kind highest list s
+pub sound-after : (kind : Kind) (s list : List ℕ) (l : LockList) (a b c d r : Bool) → l ≡ unpack list → a ≡ all (zeroAt list) 64 → not a ≡ false
+    → b ≡ goodHead (l .capacity) (l .openlimit) (l .locklimit) (l .users) → not b ≡ false → c ≡ all (placeAloneAt kind s l) 64 → not c ≡ false
+    → d ≡ all (lockOpenedAt l) 64 → not d ≡ false → r ≡ (all (isApart l) 64 and all (keepsLimits l) 16) → r ≡ soundList kind highest list s
 sound-after kind s list l a b c d r e ea ha eb hb ec hc ed hd h =
-    sound-as kind s list l r e (and-then r _ _ (not-yes a _ ea ha) (and-then r _ _ (not-yes b _ eb hb) (and-then r _ _ (not-yes c _ ec hc) (and-then r _ _ (not-yes d _ ed hd) h))))
+    sound-as kind s list l r e (and-then r _ _ (not-yes a _ ea ha)
+    (and-then r _ _ (not-yes b _ eb hb) (and-then r _ _ (not-yes c _ ec hc) (and-then r _ _ (not-yes d _ ed hd) h))))
 
 pub ruleset sounds = (and-first, and-then, answers, sound-as)
 

@@ -1,2 +1,3 @@
+-- The proofs of `listcheck`.
 pub mod Checks
 pub mod Tallies

@@ -57,7 +57,8 @@ module _ (l : LockList) (kind : ℕ) where
     }
 
     -- .. of that kind and of a process
-    pub tally-more : itemAt l i .kind ≡ kind → itemAt l i .process < 16 → Tally l kind (set c (itemAt l i .process) (getD c (itemAt l i .process) 0 + 1)) (i + 1)
+    pub tally-more : itemAt l i .kind ≡ kind → itemAt l i .process < 16
+        → Tally l kind (set c (itemAt l i .process) (getD c (itemAt l i .process) 0 + 1)) (i + 1)
     unfolding isKindByAt isKindBy
     tally-more k h =
         let q = itemAt l i .process in
@@ -110,7 +111,8 @@ module _ (l : LockList) where
   pub keeps-not : (c : List ℕ) (i : ℕ) → Tally l 1 c i → 64 ≤ i → i ≤ 64 → all (atMost c (l .openlimit)) 16 ≡ false → false ≡ all (keepsLimits l) 16
   keeps-not c i w g m h = let t = tally-ends l 1 c i w g m in and-first _ _ (sym (keeps-as l 1 c (l .openlimit) _ t refl) ∙ h) ∙ sym both
 
-  pub keeps-if : (c d : List ℕ) (i : ℕ) (r : Bool) → Tally l 1 c i → Tally l 2 d i → 64 ≤ i → i ≤ 64 → all (atMost c (l .openlimit)) 16 ≡ true → r ≡ all (atMost d (l .locklimit)) 16 → r ≡ all (keepsLimits l) 16
+  pub keeps-if : (c d : List ℕ) (i : ℕ) (r : Bool) → Tally l 1 c i → Tally l 2 d i → 64 ≤ i → i ≤ 64 → all (atMost c (l .openlimit)) 16 ≡ true
+      → r ≡ all (atMost d (l .locklimit)) 16 → r ≡ all (keepsLimits l) 16
   keeps-if c d i r w x g m h e =
       let t = tally-ends l 1 c i w g m in
       let u = tally-ends l 2 d i x g m in

@@ -1,1 +1,2 @@
+-- The proofs of `locking`.
 pub mod Locking

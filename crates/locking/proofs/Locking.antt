@@ -52,7 +52,8 @@ module _ (p : ℕ) (l : LockList) (o : ℕ) (f : File) (r n : ℕ) (b : Buffers)
       unfolding by42 does42 _if_else_
       lock-passed y = did-pass _ b _ c hc 0 _ _ _ _ z (let q : eqb (itemAt l o .mode) 1 ≡ false = sym ht ∙ not-true t y in rw q (did-none 0 b))
 
-      pub lock-done : (m : LockList) (list : List ℕ) → not t ≡ false → m ≡ lockedRun p f r n l → list ≡ pack m → Did (by42 kind p l o f r n b) 0 (b .fcb) (b .dma) list (b .image)
+      pub lock-done : (m : LockList) (list : List ℕ) → not t ≡ false → m ≡ lockedRun p f r n l → list ≡ pack m
+          → Did (by42 kind p l o f r n b) 0 (b .fcb) (b .dma) list (b .image)
       unfolding by42 does42 _if_else_
       lock-done m list y hm hp =
           did-pass _ b _ c hc 0 _ _ _ _ z
@@ -71,7 +72,8 @@ module _ (p : ℕ) (l : LockList) (o : ℕ) (f : File) (r n : ℕ) (b : Buffers)
       unfolding by43 does43 _if_else_
       unlock-passed y = did-pass _ b _ c hc 0 _ _ _ _ z (let q : eqb (itemAt l o .mode) 1 ≡ false = sym ht ∙ not-true t y in rw q (did-none 0 b))
 
-      pub unlock-done : (m : LockList) (list : List ℕ) → not t ≡ false → m ≡ unlockedRun p f r n l → list ≡ pack m → Did (by43 p l o f r n b) 0 (b .fcb) (b .dma) list (b .image)
+      pub unlock-done : (m : LockList) (list : List ℕ) → not t ≡ false → m ≡ unlockedRun p f r n l → list ≡ pack m
+          → Did (by43 p l o f r n b) 0 (b .fcb) (b .dma) list (b .image)
       unfolding by43 does43 _if_else_
       unlock-done m list y hm hp =
           did-pass _ b _ c hc 0 _ _ _ _ z
@@ -80,7 +82,8 @@ module _ (p : ℕ) (l : LockList) (o : ℕ) (f : File) (r n : ℕ) (b : Buffers)
 
 -- ---- the calls on the buffers
 
-module _ (kind : Kind) (p c : ℕ) (b : Buffers) (l : LockList) (f : File) (o r a : ℕ) (fcb dma list image : List ℕ) (hl : l ≡ unpack (b .list)) (hf : f ≡ callerFile p l (b .fcb)) (ho : o ≡ openOf l p f) (hr : r ≡ recordOf (b .fcb)) where
+module _ (kind : Kind) (p c : ℕ) (b : Buffers) (l : LockList) (f : File) (o r a : ℕ) (fcb dma list image : List ℕ) (hl : l ≡ unpack (b .list))
+    (hf : f ≡ callerFile p l (b .fcb)) (ho : o ≡ openOf l p f) (hr : r ≡ recordOf (b .fcb)) where
   pub lock-called : Did (by42 kind p l o f r c b) a fcb dma list image → Did (served kind (Call Lock) p c b) a fcb dma list image
   unfolding by42 rowsOf effectOf askedBy
   lock-called d = did-as _ _ a fcb dma list image (served-as kind (Call Lock) p c b l f r hl hf hr) (rw ho at d)
@@ -89,7 +92,8 @@ module _ (kind : Kind) (p c : ℕ) (b : Buffers) (l : LockList) (f : File) (o r 
   unfolding by43 rowsOf effectOf askedBy
   unlock-called d = did-as _ _ a fcb dma list image (served-as kind (Call Unlock) p c b l f r hl hf hr) (rw ho at d)
 
-pub terminate-done : (kind : Kind) (p c : ℕ) (b : Buffers) (l m : LockList) (list : List ℕ) → l ≡ unpack (b .list) → m ≡ terminated p l → list ≡ pack m → Did (served kind (Call Terminate) p c b) 0 (b .fcb) (b .dma) list (b .image)
+pub terminate-done : (kind : Kind) (p c : ℕ) (b : Buffers) (l m : LockList) (list : List ℕ) → l ≡ unpack (b .list) → m ≡ terminated p l → list ≡ pack m
+    → Did (served kind (Call Terminate) p c b) 0 (b .fcb) (b .dma) list (b .image)
 unfolding served rowsOf effectOf does143 asked askedBy
 terminate-done kind p c b l m list hl hm hp =
     did-pass [] b _ 0 (row-none 0 refl) 0 _ _ _ _ refl

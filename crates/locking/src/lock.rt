@@ -5,6 +5,9 @@ use crate::run::not_to_take;
 use locklist::ask::caller_file;
 use locklist::ask::record_of;
 use locklist::pack::pack;
+use rules::code::BAD_FILE_ID;
+use rules::code::NOT_OPEN;
+use rules::code::PAST_END;
 use rules::file::File;
 use rules::kind::Kind;
 use rules::list::LockList;
@@ -50,16 +53,16 @@ fn lock_refusal(
     ensures { λ c. ⌜ c ≡ firstOf (rows42 kind p l o f r n (now (dma .entry)) (now (image .entry))) ⌝ }
 {
     if 64 <= o {
-        return 10;
+        return NOT_OPEN;
     }
     if !is_unlocked(l, o) {
         return 0;
     }
     if !is_file_id(dma, o) {
-        return 13;
+        return BAD_FILE_ID;
     }
     if 262143 < r + n - 1 {
-        return 6;
+        return PAST_END;
     }
     run_refusal(kind, p, l, f, r, n, image)
 }

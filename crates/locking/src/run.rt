@@ -1,6 +1,11 @@
 use directory::byte::wide;
 use directory::find::block_of;
 use directory::find::entry_of;
+use rules::code::LOCK_LIMIT;
+use rules::code::LOCK_LIST_FULL;
+use rules::code::LOCKED;
+use rules::code::NO_BLOCK;
+use rules::code::NO_EXTENT;
 use rules::file::File;
 use rules::kind::Kind;
 use rules::kind::entries;
@@ -80,9 +85,9 @@ fn lacking_code(kind: Kind, image: &[u8], f: File, r: usize, n: usize, k: usize)
         return 0;
     }
     if no_extent(kind, image, f, r, k) {
-        return 4;
+        return NO_EXTENT;
     }
-    1
+    NO_BLOCK
 }
 
 // The code for a run of which a record is not there, or 0.
@@ -123,13 +128,13 @@ pub fn not_to_take(p: u8, l: LockList, f: File, r: u32, n: u32) -> u32
     ensures { λ c. ⌜ c ≡ firstOf (rowsTake p l f r n) ⌝ }
 {
     if any_others(p, l, f, r, n) {
-        return 8;
+        return LOCKED;
     }
     if over_limit(p, l, n) {
-        return 12;
+        return LOCK_LIMIT;
     }
     if too_few_places(p, l, f, r, n) {
-        return 14;
+        return LOCK_LIST_FULL;
     }
     0
 }

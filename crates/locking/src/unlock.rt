@@ -3,6 +3,9 @@ use crate::run::is_unlocked;
 use locklist::ask::caller_file;
 use locklist::ask::record_of;
 use locklist::pack::pack;
+use rules::code::BAD_FILE_ID;
+use rules::code::NOT_OPEN;
+use rules::code::PAST_END;
 use rules::file::File;
 use rules::kind::Kind;
 use rules::list::LockList;
@@ -24,16 +27,16 @@ fn unlock_refusal(l: LockList, o: usize, r: u32, n: u32, dma: &[u8]) -> u32
     ensures { λ c. ⌜ c ≡ firstOf (rows43 l o r n (now (dma .entry))) ⌝ }
 {
     if 64 <= o {
-        return 10;
+        return NOT_OPEN;
     }
     if !is_unlocked(l, o) {
         return 0;
     }
     if !is_file_id(dma, o) {
-        return 13;
+        return BAD_FILE_ID;
     }
     if 262143 < r + n - 1 {
-        return 6;
+        return PAST_END;
     }
     0
 }

@@ -1,2 +1,3 @@
+-- The proofs of `locklist`.
 pub mod Packs
 pub mod Starts

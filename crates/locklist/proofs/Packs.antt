@@ -38,7 +38,8 @@ packed-none l s t h n e p =
           ap (λ (n : ℕ). take n t) y ∙ ap (take (0 + length h)) p ∙ take-put 0 h s z ∙ e ∙ sym (append-nil (heads l));
     }
 
-pub packed-more : (l : LockList) (s t b : List ℕ) (i : ℕ) → length (l .items) ≡ 64 → i < 64 → Packed l s i → b ≡ packItem (itemAt l i) → t ≡ put (19 + 20 * i) b s → Packed l t (i + 1)
+pub packed-more : (l : LockList) (s t b : List ℕ) (i : ℕ) → length (l .items) ≡ 64 → i < 64 → Packed l s i → b ≡ packItem (itemAt l i)
+    → t ≡ put (19 + 20 * i) b s → Packed l t (i + 1)
 packed-more l s t b i m h g e p =
     let k : length b ≡ 20 = ap length e ∙ packed-long (itemAt l i) in
     let z : 19 + 20 * i + length b ≤ length s = omega (arith, g .long) in
@@ -49,7 +50,8 @@ packed-more l s t b i m h g e p =
           rw (p, y)
           (take-put (19 + 20 * i) b s z ∙ ap (λ (x : List ℕ). x ++ b) (g .so)
           ∙ append-assoc (heads l) (flat packItem (take i (l .items))) b
-          ∙ ap (λ (x : List ℕ). heads l ++ x) (ap (λ (x : List ℕ). flat packItem (take i (l .items)) ++ x) e ∙ sym (flat-more packItem i (l .items) blank (omega arith))));
+          ∙ ap (λ (x : List ℕ). heads l ++ x) (ap (λ (x : List ℕ). flat packItem (take i (l .items)) ++ x) e
+          ∙ sym (flat-more packItem i (l .items) blank (omega arith))));
     }
 
 pub packed-ends : (l : LockList) (s : List ℕ) (i : ℕ) → length (l .items) ≡ 64 → Packed l s i → 64 ≤ i → i ≤ 64 → s ≡ pack l
@@ -91,7 +93,8 @@ module _ (s : List ℕ) (l₀ : LockList) where
         }
 
 -- it began with the limits and the users
-pub placed-ends : (s users : List ℕ) (items : List Item) (l : LockList) (i : ℕ) → users ≡ tab (byteFrom s 3) 16 → Placed s (record { capacity = byte s 0; openlimit = byte s 1; locklimit = byte s 2; users = users; items = items }) l i → 64 ≤ i → i ≤ 64 → l ≡ unpack s
+pub placed-ends : (s users : List ℕ) (items : List Item) (l : LockList) (i : ℕ) → users ≡ tab (byteFrom s 3) 16
+    → Placed s (record { capacity = byte s 0; openlimit = byte s 1; locklimit = byte s 2; users = users; items = items }) l i → 64 ≤ i → i ≤ 64 → l ≡ unpack s
 unfolding unpack
 placed-ends s users items l i u p g h =
     let q : i ≡ 64 = omega arith in

@@ -53,7 +53,8 @@ unfolding tab
 sixteen users n = tab-getD users 0 16 n
 
 -- a list with no item, packed
-pub fresh-packed : (c o k : ℕ) (users u t : List ℕ) → length users ≡ 16 → u ≡ tab (byteFrom users 0) 16 → t ≡ pack (record { capacity = c; openlimit = o; locklimit = k; users = u; items = replicate 64 emptyPlace }) → t ≡ freshList c o k users
+pub fresh-packed : (c o k : ℕ) (users u t : List ℕ) → length users ≡ 16 → u ≡ tab (byteFrom users 0) 16
+    → t ≡ pack (record { capacity = c; openlimit = o; locklimit = k; users = u; items = replicate 64 emptyPlace }) → t ≡ freshList c o k users
 unfolding pack freshList
 fresh-packed c o k users u t n e h =
     let q : u ≡ users = e ∙ sixteen users n in

@@ -1,5 +1,6 @@
 use crate::pack::pack;
 use crate::unpack::users_from;
+use rules::code::BAD_CALL;
 use rules::item::Item;
 use rules::list::LockList;
 ghost use mathlib.Core.Path.{_≡_};
@@ -85,7 +86,7 @@ pub fn start(capacity: u32, opens: u32, locks: u32, users: &[u8], list: &mut [u8
     ensures { λ r. ⌜ DidStart (start capacity opens locks (now (users .entry)) (now (list .entry))) r (now (list .exit)) ⌝ }
 {
     if bad_start(capacity, opens, locks, users, &*list) {
-        return 255 + 256 * 13;
+        return BAD_CALL;
     }
     begin(capacity, opens, locks, users, list);
     0

@@ -1,3 +1,4 @@
+-- The proofs of `records`.
 pub mod Reading
 pub mod Writing
 pub mod Testing

@@ -46,7 +46,8 @@ inside-of kind s f e r h he = record {
 there-some : (kind : Kind) (o e r : ℕ) (s : List ℕ) → firstOf (rows33 kind o e r s) ≡ 0 → blockIn kind s e r ≡ 0 → ⊥
 unfolding rows33 rowsThere
 there-some kind o e r s z =
-    eqb-false _ _ (row-off 1 _ _ (λ y. omega arith) (row-rest 4 _ _ (λ y. omega arith) (row-rest 6 _ _ (λ y. omega arith) (row-rest 10 _ _ (λ y. omega arith) z))))
+    eqb-false _ _ (row-off 1 _ _ (λ y. omega arith) (row-rest 4 _ _ (λ y. omega arith)
+    (row-rest 6 _ _ (λ y. omega arith) (row-rest 10 _ _ (λ y. omega arith) z))))
 
 module _ (kind : Kind) (o e r at : ℕ) (s dma : List ℕ) (c : ℕ) (hc : c ≡ firstOf (rows33 kind o e r s)) where
   pub read-inside : (k : ℕ) → Inside kind s e r → c ≡ 0 → k ≡ blockIn kind s e r → blockSize kind * k + blockSize kind ≤ length s
@@ -63,7 +64,8 @@ module _ (kind : Kind) (o e r at : ℕ) (s dma : List ℕ) (c : ℕ) (hc : c ≡
   pub read-none : c ≡ 0 → 0 ≡ firstOf (rows33 kind o e r s)
   read-none z = sym z ∙ hc
 
-pub copied : (kind : Kind) (s : List ℕ) (block r start at : ℕ) (dma dma′ : List ℕ) → start ≡ recordAt kind block r → dma′ ≡ put at (take (start + 128 - start) (drop start s)) dma → dma′ ≡ put at (contents kind s block r) dma
+pub copied : (kind : Kind) (s : List ℕ) (block r start at : ℕ) (dma dma′ : List ℕ) → start ≡ recordAt kind block r → dma′ ≡ put
+    at (take (start + 128 - start) (drop start s)) dma → dma′ ≡ put at (contents kind s block r) dma
 unfolding contents
 copied kind s block r start at dma dma′ q h =
     let n : start + 128 - start ≡ 128 = omega arith in
@@ -71,13 +73,16 @@ copied kind s block r start at dma dma′ q h =
 
 -- ---- 33, from the reading of its record
 
-pub read-ended : (kind : Kind) (o : ℕ) (f : File) (r : ℕ) (b : Buffers) (e c : ℕ) (dma : List ℕ) → e ≡ entryOf kind (b .image) f (r / 128) → c ≡ firstOf (rows33 kind o e r (b .image)) → dma ≡ readAt kind o e r 0 (b .image) (b .dma) → Did (by33 kind o f r b) c (b .fcb) dma (b .list) (b .image)
+pub read-ended : (kind : Kind) (o : ℕ) (f : File) (r : ℕ) (b : Buffers) (e c : ℕ) (dma : List ℕ) → e ≡ entryOf kind (b .image) f (r / 128)
+    → c ≡ firstOf (rows33 kind o e r (b .image)) → dma ≡ readAt kind o e r 0 (b .image) (b .dma) → Did (by33 kind o f r b) c (b .fcb) dma (b .list) (b .image)
 unfolding by33 does33 readAt _if_else_
 read-ended kind o f r b e c dma he hc hd =
-    let rows : c ≡ firstOf (rows33 kind o (entryOf kind (b .image) f (r / 128)) r (b .image)) = hc ∙ ap (λ (d : ℕ). firstOf (rows33 kind o d r (b .image))) he in
+    let rows : c ≡ firstOf (rows33 kind o (entryOf kind (b .image) f (r / 128)) r (b .image)) = hc
+    ∙ ap (λ (d : ℕ). firstOf (rows33 kind o d r (b .image))) he in
     ⊎-elim
     (λ (z : c ≡ 0).
-    let q : dma ≡ put 0 (contents kind (b .image) (blockIn kind (b .image) e r) r) (b .dma) = hd ∙ rw (eq-eqb (firstOf (rows33 kind o e r (b .image))) 0 (sym hc ∙ z)) refl in
+    let q : dma ≡ put 0 (contents kind (b .image) (blockIn kind (b .image) e r) r) (b .dma) = hd
+    ∙ rw (eq-eqb (firstOf (rows33 kind o e r (b .image))) 0 (sym hc ∙ z)) refl in
     did-pass _ b _ c rows c _ _ _ _ z (record {
       gives = z;
       leaves-fcb = refl;
@@ -91,7 +96,9 @@ read-ended kind o f r b e c dma he hc hd =
     (equal? c 0)
 
 -- the call on the buffers
-pub read-called : (kind : Kind) (p c : ℕ) (b : Buffers) (l : LockList) (f : File) (o r a : ℕ) (fcb dma list image : List ℕ) → l ≡ unpack (b .list) → f ≡ callerFile p l (b .fcb) → o ≡ openOf l p f → r ≡ recordOf (b .fcb) → Did (by33 kind o f r b) a fcb dma list image → Did (served kind (Call Read) p c b) a fcb dma list image
+pub read-called : (kind : Kind) (p c : ℕ) (b : Buffers) (l : LockList) (f : File) (o r a : ℕ) (fcb dma list image : List ℕ) → l ≡ unpack (b .list)
+    → f ≡ callerFile p l (b .fcb) → o ≡ openOf l p f → r ≡ recordOf (b .fcb) → Did (by33 kind o f r b) a fcb dma list image
+    → Did (served kind (Call Read) p c b) a fcb dma list image
 unfolding by33 rowsOf effectOf askedBy
 read-called kind p c b l f o r a fcb dma list image hl hf ho hr d =
     did-as _ _ a fcb dma list image (served-as kind (Call Read) p c b l f r hl hf hr) (rw ho at d)

@@ -61,7 +61,8 @@ own-block kind s e r c h z =
 pub record-at-room : (kind : Kind) (block r size : ℕ) → r < 262144 → blockSize kind * block + blockSize kind ≤ size → recordAt kind block r + 128 ≤ size
 record-at-room kind block r size l h = record-room kind block r size h
 
-module _ (kind : Kind) (p : ℕ) (l : LockList) (o : ℕ) (f : File) (e₀ r : ℕ) (b : Buffers) (c : ℕ) (hx : e₀ ≡ entryOf kind (b .image) f 0) (hc : c ≡ firstOf (rowsMay p l o f e₀ r (b .image))) where
+module _ (kind : Kind) (p : ℕ) (l : LockList) (o : ℕ) (f : File) (e₀ r : ℕ) (b : Buffers) (c : ℕ) (hx : e₀ ≡ entryOf kind (b .image) f 0)
+    (hc : c ≡ firstOf (rowsMay p l o f e₀ r (b .image))) where
   may : c ≡ firstOf (rowsMay p l o f (entryOf kind (b .image) f 0) r (b .image))
   may = may-table kind p l o f e₀ r (b .image) c hx hc
 
@@ -94,7 +95,10 @@ module _ (kind : Kind) (p : ℕ) (l : LockList) (o : ℕ) (f : File) (e₀ r : �
         test : t ≡ any (differs (b .dma) (b .image) (recordAt kind (blockIn kind (b .image) (entryOf kind (b .image) f (r / 128)) r) r)) 128
         test = ht ∙ ap (λ (k : ℕ). any (differs (b .dma) (b .image) k) 128) (ha ∙ ap (λ (k : ℕ). recordAt kind k r) own)
 
-        differ : (k : ℕ) → k ≡ firstOf (rowsDiffer kind (b .dma) (b .image) (blockIn kind (b .image) (entryOf kind (b .image) f (r / 128)) r) r) → (a : ℕ) (image : List ℕ) → Did (unless (rowsDiffer kind (b .dma) (b .image) (blockIn kind (b .image) (entryOf kind (b .image) f (r / 128)) r) r) b (does41 kind f (entryOf kind (b .image) f 0) (entryOf kind (b .image) f (r / 128)) r b)) a (b .fcb) (b .dma) (b .list) image → Did (by41 kind p l o f r b) a (b .fcb) (b .dma) (b .list) image
+        differ : (k : ℕ) → k ≡ firstOf (rowsDiffer kind (b .dma) (b .image) (blockIn kind (b .image) (entryOf kind (b .image) f (r / 128)) r) r)
+            → (a : ℕ) (image : List ℕ) → Did (unless (rowsDiffer kind (b .dma) (b .image) (blockIn kind (b .image) (entryOf kind (b .image) f (r / 128)) r) r) b
+            (does41 kind f (entryOf kind (b .image) f 0) (entryOf kind (b .image) f (r / 128)) r b)) a (b .fcb) (b .dma) (b .list) image
+            → Did (by41 kind p l o f r b) a (b .fcb) (b .dma) (b .list) image
         unfolding by41 rows41
         differ k hk a image g =
             did-go-on _ _ b _ c may a _ _ _ _ z (nonzero-may p l o f _ r (b .image))
@@ -108,7 +112,8 @@ module _ (kind : Kind) (p : ℕ) (l : LockList) (o : ℕ) (f : File) (e₀ r : �
             differ 7 q 7 (b .image) (did-refuse _ b _ 7 q (λ v. omega arith))
 
         -- written
-        pub test-done : (image : List ℕ) → t ≡ false → image ≡ written kind false w e₀ f r (take (256 - 128) (drop 128 (b .dma))) (b .image) → Did (by41 kind p l o f r b) 0 (b .fcb) (b .dma) (b .list) image
+        pub test-done : (image : List ℕ) → t ≡ false → image ≡ written kind false w e₀ f r (take (256 - 128) (drop 128 (b .dma))) (b .image)
+            → Did (by41 kind p l o f r b) 0 (b .fcb) (b .dma) (b .list) image
         unfolding rowsDiffer does41
         test-done image y g =
             let q = row-no 0 7 _ [] (is-no t _ test y) (row-none 0 refl) in
@@ -119,11 +124,15 @@ module _ (kind : Kind) (p : ℕ) (l : LockList) (o : ℕ) (f : File) (e₀ r : �
               leaves-fcb = refl;
               leaves-dma = refl;
               leaves-list = refl;
-              leaves-image = g ∙ ap (λ (v : Spot). written kind false v e₀ f r (part 128 128 (b .dma)) (b .image)) spot ∙ ap (λ (v : ℕ). written kind false (spotAt kind (b .image) (entryOf kind (b .image) f (r / 128)) r) v f r (part 128 128 (b .dma)) (b .image)) hx;
+              leaves-image = g ∙ ap (λ (v : Spot). written kind false v e₀ f r (part 128 128 (b .dma)) (b .image)) spot
+                  ∙ ap (λ (v : ℕ). written kind false (spotAt kind (b .image) (entryOf kind (b .image) f (r / 128)) r) v f r (part 128 128 (b .dma))
+                  (b .image)) hx;
             }))
 
 -- the calls on the buffers
-pub test-called : (kind : Kind) (p c : ℕ) (b : Buffers) (l : LockList) (f : File) (o r a : ℕ) (fcb dma list image : List ℕ) → l ≡ unpack (b .list) → f ≡ callerFile p l (b .fcb) → o ≡ openOf l p f → r ≡ recordOf (b .fcb) → Did (by41 kind p l o f r b) a fcb dma list image → Did (served kind (Call TestWrite) p c b) a fcb dma list image
+pub test-called : (kind : Kind) (p c : ℕ) (b : Buffers) (l : LockList) (f : File) (o r a : ℕ) (fcb dma list image : List ℕ) → l ≡ unpack (b .list)
+    → f ≡ callerFile p l (b .fcb) → o ≡ openOf l p f → r ≡ recordOf (b .fcb) → Did (by41 kind p l o f r b) a fcb dma list image
+    → Did (served kind (Call TestWrite) p c b) a fcb dma list image
 unfolding by41 rowsOf effectOf askedBy lookUp
 test-called kind p c b l f o r a fcb dma list image hl hf ho hr d =
     did-as _ _ a fcb dma list image (served-as kind (Call TestWrite) p c b l f r hl hf hr) (rw ho at d)
@@ -137,7 +146,8 @@ module _ (kind : Kind) (s : List ℕ) (n f : ℕ) (hn : n ≡ blockRecords kind)
   pub space-fits : f ≤ blocks kind s → blocks kind s ≤ most kind → n * f < 18446744073709551616
   space-fits l m = rw hn (let k = records-few kind f (omega arith) in omega arith)
 
-pub space-done : (kind : Kind) (p c : ℕ) (b : Buffers) (n : ℕ) (v dma : List ℕ) → n ≡ blockRecords kind * freeBlocks kind (b .image) → v ≡ le 3 n → dma ≡ put 0 v (b .dma) → Did (served kind (Call FreeSpace) p c b) 0 (b .fcb) dma (b .list) (b .image)
+pub space-done : (kind : Kind) (p c : ℕ) (b : Buffers) (n : ℕ) (v dma : List ℕ) → n ≡ blockRecords kind * freeBlocks kind (b .image) → v ≡ le 3 n
+    → dma ≡ put 0 v (b .dma) → Did (served kind (Call FreeSpace) p c b) 0 (b .fcb) dma (b .list) (b .image)
 unfolding served asked askedBy rowsOf effectOf does46
 space-done kind p c b n v dma hn hv hd =
     did-pass [] b _ 0 (row-none 0 refl) 0 _ _ _ _ refl

@@ -37,7 +37,8 @@ module _ (kind : Kind) (s : List ℕ) (e r : ℕ) (w : Spot) (h : w ≡ spotAt k
   entry-told =
       ⊎-elim (λ (q : leb (entries kind) e ≡ true). rw q)
       (λ (q : leb (entries kind) e ≡ false).
-      ⊎-elim (λ (z : eqb (blockIn kind s e r) 0 ≡ true). rw (q, z)) (λ (z : eqb (blockIn kind s e r) 0 ≡ false). rw (q, z)) (either (eqb (blockIn kind s e r) 0)))
+      ⊎-elim (λ (z : eqb (blockIn kind s e r) 0 ≡ true). rw (q, z)) (λ (z : eqb (blockIn kind s e r) 0 ≡ false). rw (q, z))
+      (either (eqb (blockIn kind s e r) 0)))
       (either (leb (entries kind) e))
 
   missing-none : leb (entries kind) e ≡ true → eqb (blockIn kind s e r) 0 ≡ true
@@ -49,14 +50,18 @@ module _ (kind : Kind) (s : List ℕ) (e r : ℕ) (w : Spot) (h : w ≡ spotAt k
   block-told n =
       ⊎-elim (λ (q : leb (entries kind) e ≡ true). rw (q, missing-none q))
       (λ (q : leb (entries kind) e ≡ false).
-      ⊎-elim (λ (z : eqb (blockIn kind s e r) 0 ≡ true). rw (q, z)) (λ (z : eqb (blockIn kind s e r) 0 ≡ false). rw (q, z)) (either (eqb (blockIn kind s e r) 0)))
+      ⊎-elim (λ (z : eqb (blockIn kind s e r) 0 ≡ true). rw (q, z)) (λ (z : eqb (blockIn kind s e r) 0 ≡ false). rw (q, z))
+      (either (eqb (blockIn kind s e r) 0)))
       (either (leb (entries kind) e))
 
-  pub spot-entry : (n : ℕ) (t : Bool) → n ≡ entries kind → t ≡ (w .fresh and leb n (w .entry)) → t ≡ (leb (entries kind) e and leb (entries kind) (freeEntry kind s))
+  pub spot-entry : (n : ℕ) (t : Bool) → n ≡ entries kind → t ≡ (w .fresh and leb n (w .entry))
+      → t ≡ (leb (entries kind) e and leb (entries kind) (freeEntry kind s))
   spot-entry n t q k = k ∙ ap (λ (m : ℕ). w .fresh and leb m (w .entry)) q ∙ ap (λ (v : Spot). v .fresh and leb (entries kind) (v .entry)) h ∙ entry-told
 
-  pub spot-block : (n : ℕ) (t : Bool) → n ≡ blocks kind s → t ≡ (w .taken and leb n (w .block)) → t ≡ (eqb (blockIn kind s e r) 0 and leb (blocks kind s) (freeBlock kind s))
-  spot-block n t q k = k ∙ ap (λ (m : ℕ). w .taken and leb m (w .block)) q ∙ ap (λ (v : Spot). v .taken and leb (blocks kind s) (v .block)) h ∙ block-told (blocks kind s)
+  pub spot-block : (n : ℕ) (t : Bool) → n ≡ blocks kind s → t ≡ (w .taken and leb n (w .block))
+      → t ≡ (eqb (blockIn kind s e r) 0 and leb (blocks kind s) (freeBlock kind s))
+  spot-block n t q k = k ∙ ap (λ (m : ℕ). w .taken and leb m (w .block)) q ∙ ap (λ (v : Spot). v .taken and leb (blocks kind s) (v .block)) h
+      ∙ block-told (blocks kind s)
 
 -- ---- what 34, 40 and 41 share
 
@@ -64,7 +69,8 @@ pub nonzero-may : (p : ℕ) (l : LockList) (o : ℕ) (f : File) (e₀ r : ℕ) (
 unfolding rowsMay
 nonzero-may p l o f e₀ r s = search nonzeros depth 20 fits 20000
 
-module _ (kind : Kind) (p : ℕ) (l : LockList) (o : ℕ) (f : File) (e₀ r : ℕ) (s : List ℕ) (c : ℕ) (hx : e₀ ≡ entryOf kind s f 0) (hc : c ≡ firstOf (rowsMay p l o f e₀ r s)) where
+module _ (kind : Kind) (p : ℕ) (l : LockList) (o : ℕ) (f : File) (e₀ r : ℕ) (s : List ℕ) (c : ℕ) (hx : e₀ ≡ entryOf kind s f 0)
+    (hc : c ≡ firstOf (rowsMay p l o f e₀ r s)) where
   pub may-table : c ≡ firstOf (rowsMay p l o f (entryOf kind s f 0) r s)
   may-table = hc ∙ ap (λ (y : ℕ). firstOf (rowsMay p l o f y r s)) hx
 
@@ -75,7 +81,8 @@ unfolding rowsMayBy rowsMay
 may-by p l o f e₀ r s stopped locked hs hl = rw (hs, hl) refl
 
 pub may-told : (p : ℕ) (l : LockList) (o : ℕ) (f : File) (e₀ r : ℕ) (s : List ℕ) (stopped locked : Bool) (mode c : ℕ)
-    → mode ≡ itemAt l o .mode → stopped ≡ (readOnly s e₀ or eqb mode 2) → locked ≡ lockedByOther l p f r → c ≡ firstOf (rowsMayBy o stopped r locked) → c ≡ firstOf (rowsMay p l o f e₀ r s)
+    → mode ≡ itemAt l o .mode → stopped ≡ (readOnly s e₀ or eqb mode 2) → locked ≡ lockedByOther l p f r → c ≡ firstOf (rowsMayBy o stopped r locked)
+    → c ≡ firstOf (rowsMay p l o f e₀ r s)
 may-told p l o f e₀ r s stopped locked mode c hm hs hl hc =
     hc ∙ ap firstOf (may-by p l o f e₀ r s stopped locked (hs ∙ ap (λ (m : ℕ). readOnly s e₀ or eqb m 2) hm) hl)
 
@@ -91,7 +98,8 @@ may-number p l o f e₀ r s c hc z = write-number o _ r _ c (hc ∙ ap firstOf (
 
 -- ---- the ends of one record's write
 
-module _ (kind : Kind) (zeros : Bool) (o : ℕ) (stopped locked : Bool) (f : File) (e₀ e r : ℕ) (v s : List ℕ) (c : ℕ) (le : e ≤ entries kind) (hc : c ≡ firstOf (rowsMayBy o stopped r locked)) where
+module _ (kind : Kind) (zeros : Bool) (o : ℕ) (stopped locked : Bool) (f : File) (e₀ e r : ℕ) (v s : List ℕ) (c : ℕ) (le : e ≤ entries kind)
+    (hc : c ≡ firstOf (rowsMayBy o stopped r locked)) where
   abbrev may : List Row
   may = rowsMayBy o stopped r locked
 
@@ -115,7 +123,8 @@ module _ (kind : Kind) (zeros : Bool) (o : ℕ) (stopped locked : Bool) (f : Fil
     write-full n = stays d room n
 
     -- written
-    pub write-put : (t : List ℕ) → soundImage kind highest s ≡ true → e ≡ entryOf kind s f (r / 128) → d ≡ 0 → t ≡ written kind zeros w e₀ f r v s → OneDid kind zeros o stopped locked f e₀ e r v s 0 (w .entry) t
+    pub write-put : (t : List ℕ) → soundImage kind highest s ≡ true → e ≡ entryOf kind s f (r / 128) → d ≡ 0 → t ≡ written kind zeros w e₀ f r v s
+        → OneDid kind zeros o stopped locked f e₀ e r v s 0 (w .entry) t
     write-put t h he y g = record {
       gives = sym y ∙ room;
       within = let k = room-within kind highest s h f r w e d he hw hd y .entry-within in omega arith;
@@ -131,27 +140,33 @@ module _ (kind : Kind) (zeros : Bool) (p : ℕ) (l : LockList) (o : ℕ) (f : Fi
   abbrev rows : List Row
   rows = rows34 kind p l o f (entryOf kind (b .image) f 0) (entryOf kind (b .image) f (r / 128)) r (b .image)
 
-  ended : (code entry : ℕ) (t : List ℕ) (stopped locked : Bool) → stopped ≡ (readOnly (b .image) (entryOf kind (b .image) f 0) or eqb (itemAt l o .mode) 2) → locked ≡ lockedByOther l p f r
-      → OneDid kind zeros o stopped locked f (entryOf kind (b .image) f 0) (entryOf kind (b .image) f (r / 128)) r (b .dma) (b .image) code entry t → Did (by34 kind zeros p l o f r b) code (b .fcb) (b .dma) (b .list) t
+  ended : (code entry : ℕ) (t : List ℕ) (stopped locked : Bool) → stopped ≡ (readOnly (b .image) (entryOf kind (b .image) f 0) or eqb (itemAt l o .mode) 2)
+      → locked ≡ lockedByOther l p f r
+      → OneDid kind zeros o stopped locked f (entryOf kind (b .image) f 0) (entryOf kind (b .image) f (r / 128)) r (b .dma) (b .image) code entry t
+      → Did (by34 kind zeros p l o f r b) code (b .fcb) (b .dma) (b .list) t
   unfolding by34 rows34 does34
   ended code entry t stopped locked hs hl d =
-      let told : code ≡ firstOf rows = d .gives ∙ ap (λ (m : List Row). firstOf (m ++ rowsRoom kind (b .image) (entryOf kind (b .image) f (r / 128)) r)) (may-by p l o f (entryOf kind (b .image) f 0) r (b .image) stopped locked hs hl) in
+      let told : code ≡ firstOf rows = d .gives ∙ ap (λ (m : List Row). firstOf (m ++ rowsRoom kind (b .image) (entryOf kind (b .image) f (r / 128)) r))
+      (may-by p l o f (entryOf kind (b .image) f 0) r (b .image) stopped locked hs hl) in
       ⊎-elim
       (λ (z : code ≡ 0).
       did-pass rows b _ code told code _ _ _ _ z (record { gives = z; leaves-fcb = refl; leaves-dma = refl; leaves-list = refl; leaves-image = d .wrote z }))
       (λ (z : code ≡ 0 → ⊥). rw (d .kept z) (did-refuse rows b _ code told z))
       (equal? code 0)
 
-  pub write-ended : (e₀ e : ℕ) (stopped locked : Bool) (mode code entry : ℕ) (t : List ℕ) → e₀ ≡ entryOf kind (b .image) f 0 → e ≡ entryOf kind (b .image) f (r / 128)
+  pub write-ended : (e₀ e : ℕ) (stopped locked : Bool) (mode code entry : ℕ) (t : List ℕ) → e₀ ≡ entryOf kind (b .image) f 0
+      → e ≡ entryOf kind (b .image) f (r / 128)
       → mode ≡ itemAt l o .mode → stopped ≡ (readOnly (b .image) e₀ or eqb mode 2) → locked ≡ lockedByOther l p f r
       → OneDid kind zeros o stopped locked f e₀ e r (b .dma) (b .image) code entry t → Did (by34 kind zeros p l o f r b) code (b .fcb) (b .dma) (b .list) t
   write-ended e₀ e stopped locked mode code entry t h₀ he hm hs hl d =
-      ended code entry t stopped locked (hs ∙ ap (λ (m : ℕ). readOnly (b .image) e₀ or eqb m 2) hm ∙ ap (λ (m : ℕ). readOnly (b .image) m or eqb (itemAt l o .mode) 2) h₀) hl
+      ended code entry t stopped locked (hs ∙ ap (λ (m : ℕ). readOnly (b .image) e₀ or eqb m 2) hm
+      ∙ ap (λ (m : ℕ). readOnly (b .image) m or eqb (itemAt l o .mode) 2) h₀) hl
       (subst (λ (m : ℕ). OneDid kind zeros o stopped locked f (entryOf kind (b .image) f 0) m r (b .dma) (b .image) code entry t) he
       (subst (λ (m : ℕ). OneDid kind zeros o stopped locked f m e r (b .dma) (b .image) code entry t) h₀ d))
 
 -- the calls on the buffers
-module _ (kind : Kind) (p c : ℕ) (b : Buffers) (l : LockList) (f : File) (o r a : ℕ) (fcb dma list image : List ℕ) (hl : l ≡ unpack (b .list)) (hf : f ≡ callerFile p l (b .fcb)) (ho : o ≡ openOf l p f) (hr : r ≡ recordOf (b .fcb)) where
+module _ (kind : Kind) (p c : ℕ) (b : Buffers) (l : LockList) (f : File) (o r a : ℕ) (fcb dma list image : List ℕ) (hl : l ≡ unpack (b .list))
+    (hf : f ≡ callerFile p l (b .fcb)) (ho : o ≡ openOf l p f) (hr : r ≡ recordOf (b .fcb)) where
   pub write-called : Did (by34 kind false p l o f r b) a fcb dma list image → Did (served kind (Call Write) p c b) a fcb dma list image
   unfolding by34 rowsOf effectOf askedBy lookUp
   write-called d = did-as _ _ a fcb dma list image (served-as kind (Call Write) p c b l f r hl hf hr) (rw ho at d)

@@ -1,4 +1,8 @@
 use directory::find::read_only;
+use rules::code::LOCKED;
+use rules::code::NOT_OPEN;
+use rules::code::PAST_END;
+use rules::code::READ_ONLY;
 use rules::file::File;
 use rules::list::LockList;
 ghost use mathlib.Core.Path.{_≡_};
@@ -27,16 +31,16 @@ pub fn may_write_by(o: usize, stopped: bool, r: u32, locked: bool) -> u32
     ensures { λ c. ⌜ c ≡ firstOf (rowsMayBy o stopped r locked) ⌝ }
 {
     if 64 <= o {
-        return 10;
+        return NOT_OPEN;
     }
     if stopped {
-        return 1023;
+        return READ_ONLY;
     }
     if 262143 < r {
-        return 6;
+        return PAST_END;
     }
     if locked {
-        return 8;
+        return LOCKED;
     }
     0
 }

@@ -5,6 +5,8 @@ use directory::place::record_at;
 use locklist::ask::caller_file;
 use locklist::ask::record_of;
 use rules::bytes::put_bytes;
+use rules::code::NOT_OPEN;
+use rules::code::PAST_END;
 use rules::file::File;
 use rules::kind::Kind;
 use rules::list::LockList;
@@ -29,10 +31,10 @@ fn read_refusal(kind: Kind, o: usize, e: usize, r: usize, image: &[u8]) -> u32
     ensures { λ c. ⌜ c ≡ firstOf (rows33 kind o e r (now (image .entry))) ⌝ }
 {
     if 64 <= o {
-        return 10;
+        return NOT_OPEN;
     }
     if 262143 < r {
-        return 6;
+        return PAST_END;
     }
     not_there(kind, image, e, r)
 }

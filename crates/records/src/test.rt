@@ -4,6 +4,7 @@ use directory::find::entry_of;
 use directory::place::record_at;
 use locklist::ask::caller_file;
 use locklist::ask::record_of;
+use rules::code::DIFFERS;
 use rules::file::File;
 use rules::kind::Kind;
 use rules::list::LockList;
@@ -66,7 +67,7 @@ fn test_by(
     let w = spot_at(kind, &*image, e, number);
     let block = w.block;
     if any_differs(dma, &*image, record_at(kind, block, number)) {
-        return 7;
+        return DIFFERS;
     }
     write_record(kind, image, false, w, first, f, number, &dma[128..256]);
     0

@@ -1,4 +1,6 @@
 use directory::find::block_in;
+use rules::code::NO_BLOCK;
+use rules::code::NO_EXTENT;
 use rules::kind::Kind;
 use rules::kind::entries;
 ghost use mathlib.Core.Path.{_≡_};
@@ -14,10 +16,10 @@ pub fn not_there(kind: Kind, image: &[u8], e: usize, r: usize) -> u32
     ensures { λ c. ⌜ c ≡ firstOf (rowsThere kind (now (image .entry)) e r) ⌝ }
 {
     if entries(kind) <= e {
-        return 4;
+        return NO_EXTENT;
     }
     if block_in(kind, image, e, r) == 0 {
-        return 1;
+        return NO_BLOCK;
     }
     0
 }

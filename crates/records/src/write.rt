@@ -4,6 +4,8 @@ use directory::find::entry_of;
 use directory::place::blocks_in;
 use locklist::ask::caller_file;
 use locklist::ask::record_of;
+use rules::code::DIRECTORY_FULL;
+use rules::code::DISK_FULL;
 use rules::file::File;
 use rules::kind::Kind;
 use rules::kind::entries;
@@ -55,10 +57,10 @@ fn no_room(kind: Kind, w: Spot, image: &[u8], e: usize, r: usize) -> u32
     ensures { λ c. ⌜ c ≡ firstOf (rowsRoom kind (now (image .entry)) e r) ⌝ }
 {
     if lacks_entry(w, entries(kind)) {
-        return 5;
+        return DIRECTORY_FULL;
     }
     if lacks_block(w, blocks_in(kind, image)) {
-        return 2;
+        return DISK_FULL;
     }
     0
 }

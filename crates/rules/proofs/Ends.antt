@@ -40,17 +40,21 @@ module _ (xs ys : List Row) (b : Buffers) (o : Outcome) (code : ℕ) (e : code �
   pub did-refuse-first : (code ≡ 0 → ⊥) → Did (unless (xs ++ ys) b o) code (b .fcb) (b .dma) (b .list) (b .image)
   did-refuse-first n = did-refuse (xs ++ ys) b o code (e ∙ sym (first-stays xs ys (λ q. n (e ∙ q)))) n
 
-  pub did-go-on : (r : ℕ) (fcb dma list image : List ℕ) → code ≡ 0 → noneZero xs ≡ true → Did (unless ys b o) r fcb dma list image → Did (unless (xs ++ ys) b o) r fcb dma list image
+  pub did-go-on : (r : ℕ) (fcb dma list image : List ℕ) → code ≡ 0 → noneZero xs ≡ true → Did (unless ys b o) r fcb dma list image
+      → Did (unless (xs ++ ys) b o) r fcb dma list image
   unfolding unless
   did-go-on r fcb dma list image z h d =
       did-as _ _ r fcb dma list image (ap (λ (c : ℕ). decided c b o) (sym (first-then xs ys (sym e ∙ z) h))) d
 
 -- ---- a call on the buffers, from what its routine found in them
 
-pub served-as : (kind : Kind) (k : Chosen) (p c : ℕ) (b : Buffers) (l : LockList) (f : File) (r : ℕ) → l ≡ unpack (b .list) → f ≡ callerFile p l (b .fcb) → r ≡ recordOf (b .fcb) → unless (rowsOf k (askedBy kind p c l f r (b .image)) b) b (effectOf k (askedBy kind p c l f r (b .image)) b) ≡ served kind k p c b
+pub served-as : (kind : Kind) (k : Chosen) (p c : ℕ) (b : Buffers) (l : LockList) (f : File) (r : ℕ) → l ≡ unpack (b .list) → f ≡ callerFile p l (b .fcb)
+    → r ≡ recordOf (b .fcb) → unless (rowsOf k (askedBy kind p c l f r (b .image)) b) b (effectOf k (askedBy kind p c l f r (b .image)) b) ≡ served kind k p c b
 unfolding served asked
 served-as kind k p c b l f r hl hf hr =
     let g : f ≡ callerFile p (unpack (b .list)) (b .fcb) = hf ∙ ap (λ (m : LockList). callerFile p m (b .fcb)) hl in
     ap (λ (m : LockList). unless (rowsOf k (askedBy kind p c m f r (b .image)) b) b (effectOf k (askedBy kind p c m f r (b .image)) b)) hl
-    ∙ ap (λ (m : File). unless (rowsOf k (askedBy kind p c (unpack (b .list)) m r (b .image)) b) b (effectOf k (askedBy kind p c (unpack (b .list)) m r (b .image)) b)) g
-    ∙ ap (λ (m : ℕ). unless (rowsOf k (askedBy kind p c (unpack (b .list)) (callerFile p (unpack (b .list)) (b .fcb)) m (b .image)) b) b (effectOf k (askedBy kind p c (unpack (b .list)) (callerFile p (unpack (b .list)) (b .fcb)) m (b .image)) b)) hr
+    ∙ ap (λ (m : File). unless (rowsOf k (askedBy kind p c (unpack (b .list)) m r (b .image)) b) b
+    (effectOf k (askedBy kind p c (unpack (b .list)) m r (b .image)) b)) g
+    ∙ ap (λ (m : ℕ). unless (rowsOf k (askedBy kind p c (unpack (b .list)) (callerFile p (unpack (b .list)) (b .fcb)) m (b .image)) b) b
+    (effectOf k (askedBy kind p c (unpack (b .list)) (callerFile p (unpack (b .list)) (b .fcb)) m (b .image)) b)) hr

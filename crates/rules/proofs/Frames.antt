@@ -117,7 +117,8 @@ is-same s t f x e h g = record {
 pub map-same : (kind : Kind) (s t : List ℕ) (e k : ℕ) → Same s e t e → k < numbers kind → mapNumber kind t e k ≡ mapNumber kind s e k
 map-same kind s t e k h l = map-bytes kind s t e e k l (h .at)
 
-pub names-same : (kind : Kind) (s t : List ℕ) (e k : ℕ) → isEmpty t e ≡ isEmpty s e → mapNumber kind t e k ≡ mapNumber kind s e k → Names kind t e k → Names kind s e k
+pub names-same : (kind : Kind) (s t : List ℕ) (e k : ℕ) → isEmpty t e ≡ isEmpty s e → mapNumber kind t e k ≡ mapNumber kind s e k → Names kind t e k
+    → Names kind s e k
 names-same kind s t e k u m n = record {
   entry-there = n .entry-there;
   place-there = n .place-there;

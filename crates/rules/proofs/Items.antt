@@ -77,7 +77,8 @@ clash-sym a b h =
     (λ (q : (eqb (a .kind) 1 and eqb (b .kind) 1 and not (standBeside a b)) ≡ false).
     let x = or-so _ _ h q in
     let y = and-snd _ _ x in
-    or-case _ _ (λ z. and-both _ _ (and-fst _ _ y) (and-both _ _ (and-fst _ _ x) (eq-eqb (b .number) (a .number) (sym (eqb-true (a .number) (b .number) (and-snd _ _ y)))))))
+    or-case _ _ (λ z. and-both _ _ (and-fst _ _ y) (and-both _ _ (and-fst _ _ x)
+    (eq-eqb (b .number) (a .number) (sym (eqb-true (a .number) (b .number) (and-snd _ _ y)))))))
     (either (eqb (a .kind) 1 and eqb (b .kind) 1 and not (standBeside a b)))
 
 pub clash-at-sym : (l : LockList) (i j : ℕ) → clashAt l i j ≡ true → clashAt l j i ≡ true

@@ -1,3 +1,4 @@
+-- The proofs of `rules`.
 pub mod Sizes
 pub mod Answers
 pub mod Tables
@@ -12,6 +13,7 @@ pub mod Items
 pub mod SoundList
 pub mod Frames
 pub mod Passed
+pub mod Rows
 pub mod Singles
 pub mod Several
 pub mod OneRecord

@@ -43,7 +43,8 @@ pub record Gone (f : Item → Item) (l₀ l : LockList) (i : ℕ) : Type 0 where
 pub gone-none : (f : Item → Item) (l : LockList) → length (l .items) ≡ 64 → Gone f l l 0
 gone-none f l h = record { long = h; so = refl }
 
-pub gone-more : (f : Item → Item) (l₀ l : LockList) (i : ℕ) (x : Item) → i < 64 → Gone f l₀ l i → x ≡ f (itemAt l i) → Gone f l₀ (withItems l (set (l .items) i x)) (i + 1)
+pub gone-more : (f : Item → Item) (l₀ l : LockList) (i : ℕ) (x : Item) → i < 64 → Gone f l₀ l i → x ≡ f (itemAt l i)
+    → Gone f l₀ (withItems l (set (l .items) i x)) (i + 1)
 gone-more f l₀ l i x h g n =
     let k : i < length (l₀ .items) = omega (arith, g .long) in
     record {
@@ -101,13 +102,15 @@ pub ruleset placings = (needs, length-mapped, placed-at, placed-none)
 -- ---- a run's records one after the other: number is that of record k, whose lock is looked for up to place i
 
 module _ (l : LockList) (p : ℕ) (f : File) (r k i number : ℕ) (e : number ≡ r + k) where
-  pub run-held : (t : Bool) (l₀ : LockList) (j : ℕ) → i < 64 → t ≡ true → k ≡ j → l ≡ turns (lockedAt p f r) j l₀ → t ≡ isOwnLock l p f number i → l ≡ turns (lockedAt p f r) (k + 1) l₀
+  pub run-held : (t : Bool) (l₀ : LockList) (j : ℕ) → i < 64 → t ≡ true → k ≡ j → l ≡ turns (lockedAt p f r) j l₀ → t ≡ isOwnLock l p f number i
+      → l ≡ turns (lockedAt p f r) (k + 1) l₀
   unfolding lockedAt held _if_else_
   run-held t l₀ j m y q c h =
       let w : held l p f (r + k) ≡ true = rw (← e) (any-found (isOwnLock l p f number) 64 i m (sym h ∙ y)) in
       turns-more (lockedAt p f r) k l₀ l l (rw q c) (rw w)
 
-  module _ (l₀ : LockList) (at j : ℕ) (h : any (isOwnLock l p f number) i ≡ false) (g : 64 ≤ i) (m : i ≤ 64) (q : k ≡ j) (c : l ≡ turns (lockedAt p f r) j l₀) (free : at ≡ freePlace l) where
+  module _ (l₀ : LockList) (at j : ℕ) (h : any (isOwnLock l p f number) i ≡ false) (g : 64 ≤ i) (m : i ≤ 64) (q : k ≡ j) (c : l ≡ turns (lockedAt p f r) j l₀)
+      (free : at ≡ freePlace l) where
     placed-now : placed (freshLock p (f .name) number) l ≡ turns (lockedAt p f r) (k + 1) l₀
     unfolding lockedAt held _if_else_
     placed-now =
@@ -195,11 +198,14 @@ unfoldable pub itemsBy : LockList → ℕ → ℕ → ℕ
 itemsBy l n p = count (isKindByAt l 1 p) n + count (isKindByAt l 2 p) n
 
 -- an item is one process's open or lock, and an empty place is nobody's
-one-share : (k q : ℕ) → k < 3 → (eqb k 0 ≡ false → q < 16) → total (λ (p : ℕ). (1 if (eqb k 1 and eqb q p) else 0) + (1 if (eqb k 2 and eqb q p) else 0)) 16 ≡ (1 if not (eqb k 0) else 0)
+one-share : (k q : ℕ) → k < 3 → (eqb k 0 ≡ false → q < 16) → total
+    (λ (p : ℕ). (1 if (eqb k 1 and eqb q p) else 0) + (1 if (eqb k 2 and eqb q p) else 0)) 16 ≡ (1 if not (eqb k 0) else 0)
 unfolding total _and_ _if_else_
 one-share zero q h g = refl
-one-share (suc zero) q h g = total-ext (λ (p : ℕ). (1 if eqb q p else 0) + 0) (λ (p : ℕ). 1 if eqb q p else 0) 16 (λ p. omega arith) ∙ total-one q 16 ∙ rw (lt-ltb q 16 (g refl))
-one-share (suc (suc zero)) q h g = total-ext (λ (p : ℕ). 0 + (1 if eqb q p else 0)) (λ (p : ℕ). 1 if eqb q p else 0) 16 (λ p. omega arith) ∙ total-one q 16 ∙ rw (lt-ltb q 16 (g refl))
+one-share (suc zero) q h g = total-ext (λ (p : ℕ). (1 if eqb q p else 0) + 0) (λ (p : ℕ). 1 if eqb q p else 0) 16 (λ p. omega arith) ∙ total-one q 16
+    ∙ rw (lt-ltb q 16 (g refl))
+one-share (suc (suc zero)) q h g = total-ext (λ (p : ℕ). 0 + (1 if eqb q p else 0)) (λ (p : ℕ). 1 if eqb q p else 0) 16 (λ p. omega arith) ∙ total-one q 16
+    ∙ rw (lt-ltb q 16 (g refl))
 one-share (suc (suc (suc k))) q h g = absurd (omega arith)
 
 module _ (kind : Kind) (top : ℕ) (l : LockList) (s : List ℕ) (h : soundLocks kind top l s ≡ true) where
@@ -232,8 +238,10 @@ module _ (kind : Kind) (top : ℕ) (l : LockList) (s : List ℕ) (h : soundLocks
   add-up-to (suc n) m =
       let a : ℕ → ℕ = λ (p : ℕ). 1 if isKindByAt l 1 p n else 0 in
       let b : ℕ → ℕ = λ (p : ℕ). 1 if isKindByAt l 2 p n else 0 in
-      let e : total (itemsBy l (suc n)) 16 ≡ total (λ (p : ℕ). itemsBy l n p + (a p + b p)) 16 = total-ext (itemsBy l (suc n)) (λ (p : ℕ). itemsBy l n p + (a p + b p)) 16 (λ p. omega arith) in
-      let d : total (λ (p : ℕ). itemsBy l n p + (a p + b p)) 16 ≡ total (itemsBy l n) 16 + total (λ (p : ℕ). a p + b p) 16 = total-both (itemsBy l n) (λ (p : ℕ). a p + b p) 16 in
+      let e : total (itemsBy l (suc n)) 16 ≡ total (λ (p : ℕ). itemsBy l n p + (a p + b p)) 16 = total-ext (itemsBy l (suc n))
+      (λ (p : ℕ). itemsBy l n p + (a p + b p)) 16 (λ p. omega arith) in
+      let d : total (λ (p : ℕ). itemsBy l n p + (a p + b p)) 16 ≡ total (itemsBy l n) 16 + total (λ (p : ℕ). a p + b p) 16 = total-both (itemsBy l n)
+      (λ (p : ℕ). a p + b p) 16 in
       rw (add-up-to n (omega arith), ← place-share n (omega arith)) (sym (e ∙ d))
 
   -- the limits are 1 to 64

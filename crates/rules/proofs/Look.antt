@@ -22,7 +22,8 @@ pub record Apart (a b : ℕ) : Type 0 where
   pub apart : (a + 128 ≤ b) ⊎ (b + 128 ≤ a)
 
 -- two records that both have blocks
-module _ (kind : Kind) (top : ℕ) (s : List ℕ) (h : soundImage kind top s ≡ true) (f g : File) (r q : ℕ) (lf : length (f .name) ≡ 11) (lg : length (g .name) ≡ 11) (hr : blockOf kind s f r ≡ 0 → ⊥) (hq : blockOf kind s g q ≡ 0 → ⊥) where
+module _ (kind : Kind) (top : ℕ) (s : List ℕ) (h : soundImage kind top s ≡ true) (f g : File) (r q : ℕ) (lf : length (f .name) ≡ 11)
+    (lg : length (g .name) ≡ 11) (hr : blockOf kind s f r ≡ 0 → ⊥) (hq : blockOf kind s g q ≡ 0 → ⊥) where
   -- one block: the same file, and the same records of a block
   pub same-group : blockOf kind s f r ≡ blockOf kind s g q → (f ≡ g) × (r / blockRecords kind ≡ q / blockRecords kind)
   same-group e =
@@ -30,7 +31,8 @@ module _ (kind : Kind) (top : ℕ) (s : List ℕ) (h : soundImage kind top s ≡
       let c = entryOf kind s g (q / 128) in
       let nr = block-named kind top s f r hr in
       let nq = block-named kind top s g q hq in
-      let o = sound-of kind top s h .maps .once d (mapPlace kind r) c (mapPlace kind q) nr nq (sym (block-is kind top s f r hr) ∙ e ∙ block-is kind top s g q hq) in
+      let o = sound-of kind top s h .maps .once d (mapPlace kind r) c (mapPlace kind q) nr nq
+      (sym (block-is kind top s f r hr) ∙ e ∙ block-is kind top s g q hq) in
       let i = found-is kind s f (r / 128) lf (nr .entry-there) in
       let j = found-is kind s g (q / 128) lg (nq .entry-there) in
       let x : r / 128 ≡ q / 128 = sym (i .extent) ∙ ap (λ (n : ℕ). extentAt s n) (o .0) ∙ j .extent in
@@ -38,7 +40,8 @@ module _ (kind : Kind) (top : ℕ) (s : List ℕ) (h : soundImage kind top s ≡
       (sym (i .file) ∙ ap (λ (n : ℕ). fileAt s n) (o .0) ∙ j .file, same-places kind r q x y)
 
   -- two parts that begin at different places do not overlap
-  unequal : (recordAt kind (blockOf kind s f r) r ≡ recordAt kind (blockOf kind s g q) q → ⊥) → Apart (recordAt kind (blockOf kind s f r) r) (recordAt kind (blockOf kind s g q) q)
+  unequal : (recordAt kind (blockOf kind s f r) r ≡ recordAt kind (blockOf kind s g q) q → ⊥)
+      → Apart (recordAt kind (blockOf kind s f r) r) (recordAt kind (blockOf kind s g q) q)
   unequal n =
       record { apart = record-apart kind (blockOf kind s f r) (blockOf kind s g q) r q n }
 
@@ -80,7 +83,8 @@ module _ (kind : Kind) (top u : ℕ) (name : List ℕ) (r : ℕ) (s : List ℕ) 
       rw (look-block .1) (record-past kind _ r (b .0), rw (← l) (record-inside kind _ _ r (b .1)))
 
 -- two parts that Look shows do not overlap, unless they are the same record of the same file
-pub look-apart : (kind : Kind) (top u v : ℕ) (m n : List ℕ) (r q : ℕ) (s : List ℕ) → (lookAt kind top u m r s ≡ 0 → ⊥) → (lookAt kind top v n q s ≡ 0 → ⊥) → ((fileFrom u m 0 ≡ fileFrom v n 0) × (r ≡ q)) ⊎ Apart (lookAt kind top u m r s) (lookAt kind top v n q s)
+pub look-apart : (kind : Kind) (top u v : ℕ) (m n : List ℕ) (r q : ℕ) (s : List ℕ) → (lookAt kind top u m r s ≡ 0 → ⊥) → (lookAt kind top v n q s ≡ 0 → ⊥)
+    → ((fileFrom u m 0 ≡ fileFrom v n 0) × (r ≡ q)) ⊎ Apart (lookAt kind top u m r s) (lookAt kind top v n q s)
 look-apart kind top u v m n r q s hr hq =
     let a = look-block kind top u m r s hr in
     let b = look-block kind top v n q s hq in

@@ -46,14 +46,16 @@ module _ (kind : Kind) (b : Buffers) (ok : Ready kind b) where
   unfolding does34 single backAt
   written-back zeros f e₀ e r = rw dma-first (rw (put-same 0 128 (b .dma) (let n = ok .dma-long in omega arith)) refl)
 
-  read-back : (o : ℕ) (f : File) (e r : ℕ) → e ≡ entryOf kind (b .image) f (r / 128) → firstOf (rows33 kind o e r (b .image)) ≡ 0 → backAt 0 b (does33 kind e r (single 0 b) .left) ≡ does33 kind e r b .left
+  read-back : (o : ℕ) (f : File) (e r : ℕ) → e ≡ entryOf kind (b .image) f (r / 128) → firstOf (rows33 kind o e r (b .image)) ≡ 0
+      → backAt 0 b (does33 kind e r (single 0 b) .left) ≡ does33 kind e r b .left
   unfolding does33 single backAt
   read-back o f e r he z =
       let v = contents kind (b .image) (blockIn kind (b .image) e r) r in
       let n = contents-long kind (b .image) (blockIn kind (b .image) e r) r (read-room kind o (b .image) f r e _ _ (ok .image-sound) he refl z refl) in
       ap (λ (m : List ℕ). buffers (b .fcb) m (b .list) (b .image)) (dma-back 0 (b .dma) (let n = ok .dma-long in omega arith) v n)
 
-  effect-back : (k : Chosen) → Runs k → (p : ℕ) → firstOf (rowsOf k (asked kind p 1 b) b) ≡ 0 → backAt 0 b (effectOf k (asked kind p 1 b) (single 0 b) .left) ≡ effectOf k (asked kind p 1 b) b .left
+  effect-back : (k : Chosen) → Runs k → (p : ℕ) → firstOf (rowsOf k (asked kind p 1 b) b) ≡ 0
+      → backAt 0 b (effectOf k (asked kind p 1 b) (single 0 b) .left) ≡ effectOf k (asked kind p 1 b) b .left
   unfolding effectOf rowsOf asked askedBy
   effect-back k isRead p z = read-back _ (callerFile p (unpack (b .list)) (b .fcb)) _ _ refl z
   effect-back k isWrite p z = written-back false _ _ _ _
@@ -95,8 +97,10 @@ module _ (kind : Kind) (n p : ℕ) (b : Buffers) (h : servesRun n ≡ true) (z :
   unfolding served
   done-one y =
       let g = several-more kind n p 0 b b (several-none kind n p b) (code-is ∙ y) in
-      let a : told (several kind n p 1 b) .answer ≡ effectOf (chosen n) (asked kind p 1 b) b .answer = told-zero (several kind n p 1 b) (ap (λ (r : Run). r .code) g) ∙ sym (effect-zero (chosen n) (asked kind p 1 b) b) in
-      let l : told (several kind n p 1 b) .left ≡ effectOf (chosen n) (asked kind p 1 b) b .left = told-left (several kind n p 1 b) ∙ ap (λ (r : Run). r .left) g ∙ left-is y in
+      let a : told (several kind n p 1 b) .answer ≡ effectOf (chosen n) (asked kind p 1 b) b .answer = told-zero (several kind n p 1 b)
+      (ap (λ (r : Run). r .code) g) ∙ sym (effect-zero (chosen n) (asked kind p 1 b) b) in
+      let l : told (several kind n p 1 b) .left ≡ effectOf (chosen n) (asked kind p 1 b) b .left = told-left (several kind n p 1 b)
+      ∙ ap (λ (r : Run). r .left) g ∙ left-is y in
       (λ j. record { answer = a j; left = l j }) ∙ sym (accepts _ b _ y)
 
   -- refused

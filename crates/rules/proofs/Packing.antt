@@ -162,7 +162,8 @@ unfolding unpack
 unpack-at list i l = tab-at (itemIn list) 64 i blank l
 
 -- every sound list of 1,299 bytes, each below 256
-module _ (kind : Kind) (top : ℕ) (list s : List ℕ) (long : length list ≡ 1299) (small : (i : ℕ) → byte list i < 256) (h : soundList kind top list s ≡ true) where
+module _ (kind : Kind) (top : ℕ) (list s : List ℕ) (long : length list ≡ 1299) (small : (i : ℕ) → byte list i < 256)
+    (h : soundList kind top list s ≡ true) where
   place-good : (i : ℕ) → i < 64 → goodPlace kind top s (unpack list) i ≡ true
   unfolding soundList soundLocks
   place-good i l =

@@ -62,7 +62,8 @@ pub record Passed (kind : Kind) (p c : ℕ) (b : Buffers) : Type 0 where
   pub ready : Ready kind b
 
 -- the image's length follows from its soundness
-pub ready-of : (kind : Kind) (n p c : ℕ) (b : Buffers) → GoodNumbers n p c (b .fcb) (b .dma) (b .list) → soundImage kind highest (b .image) ≡ true → soundList kind highest (b .list) (b .image) ≡ true → Ready kind b
+pub ready-of : (kind : Kind) (n p c : ℕ) (b : Buffers) → GoodNumbers n p c (b .fcb) (b .dma) (b .list) → soundImage kind highest (b .image) ≡ true
+    → soundList kind highest (b .list) (b .image) ≡ true → Ready kind b
 ready-of kind n p c b g image list =
     let w = sound-length kind highest (b .image) image in
     record {

@@ -41,14 +41,21 @@ module _ (kind : Kind) (top : ℕ) (s : List ℕ) (h : soundImage kind top s ≡
   whole = length-whole kind s (sound-length kind top s h)
 
   inside : (w : Spot) → w .entry < entries kind → w .block < blocks kind s → Within kind w s
-  inside w e b = record { entry-within = e; block-fits = omega (arith, few, most-fits kind); block-inside = rw (← whole) (block-inside kind (w .block) (blocks kind s) b) }
+  inside w e b = record {
+    entry-within = e;
+    block-fits = omega (arith, few, most-fits kind);
+    block-inside = rw (← whole) (block-inside kind (w .block) (blocks kind s) b);
+  }
 
   module _ (f : File) (r : ℕ) where
-    own : leb (entries kind) (entryOf kind s f (r / 128)) ≡ false → eqb (blockIn kind s (entryOf kind s f (r / 128)) r) 0 ≡ false → Within kind (record { entry = entryOf kind s f (r / 128); fresh = false; block = blockIn kind s (entryOf kind s f (r / 128)) r; taken = false }) s
+    own : leb (entries kind) (entryOf kind s f (r / 128)) ≡ false → eqb (blockIn kind s (entryOf kind s f (r / 128)) r) 0 ≡ false
+        → Within kind (record { entry = entryOf kind s f (r / 128); fresh = false; block = blockIn kind s (entryOf kind s f (r / 128)) r; taken = false }) s
     unfolding blockOf
     own q z = inside _ (leb-false _ _ q) (block-within kind top s f r (eqb-false _ _ z) h .1)
 
-    found : (leb (entries kind) (entryOf kind s f (r / 128)) and leb (entries kind) (freeEntry kind s)) ≡ false → (eqb (blockIn kind s (entryOf kind s f (r / 128)) r) 0 and leb (blocks kind s) (freeBlock kind s)) ≡ false → Within kind (spotAt kind s (entryOf kind s f (r / 128)) r) s
+    found : (leb (entries kind) (entryOf kind s f (r / 128)) and leb (entries kind) (freeEntry kind s)) ≡ false
+        → (eqb (blockIn kind s (entryOf kind s f (r / 128)) r) 0 and leb (blocks kind s) (freeBlock kind s)) ≡ false
+        → Within kind (spotAt kind s (entryOf kind s f (r / 128)) r) s
     unfolding spotAt _if_else_ _and_
     found a b =
         ⊎-elim
@@ -63,7 +70,8 @@ module _ (kind : Kind) (top : ℕ) (s : List ℕ) (h : soundImage kind top s ≡
         (either (leb (entries kind) (entryOf kind s f (r / 128))))
 
     -- passing the rows for want of room
-    pub room-within : (w : Spot) (e c : ℕ) → e ≡ entryOf kind s f (r / 128) → w ≡ spotAt kind s e r → c ≡ firstOf (rowsRoom kind s e r) → c ≡ 0 → Within kind w s
+    pub room-within : (w : Spot) (e c : ℕ) → e ≡ entryOf kind s f (r / 128) → w ≡ spotAt kind s e r → c ≡ firstOf (rowsRoom kind s e r) → c ≡ 0
+        → Within kind w s
     unfolding rowsRoom
     room-within w e c he hw hc z =
         let rows : firstOf (rowsRoom kind s (entryOf kind s f (r / 128)) r) ≡ 0 = ap (λ (d : ℕ). firstOf (rowsRoom kind s d r)) (sym he) ∙ sym hc ∙ z in
@@ -71,7 +79,8 @@ module _ (kind : Kind) (top : ℕ) (s : List ℕ) (h : soundImage kind top s ≡
         rw spot (found (row-off 5 _ _ (λ y. omega arith) rows) (row-off 2 _ _ (λ y. omega arith) (row-rest 5 _ _ (λ y. omega arith) rows)))
 
     -- passing the rows for a record that is to be there
-    pub there-within : (w : Spot) (e c : ℕ) → e ≡ entryOf kind s f (r / 128) → w ≡ spotAt kind s e r → c ≡ firstOf (rowsThere kind s e r) → c ≡ 0 → Within kind w s
+    pub there-within : (w : Spot) (e c : ℕ) → e ≡ entryOf kind s f (r / 128) → w ≡ spotAt kind s e r → c ≡ firstOf (rowsThere kind s e r) → c ≡ 0
+        → Within kind w s
     unfolding rowsThere spotAt _if_else_
     there-within w e c he hw hc z =
         let rows : firstOf (rowsThere kind s (entryOf kind s f (r / 128)) r) ≡ 0 = ap (λ (d : ℕ). firstOf (rowsThere kind s d r)) (sym he) ∙ sym hc ∙ z in
@@ -83,7 +92,8 @@ module _ (kind : Kind) (top : ℕ) (s : List ℕ) (h : soundImage kind top s ≡
 -- ---- a record that is read
 
 -- a record that passes the rows for one that is to be there: its block lies in the image
-pub there-room : (kind : Kind) (s : List ℕ) (f : File) (r e c k : ℕ) → soundImage kind highest s ≡ true → e ≡ entryOf kind s f (r / 128) → c ≡ firstOf (rowsThere kind s e r) → c ≡ 0 → k ≡ blockIn kind s e r → blockSize kind * k + blockSize kind ≤ length s
+pub there-room : (kind : Kind) (s : List ℕ) (f : File) (r e c k : ℕ) → soundImage kind highest s ≡ true → e ≡ entryOf kind s f (r / 128)
+    → c ≡ firstOf (rowsThere kind s e r) → c ≡ 0 → k ≡ blockIn kind s e r → blockSize kind * k + blockSize kind ≤ length s
 unfolding rowsThere blockOf
 there-room kind s f r e c k h he hc z hk =
     let rows : firstOf (rowsThere kind s (entryOf kind s f (r / 128)) r) ≡ 0 = ap (λ (d : ℕ). firstOf (rowsThere kind s d r)) (sym he) ∙ sym hc ∙ z in
@@ -93,7 +103,8 @@ there-room kind s f r e c k h he hc z hk =
     rw (← length-whole kind s (sound-length kind highest s h), q) (block-inside kind (blockOf kind s f r) (blocks kind s) b)
 
 -- the same of one that passes the rows of 33
-pub read-room : (kind : Kind) (o : ℕ) (s : List ℕ) (f : File) (r e c k : ℕ) → soundImage kind highest s ≡ true → e ≡ entryOf kind s f (r / 128) → c ≡ firstOf (rows33 kind o e r s) → c ≡ 0 → k ≡ blockIn kind s e r → blockSize kind * k + blockSize kind ≤ length s
+pub read-room : (kind : Kind) (o : ℕ) (s : List ℕ) (f : File) (r e c k : ℕ) → soundImage kind highest s ≡ true → e ≡ entryOf kind s f (r / 128)
+    → c ≡ firstOf (rows33 kind o e r s) → c ≡ 0 → k ≡ blockIn kind s e r → blockSize kind * k + blockSize kind ≤ length s
 unfolding rows33
 read-room kind o s f r e c k h he hc z hk =
     there-room kind s f r e _ k h he refl (row-rest 6 _ _ (λ y. omega arith) (row-rest 10 _ _ (λ y. omega arith) (sym hc ∙ z))) hk

@@ -89,7 +89,8 @@ module _ (l : LockList) (p : ℕ) (f : File) (r n : ℕ) where
     unfolding isOthers lockedByOther
     first-ends g h =
         let q : i ≡ 64 = omega arith in
-        let none : any (isOthers l p f r) first ≡ false = any-never (isOthers l p f r) first (λ k m. ap (λ (j : ℕ). any (isOthersLock l p f (r + k)) j) (sym q) ∙ c .none k m) in
+        let none : any (isOthers l p f r) first ≡ false = any-never (isOthers l p f r) first
+        (λ k m. ap (λ (j : ℕ). any (isOthersLock l p f (r + k)) j) (sym q) ∙ c .none k m) in
         ⊎-elim
         (λ (m : first ≡ n). lowest-ends (isOthers l p f r) n first none (omega arith) (omega arith))
         (λ (m : first ≡ n → ⊥). let w = c .within in lowest-stops (isOthers l p f r) n first (omega arith) none (c .hit (omega arith)))
@@ -130,7 +131,8 @@ module _ (l : LockList) (p : ℕ) (f : File) (r n : ℕ) where
       pub marked-not : t ≡ false → Marked l p f r n marks (i + 1)
       marked-not y = same (fails l (isOwnLock l p f) (own-not l p f) r n i t e y)
 
-      pub marked-more : t ≡ true → n ≤ 16 → r ≤ itemAt l i .number → itemAt l i .number - r < n → Marked l p f r n (set marks (itemAt l i .number - r) true) (i + 1)
+      pub marked-more : t ≡ true → n ≤ 16 → r ≤ itemAt l i .number → itemAt l i .number - r < n
+          → Marked l p f r n (set marks (itemAt l i .number - r) true) (i + 1)
       marked-more y few g h =
           let j = itemAt l i .number - r in
           let w : j < length marks = omega (arith, c .long) in

@@ -64,11 +64,13 @@ several-stays kind n p i (suc c) b g h z l =
 pub data Steps (kind : Kind) (n p : ℕ) (b : Buffers) : ℕ → Run → Type 0 where
   begun : Steps kind n p b 0 (run 0 0 b)
   done : (i : ℕ) (b′ : Buffers) → Steps kind n p b i (run 0 i b′) → codeAt kind n p i b′ ≡ 0 → Steps kind n p b (suc i) (run 0 (suc i) (leftAt kind n p i b′))
-  stopped : (i : ℕ) (b′ : Buffers) → Steps kind n p b i (run 0 i b′) → (codeAt kind n p i b′ ≡ 0 → ⊥) → Steps kind n p b (suc i) (run (codeAt kind n p i b′) i b′)
+  stopped : (i : ℕ) (b′ : Buffers) → Steps kind n p b i (run 0 i b′) → (codeAt kind n p i b′ ≡ 0 → ⊥)
+      → Steps kind n p b (suc i) (run (codeAt kind n p i b′) i b′)
   idle : (i : ℕ) (g : Run) → Steps kind n p b i g → (g .code ≡ 0 → ⊥) → Steps kind n p b (suc i) g
 
 module _ (kind : Kind) (n p : ℕ) (b : Buffers) where
-  turn : (i : ℕ) (g : Run) → Steps kind n p b i g → (g .code ≡ 0 → g .done ≡ i) → (Steps kind n p b (suc i) (turnAt kind n p i g)) × (turnAt kind n p i g .code ≡ 0 → turnAt kind n p i g .done ≡ suc i)
+  turn : (i : ℕ) (g : Run) → Steps kind n p b i g → (g .code ≡ 0 → g .done ≡ i) → (Steps kind n p b (suc i) (turnAt kind n p i g))
+      × (turnAt kind n p i g .code ≡ 0 → turnAt kind n p i g .done ≡ suc i)
   unfolding turnAt goesOn _if_else_
   turn i g w m =
       ⊎-elim
@@ -118,13 +120,15 @@ module _ (kind : Kind) (n p : ℕ) (b : Buffers) where
   code-of c g (stopped i b′ w y) z = refl
   code-of c g (idle i x w y) z = code-of i x w z
 
-  pub refusal : (c : ℕ) → (several kind n p c b .code ≡ 0 → ⊥) → several kind n p c b .code ≡ codeAt kind n p (several kind n p c b .done) (several kind n p c b .left)
+  pub refusal : (c : ℕ) → (several kind n p c b .code ≡ 0 → ⊥)
+      → several kind n p c b .code ≡ codeAt kind n p (several kind n p c b .done) (several kind n p c b .left)
   refusal c z = code-of c (several kind n p c b) (steps c) z
 
   pub code-below : (c : ℕ) → several kind n p c b .code < 4096
   code-below c =
       ⊎-elim (λ (z : several kind n p c b .code ≡ 0). omega arith)
-      (λ (z : several kind n p c b .code ≡ 0 → ⊥). let e = refusal c z in let k = call-below kind n p 1 (single (several kind n p c b .done) (several kind n p c b .left)) in omega arith)
+      (λ (z : several kind n p c b .code ≡ 0 → ⊥). let e = refusal c z in
+      let k = call-below kind n p 1 (single (several kind n p c b .done) (several kind n p c b .left)) in omega arith)
       (equal? (several kind n p c b .code) 0)
 
   -- fewer than count are done where one is refused
@@ -159,7 +163,8 @@ module _ (g : Run) where
 
 -- the run is stopped at the record at distance i, or all went well
 module _ (kind : Kind) (n p : ℕ) (b b′ : Buffers) where
-  pub stops-told : (i c : ℕ) → several kind n p i b ≡ run 0 i b′ → (codeAt kind n p i b′ ≡ 0 → ⊥) → i < c → told (several kind n p c b) ≡ outcome (codeAt kind n p i b′ + 4096 * i) b′
+  pub stops-told : (i c : ℕ) → several kind n p i b ≡ run 0 i b′ → (codeAt kind n p i b′ ≡ 0 → ⊥) → i < c
+      → told (several kind n p c b) ≡ outcome (codeAt kind n p i b′ + 4096 * i) b′
   unfolding told _if_else_
   stops-told i c h z l =
       let g = several-stays kind n p (suc i) c b (run (codeAt kind n p i b′) i b′) (several-stops kind n p i b b′ h z) z (omega arith) in
@@ -223,8 +228,11 @@ module _ (kind : Kind) (n p c : ℕ) (b : Buffers) where
       ⊎-elim
       (λ (h : servesRun n ≡ true).
       ⊎-elim
-      (λ (z : firstOf (rowsAll kind n p c b) ≡ 0). rw (run-told kind n p c b h z, singly-told kind n p c b h z) (told-code (several kind n p c b) (code-below kind n p b c)))
-      (λ (z : firstOf (rowsAll kind n p c b) ≡ 0 → ⊥). rw (run-refused kind n p c b h z, singly-refused kind n p c b h z) (let k = all-below kind n p c b in omega arith))
+      (λ (z : firstOf (rowsAll kind n p c b) ≡ 0). rw (run-told kind n p c b h z, singly-told kind n p c b h z)
+      (told-code (several kind n p c b) (code-below kind n p b c)))
+      (λ (z : firstOf (rowsAll kind n p c b) ≡ 0 → ⊥). rw (run-refused kind n p c b h z, singly-refused kind n p c b h z)
+      (let k = all-below kind n p c b in omega arith))
       (equal? (firstOf (rowsAll kind n p c b)) 0))
-      (λ (h : servesRun n ≡ false). rw (run-plain kind n p c b h, singly-plain kind n p c b h) (let k = call-below kind n p c b in let e = answer-is kind n p c b in omega arith))
+      (λ (h : servesRun n ≡ false). rw (run-plain kind n p c b h, singly-plain kind n p c b h)
+      (let k = call-below kind n p c b in let e = answer-is kind n p c b in omega arith))
       (either (servesRun n))

@@ -136,7 +136,8 @@ end-of k isRead a b z = ltb-false highest _ (row-off 6 _ _ (λ y. omega arith) (
 end-of k isWrite a b z = ltb-false highest _ (row-off 6 _ _ (λ y. omega arith) (row-rest 1023 _ _ (λ y. omega arith) (row-rest 10 _ _ (λ y. omega arith) z)))
 end-of k isZeros a b z = ltb-false highest _ (row-off 6 _ _ (λ y. omega arith) (row-rest 1023 _ _ (λ y. omega arith) (row-rest 10 _ _ (λ y. omega arith) z)))
 
-pub done-within : (kind : Kind) (n p i : ℕ) (b : Buffers) → Runs (chosen n) → length (b .fcb) ≡ 36 → firstOf (rowsCall kind n p 1 (single i b)) ≡ 0 → recordOf (b .fcb) + i ≤ highest
+pub done-within : (kind : Kind) (n p i : ℕ) (b : Buffers) → Runs (chosen n) → length (b .fcb) ≡ 36 → firstOf (rowsCall kind n p 1 (single i b)) ≡ 0
+    → recordOf (b .fcb) + i ≤ highest
 unfolding rowsCall askedBy
 done-within kind n p i b runs long z =
     let own = both-zero (rowsAll kind n p 1 (single i b)) _ (nonzero-all kind n p 1 (single i b)) z .1 in
@@ -147,7 +148,8 @@ done-within kind n p i b runs long z =
 
 -- ---- the general table lets it pass
 
-module _ (kind : Kind) (n p i : ℕ) (b : Buffers) (ok : Ready kind b) (known : isUnknown (chosen n) ≡ false) (few : p < 16) (drive : badDrive n (b .fcb) ≡ false) (fits : 128 * i + 128 ≤ length (b .dma)) where
+module _ (kind : Kind) (n p i : ℕ) (b : Buffers) (ok : Ready kind b) (known : isUnknown (chosen n) ≡ false) (few : p < 16) (drive : badDrive n (b .fcb) ≡ false)
+    (fits : 128 * i + 128 ≤ length (b .dma)) where
   drives : badDrive n (fcbAt i (b .fcb)) ≡ false
   unfolding badDrive
   drives = ap (λ (x : ℕ). ltb 1 x and not (eqb n 46) and not (eqb n 143)) (fcb-low i (b .fcb) (ok .fcb-long) 0 (omega arith)) ∙ drive
@@ -184,7 +186,8 @@ module _ (kind : Kind) (n p i : ℕ) (b : Buffers) (ok : Ready kind b) (known : 
     unfolding rowsCall
     code-single = first-then (rowsAll kind n p 1 (single i b)) _ passes (nonzero-all kind n p 1 (single i b)) ∙ ap firstOf rows-at
 
-    pub effect-single : firstOf (rowsOf (chosen n) (askedAt kind p i b) b) ≡ 0 → call kind n p 1 (single i b) ≡ effectOf (chosen n) (askedAt kind p i b) (single i b)
+    pub effect-single : firstOf (rowsOf (chosen n) (askedAt kind p i b) b) ≡ 0
+        → call kind n p 1 (single i b) ≡ effectOf (chosen n) (askedAt kind p i b) (single i b)
     unfolding served
     effect-single z =
         call-served kind n p 1 (single i b) passes ∙ accepts _ _ _ (ap firstOf rows-at ∙ z)

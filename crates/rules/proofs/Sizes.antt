@@ -87,16 +87,20 @@ unfolding recordAt blockSize blockRecords
 record-rest Small a r q h g = let z : r % 8 ≡ q % 8 = omega arith in omega arith
 record-rest Large a r q h g = let z : r % 16 ≡ q % 16 = omega arith in omega arith
 
-over : (kind : Kind) (a b r q : ℕ) → recordAt kind a r ≤ recordAt kind b q → (recordAt kind a r ≡ recordAt kind b q → ⊥) → recordAt kind a r + 128 ≤ recordAt kind b q
+over : (kind : Kind) (a b r q : ℕ) → recordAt kind a r ≤ recordAt kind b q → (recordAt kind a r ≡ recordAt kind b q → ⊥)
+    → recordAt kind a r + 128 ≤ recordAt kind b q
 unfolding recordAt blockSize blockRecords
 over Small a b r q h n = omega arith
 over Large a b r q h n = omega arith
 
-pub record-apart : (kind : Kind) (a b r q : ℕ) → (recordAt kind a r ≡ recordAt kind b q → ⊥) → (recordAt kind a r + 128 ≤ recordAt kind b q) ⊎ (recordAt kind b q + 128 ≤ recordAt kind a r)
+pub record-apart : (kind : Kind) (a b r q : ℕ) → (recordAt kind a r ≡ recordAt kind b q → ⊥) → (recordAt kind a r + 128 ≤ recordAt kind b q)
+    ⊎ (recordAt kind b q + 128 ≤ recordAt kind a r)
 record-apart kind a b r q n =
     ⊎-elim
     (λ (x : leb (recordAt kind b q) (recordAt kind a r) ≡ true). inr (over kind b a q r (leb-true _ _ x) (λ e. n (sym e))))
-    (λ (x : leb (recordAt kind b q) (recordAt kind a r) ≡ false). inl (over kind a b r q (let y = leb-false (recordAt kind b q) (recordAt kind a r) x in omega arith) n)) (either (leb (recordAt kind b q) (recordAt kind a r)))
+    (λ (x : leb (recordAt kind b q) (recordAt kind a r) ≡ false). inl
+    (over kind a b r q (let y = leb-false (recordAt kind b q) (recordAt kind a r) x in omega arith) n))
+    (either (leb (recordAt kind b q) (recordAt kind a r)))
 
 -- a data block lies past the directory, a block below n in n blocks
 pub record-past : (kind : Kind) (b r : ℕ) → 2 ≤ b → 32 * entries kind ≤ recordAt kind b r
@@ -153,7 +157,8 @@ unfolding mapNumber numberAt width
 map-large s e k = omega arith
 
 -- of two entries with the same 32 bytes
-pub map-bytes : (kind : Kind) (s t : List ℕ) (e d k : ℕ) → k < numbers kind → ((i : ℕ) → i < 32 → byte t (32 * d + i) ≡ byte s (32 * e + i)) → mapNumber kind t d k ≡ mapNumber kind s e k
+pub map-bytes : (kind : Kind) (s t : List ℕ) (e d k : ℕ) → k < numbers kind → ((i : ℕ) → i < 32 → byte t (32 * d + i) ≡ byte s (32 * e + i))
+    → mapNumber kind t d k ≡ mapNumber kind s e k
 unfolding numbers
 map-bytes Small s t e d k l h = rw (← map-small t d k, ← map-small s e k) (h (16 + k) (omega arith))
 map-bytes Large s t e d k l h =

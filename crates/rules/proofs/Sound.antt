@@ -126,7 +126,8 @@ module _ (kind : Kind) (top : ℕ) (s : List ℕ) (h : soundImage kind top s ≡
   unfolding soundImage
   sound-length = and-fst _ _ h
 
-  entry-of : (e : ℕ) → e < entries kind → isEmpty s e ≡ false → (goodFields top s e and all (inRange kind s e) (numbers kind) and all (isFirst kind s e) (numbers kind) and not (isRepeat s e)) ≡ true
+  entry-of : (e : ℕ) → e < entries kind → isEmpty s e ≡ false
+      → (goodFields top s e and all (inRange kind s e) (numbers kind) and all (isFirst kind s e) (numbers kind) and not (isRepeat s e)) ≡ true
   unfolding soundImage soundDirectory goodEntry
   entry-of e l u = or-so _ _ (all-at (goodEntry kind top s) (entries kind) e (and-fst _ _ (and-snd _ _ h)) l) u
 
@@ -220,11 +221,21 @@ module _ (kind : Kind) (top : ℕ) (s : List ℕ) (g : SoundImage kind top s) wh
       (λ (y : namesBlock kind s (mapNumber kind s e k) d ≡ true).
       let w = any-some (holdsNumber kind s (mapNumber kind s e k) d) (numbers kind) (and-snd _ _ y) in
       let q = eqb-true _ _ (w .2) in
-      let v : Names kind s d (w .0) = record { entry-there = omega arith; place-there = w .1; entry-used = not-true _ (and-fst _ _ y); some = λ (x : mapNumber kind s d (w .0) ≡ 0). n .some (sym q ∙ x) } in
+      let v : Names kind s d (w .0) = record {
+        entry-there = omega arith;
+        place-there = w .1;
+        entry-used = not-true _ (and-fst _ _ y);
+        some = λ (x : mapNumber kind s d (w .0) ≡ 0). n .some (sym q ∙ x);
+      } in
       let o : d ≡ e = g .maps .once d (w .0) e k v n q .0 in absurd (omega arith))
       (λ (y : namesBlock kind s (mapNumber kind s e k) d ≡ false). y) (either (namesBlock kind s (mapNumber kind s e k) d))))
       (any-never (holdsNumber kind s (mapNumber kind s e k) e) k (λ j i. ne-eqb _ _ (λ (q : mapNumber kind s e j ≡ mapNumber kind s e k).
-      let v : Names kind s e j = record { entry-there = l; place-there = omega arith; entry-used = u; some = λ (x : mapNumber kind s e j ≡ 0). n .some (sym q ∙ x) } in
+      let v : Names kind s e j = record {
+        entry-there = l;
+        place-there = omega arith;
+        entry-used = u;
+        some = λ (x : mapNumber kind s e j ≡ 0). n .some (sym q ∙ x);
+      } in
       let o : j ≡ k = g .maps .once e j e k v n q .1 in absurd (omega arith)))))))
 
   repeat-so : (e : ℕ) → e < entries kind → isEmpty s e ≡ false → isRepeat s e ≡ false
@@ -266,7 +277,8 @@ module _ (kind : Kind) (top : ℕ) (s : List ℕ) (f : File) (r : ℕ) (some : b
   extent-there : leb (entries kind) (entryOf kind s f (r / 128)) ≡ false
   unfolding blockOf blockIn _if_else_
   extent-there =
-      ⊎-elim (λ (q : leb (entries kind) (entryOf kind s f (r / 128)) ≡ true). absurd (some (rw q))) (λ q. q) (either (leb (entries kind) (entryOf kind s f (r / 128))))
+      ⊎-elim (λ (q : leb (entries kind) (entryOf kind s f (r / 128)) ≡ true). absurd (some (rw q))) (λ q. q)
+      (either (leb (entries kind) (entryOf kind s f (r / 128))))
 
   pub block-is : blockOf kind s f r ≡ mapNumber kind s (entryOf kind s f (r / 128)) (mapPlace kind r)
   unfolding blockOf blockIn _if_else_

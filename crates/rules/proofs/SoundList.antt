@@ -131,7 +131,8 @@ module _ (kind : Kind) (l : LockList) (s : List ℕ) (h : soundLocks kind highes
     block = eqb-false _ _ (not-true _ (and-snd _ _ (and-snd _ _ g)));
   }
 
-  used-of : (i : ℕ) → eqb (itemAt l i .kind) 0 ≡ false → (ltb i (l .capacity) and leb (itemAt l i .kind) 2 and goodItem kind highest s l (itemAt l i)) ≡ true → Used kind s l i
+  used-of : (i : ℕ) → eqb (itemAt l i .kind) 0 ≡ false → (ltb i (l .capacity) and leb (itemAt l i .kind) 2 and goodItem kind highest s l (itemAt l i)) ≡ true
+      → Used kind s l i
   unfolding goodItem isPlain _if_else_
   used-of i z g =
       let it = itemAt l i in
@@ -179,7 +180,8 @@ module _ (kind : Kind) (l : LockList) (s : List ℕ) (h : soundLocks kind highes
       fails-too (clashAt l j i) (clashAt l i j) (clash-at-sym l i j) (before-of j i k v)) (either (ltb j i))
     where
       less : (a b : ℕ) → a ≤ b → (a ≡ b → ⊥) → a < b
-      less a b w n = ⊎-elim (λ (q : ltb a b ≡ true). ltb-true _ _ q) (λ (q : ltb a b ≡ false). let v = ltb-false a b q in absurd (n (omega arith))) (either (ltb a b))
+      less a b w n = ⊎-elim (λ (q : ltb a b ≡ true). ltb-true _ _ q) (λ (q : ltb a b ≡ false). let v = ltb-false a b q in absurd (n (omega arith)))
+          (either (ltb a b))
 
   pub locks-of : SoundLocks kind l s
   locks-of = record {
@@ -192,7 +194,8 @@ module _ (kind : Kind) (l : LockList) (s : List ℕ) (h : soundLocks kind highes
 -- ---- and back
 
 -- two opens of one name by one process stand at one place
-pub one-open : (kind : Kind) (l : LockList) (s : List ℕ) (i j p : ℕ) (name : List ℕ) → SoundLocks kind l s → i < 64 → j < 64 → opensName p name (itemAt l i) ≡ true → opensName p name (itemAt l j) ≡ true → i ≡ j
+pub one-open : (kind : Kind) (l : LockList) (s : List ℕ) (i j p : ℕ) (name : List ℕ) → SoundLocks kind l s → i < 64 → j < 64
+    → opensName p name (itemAt l i) ≡ true → opensName p name (itemAt l j) ≡ true → i ≡ j
 unfolding clashAt sameFile
 one-open kind l s i j p name g m k a b =
     let x = open-is p name (itemAt l i) a in
@@ -225,11 +228,13 @@ module _ (kind : Kind) (l : LockList) (s : List ℕ) (g : SoundLocks kind l s) w
       let h₂ = and-snd _ _ h₁ in
       ⊎-elim
       (λ (o : GoodOpen kind s l it).
-      rw (o .kind-one) (and-both _ _ refl (and-both _ _ (and-fst _ _ h) (and-both _ _ (and-fst _ _ h₁) (and-both _ _ (and-fst _ _ h₂) (and-both _ _ (and-snd _ _ h₂)
+      rw (o .kind-one) (and-both _ _ refl (and-both _ _ (and-fst _ _ h)
+      (and-both _ _ (and-fst _ _ h₁) (and-both _ _ (and-fst _ _ h₂) (and-both _ _ (and-snd _ _ h₂)
       (and-both _ _ (le-leb _ _ (o .mode-fits)) (and-both _ _ (eq-eqb _ _ (o .number-zero)) (not-of-false _ (lt-leb _ _ (o .there))))))))))
       )
       (λ (o : GoodLock kind s l it).
-      rw (o .kind-two) (and-both _ _ refl (and-both _ _ (and-fst _ _ h) (and-both _ _ (and-fst _ _ h₁) (and-both _ _ (and-fst _ _ h₂) (and-both _ _ (and-snd _ _ h₂)
+      rw (o .kind-two) (and-both _ _ refl (and-both _ _ (and-fst _ _ h)
+      (and-both _ _ (and-fst _ _ h₁) (and-both _ _ (and-fst _ _ h₂) (and-both _ _ (and-snd _ _ h₂)
       (and-both _ _ (eq-eqb _ _ (o .mode-one)) (and-both _ _ (holder-so (it .process) (fileOf l it) (o .holder)) (not-of-false _ (ne-eqb _ _ (o .block)))))))))
       )) c
 
@@ -264,8 +269,11 @@ module _ (kind : Kind) (l : LockList) (s : List ℕ) (g : SoundLocks kind l s) w
       let k = v .kind-zero in
       (omega arith, omega arith))
       (λ (v : Used kind s l i).
-      let n : itemAt l i .number ≤ 262143 = leb-true _ _ (and-snd _ _ (and-snd _ _ (and-snd _ _ (v .plain)))) in
-      (⊎-elim (λ (o : GoodOpen kind s l (itemAt l i)). let w = o .kind-one in omega arith) (λ (o : GoodLock kind s l (itemAt l i)). let w = o .kind-two in omega arith) (v .good), omega arith))
+      let n : itemAt l i .number ≤ 262143 = leb-true _ _ (and-snd _ _ (and-snd _ _ (and-snd _ _ (v .plain)))) in (
+        ⊎-elim (λ (o : GoodOpen kind s l (itemAt l i)). let w = o .kind-one in omega arith)
+            (λ (o : GoodLock kind s l (itemAt l i)). let w = o .kind-two in omega arith) (v .good),
+        omega arith,
+      ))
       (g .place i m)
 
   pub in-range : Shape l → ListInRange l

@@ -28,7 +28,8 @@ unfolding rowsInside rowsAll
 nonzero-all kind n p c b = search nonzeros depth 20 fits 20000
 
 pub nonzero-of : (k : Chosen) (a : Asked) (b : Buffers) → noneZero (rowsOf k a b) ≡ true
-unfolding rowsOf rowsNew rows15 rows16 rows19 rows22 rows23 rows33 rows34 rows41 rows42 rows43 rowsThere rowsMay rowsRoom rowsDiffer rowsRun rowsLacking rowsTake
+unfolding rowsOf rowsNew rows15 rows16 rows19 rows22 rows23 rows33 rows34 rows41 rows42 rows43 rowsThere rowsMay rowsRoom rowsDiffer rowsRun rowsLacking
+    rowsTake
 nonzero-of (Call Open) a b = search nonzeros depth 20 fits 20000
 nonzero-of (Call Close) a b = search nonzeros depth 20 fits 20000
 nonzero-of (Call Delete) a b = search nonzeros depth 20 fits 20000
@@ -55,7 +56,8 @@ unfolding rowsInside rowsAll
 below-all kind n p c b = search belows depth 20 fits 20000
 
 below-of : (k : Chosen) (a : Asked) (b : Buffers) → codesBelow 4096 (rowsOf k a b) ≡ true
-unfolding rowsOf rowsNew rows15 rows16 rows19 rows22 rows23 rows33 rows34 rows41 rows42 rows43 rowsThere rowsMay rowsRoom rowsDiffer rowsRun rowsLacking rowsTake
+unfolding rowsOf rowsNew rows15 rows16 rows19 rows22 rows23 rows33 rows34 rows41 rows42 rows43 rowsThere rowsMay rowsRoom rowsDiffer rowsRun rowsLacking
+    rowsTake
 below-of (Call Open) a b = search belows depth 20 fits 20000
 below-of (Call Close) a b = search belows depth 20 fits 20000
 below-of (Call Delete) a b = search belows depth 20 fits 20000
@@ -79,7 +81,8 @@ of-below k a b = first-below 4096 _ (omega arith) (below-of k a b)
 
 pub call-below : (kind : Kind) (n p c : ℕ) (b : Buffers) → firstOf (rowsCall kind n p c b) < 4096
 unfolding rowsCall
-call-below kind n p c b = first-below 4096 _ (omega arith) (below-append 4096 (rowsAll kind n p c b) _ (below-all kind n p c b) (below-of (chosen n) (asked kind p c b) b))
+call-below kind n p c b = first-below 4096 _ (omega arith) (below-append 4096 (rowsAll kind n p c b) _ (below-all kind n p c b)
+    (below-of (chosen n) (asked kind p c b) b))
 
 -- ---- a table and an effect
 
@@ -110,7 +113,8 @@ module _ (kind : Kind) (n p c : ℕ) (b : Buffers) where
   unfolding call
   refused h = refuses _ b _ (first-real h)
 
-  pub refused-first : (before after : List Row) (code : ℕ) → rowsCall kind n p c b ≡ before ++ (code when true ∷ after) → anyRow before ≡ false → anyRow (rowsCall kind n p c b) ≡ true → call kind n p c b ≡ outcome code b
+  pub refused-first : (before after : List Row) (code : ℕ) → rowsCall kind n p c b ≡ before ++ (code when true ∷ after) → anyRow before ≡ false
+      → anyRow (rowsCall kind n p c b) ≡ true → call kind n p c b ≡ outcome code b
   refused-first before after code e h k =
       refused k ∙ ap (λ (a : ℕ). outcome a b) (ap firstOf e ∙ first-applies before after code h)
 
@@ -178,5 +182,6 @@ did-is o a fcb dma list image d = λ i. record {
 }
 
 module _ (o : Outcome) (a a′ : ℕ) (fcb fcb′ dma dma′ list list′ image image′ : List ℕ) where
-  pub did-one : Did o a fcb dma list image → Did o a′ fcb′ dma′ list′ image′ → outcome a (buffers fcb dma list image) ≡ outcome a′ (buffers fcb′ dma′ list′ image′)
+  pub did-one : Did o a fcb dma list image → Did o a′ fcb′ dma′ list′ image′
+      → outcome a (buffers fcb dma list image) ≡ outcome a′ (buffers fcb′ dma′ list′ image′)
   did-one d e = did-is o a fcb dma list image d ∙ sym (did-is o a′ fcb′ dma′ list′ image′ e)

@@ -72,4 +72,5 @@ module _ (own kind : Kind) (other : own ≡ kind → ⊥) (s : List ℕ) (sound 
         (either (badNumbers n p c (b .fcb) (b .dma) (b .list)))
 
     pub other-call : (callRun kind n p c b ≡ outcome (255 ∕ 13) b) ⊎ (callRun kind n p c b ≡ outcome (255 ∕ 1) b)
-    other-call = ⊎-elim (λ h. inl (barred kind n p c b (255 ∕ 13) (λ q. omega arith) h)) (λ h. inr (barred kind n p c b (255 ∕ 1) (λ q. omega arith) h)) rows-told
+    other-call = ⊎-elim (λ h. inl (barred kind n p c b (255 ∕ 13) (λ q. omega arith) h))
+        (λ h. inr (barred kind n p c b (255 ∕ 1) (λ q. omega arith) h)) rows-told

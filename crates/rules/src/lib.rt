@@ -1,6 +1,7 @@
 // The values that document 01 names, as the code holds them.
 pub mod answer;
 pub mod bytes;
+pub mod code;
 pub mod file;
 pub mod item;
 pub mod kind;

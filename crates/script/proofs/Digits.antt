@@ -154,7 +154,8 @@ module _ (n rest at : ℕ) (out : List ℕ) (s : Spelt n rest at out) where
   pub spelt-room : n < 18446744073709551616 → 9 < rest → 1 ≤ at
   spelt-room h g =
       let a : length (ahead rest) ≡ length (digits (rest / 10)) = ap length (ahead-more rest g) in
-      let b : length (digits (rest / 10)) ≡ length (ahead (rest / 10)) + 1 = ap length (digits-last (rest / 10)) ∙ length-append (ahead (rest / 10)) ((48 + rest / 10 % 10) ∷ []) in
+      let b : length (digits (rest / 10)) ≡ length (ahead (rest / 10)) + 1 = ap length (digits-last (rest / 10))
+      ∙ length-append (ahead (rest / 10)) ((48 + rest / 10 % 10) ∷ []) in
       let d : length (digits n) ≡ length (ahead rest) + (length out - at) = ap length (s .so) ∙ length-append (ahead rest) (drop at out) ∙ rw length-drop in
       let k = digits-short n h in
       let l = s .long in
@@ -167,7 +168,8 @@ module _ (n rest at : ℕ) (out : List ℕ) (s : Spelt n rest at out) where
       let w = s .within in
       let z : suc (at - 1) ≡ at = omega arith in
       let p : drop (at - 1) (set out (at - 1) d) ≡ d ∷ drop at out = put-digit out (at - 1) d (omega arith) ∙ rw z in
-      let q : (ahead (rest / 10) ++ (d ∷ [])) ++ drop at out ≡ ahead (rest / 10) ++ (d ∷ drop at out) = append-assoc (ahead (rest / 10)) (d ∷ []) (drop at out) in
+      let q : (ahead (rest / 10) ++ (d ∷ [])) ++ drop at out ≡ ahead (rest / 10) ++ (d ∷ drop at out) = append-assoc (ahead (rest / 10)) (d ∷ [])
+      (drop at out) in
       record {
         long = length-set out (at - 1) d ∙ l;
         within = omega arith;

@@ -1,3 +1,4 @@
+-- The proofs of `script`.
 pub mod Digits
 pub mod Lines
 pub mod Parts

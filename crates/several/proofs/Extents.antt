@@ -20,7 +20,8 @@ known-more kind s f r i e h l =
     record { extent = λ z. h ∙ ap (λ (x : ℕ). entryOf kind s f (x / 128)) (sym q); within = l }
 
 -- the next is in the same extent
-pub known-still : (kind : Kind) (s : List ℕ) (f : File) (r i e : ℕ) → Known kind s f r i e → (i ≡ 0 → ⊥) → ((r + i) % 128 ≡ 0 → ⊥) → (e ≡ entryOf kind s f ((r + i) / 128)) × (e ≤ entries kind)
+pub known-still : (kind : Kind) (s : List ℕ) (f : File) (r i e : ℕ) → Known kind s f r i e → (i ≡ 0 → ⊥) → ((r + i) % 128 ≡ 0 → ⊥)
+    → (e ≡ entryOf kind s f ((r + i) / 128)) × (e ≤ entries kind)
 known-still kind s f r i e k n m =
     let q : (r + i - 1) / 128 ≡ (r + i) / 128 = omega arith in
     (k .extent (omega arith) ∙ ap (λ (x : ℕ). entryOf kind s f x) q, k .within)

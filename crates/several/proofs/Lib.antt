@@ -1,3 +1,4 @@
+-- The proofs of `several`.
 pub mod Extents
 pub mod ReadTurns
 pub mod WriteTurns

@@ -40,7 +40,8 @@ below-33 kind o e r s c h = rw h (first-below 4096 _ (omega arith) (search below
 
 -- ---- a turn
 
-module _ (kind : Kind) (p c : ℕ) (f : File) (o r : ℕ) (b : Buffers) (a : Asks kind 33 p c f o r b) (i : ℕ) (dma : List ℕ) (long : length dma ≡ length (b .dma)) (below : i < c) where
+module _ (kind : Kind) (p c : ℕ) (f : File) (o r : ℕ) (b : Buffers) (a : Asks kind 33 p c f o r b) (i : ℕ) (dma : List ℕ) (long : length dma ≡ length (b .dma))
+    (below : i < c) where
   abbrev s : List ℕ
   s = b .image
 
@@ -81,7 +82,8 @@ module _ (kind : Kind) (p c : ℕ) (f : File) (o r : ℕ) (b : Buffers) (a : Ask
     unfolding rowsOf askedBy
     rows-found =
         ap (λ (k : Chosen). firstOf (rowsOf k (askedAt kind p i b′) b′)) read-chosen
-        ∙ ap (λ (g : File). firstOf (rows33 kind (openOf (unpack (b .list)) p g) (entryOf kind s g ((recordOf (b .fcb) + i) / 128)) (recordOf (b .fcb) + i) s)) (sym (a .file))
+        ∙ ap (λ (g : File). firstOf (rows33 kind (openOf (unpack (b .list)) p g) (entryOf kind s g ((recordOf (b .fcb) + i) / 128)) (recordOf (b .fcb) + i) s))
+        (sym (a .file))
         ∙ ap (λ (q : ℕ). firstOf (rows33 kind (openOf (unpack (b .list)) p f) (entryOf kind s f ((q + i) / 128)) (q + i) s)) (sym (a .number))
         ∙ ap (λ (q : ℕ). firstOf (rows33 kind q (entryOf kind s f ((r + i) / 128)) (r + i) s)) (sym (a .place))
         ∙ ap (λ (q : ℕ). firstOf (rows33 kind o q (r + i) s)) (sym he)
@@ -99,7 +101,8 @@ module _ (kind : Kind) (p c : ℕ) (f : File) (o r : ℕ) (b : Buffers) (a : Ask
       code-is = code-single kind 33 p i b′ again known (a .process-fits) (a .drive) room runs ∙ rows-found ∙ sym hc
 
       -- read
-      turn-reads : several kind 33 p i b ≡ run 0 i b′ → code ≡ 0 → several kind 33 p (suc i) b ≡ run 0 (suc i) (withDma b (readAt kind o e (r + i) (128 * i) s dma))
+      turn-reads : several kind 33 p i b ≡ run 0 i b′ → code ≡ 0
+          → several kind 33 p (suc i) b ≡ run 0 (suc i) (withDma b (readAt kind o e (r + i) (128 * i) s dma))
       unfolding backAt single does33 readAt _if_else_
       turn-reads h z =
           let v = contents kind s (blockIn kind s e (r + i)) (r + i) in
@@ -115,12 +118,15 @@ module _ (kind : Kind) (p c : ℕ) (f : File) (o r : ℕ) (b : Buffers) (a : Ask
 pub reading-none : (kind : Kind) (p : ℕ) (f : File) (r : ℕ) (b : Buffers) → Reading kind p f r b 0 0 (b .dma)
 reading-none kind p f r b = record { so-far = several-none kind 33 p b; long = refl; known = known-none kind (b .image) f r }
 
-module _ (kind : Kind) (p c : ℕ) (f : File) (o r : ℕ) (b : Buffers) (a : Asks kind 33 p c f o r b) (i e₁ : ℕ) (dma : List ℕ) (w : Reading kind p f r b i e₁ dma) where
-  module _ (below : i < c) (e code : ℕ) (dma′ : List ℕ) (he : e ≡ entryOf kind (b .image) f ((r + i) / 128)) (hl : e ≤ entries kind) (hc : code ≡ firstOf (rows33 kind o e (r + i) (b .image))) (hd : dma′ ≡ readAt kind o e (r + i) (128 * i) (b .image) dma) where
+module _ (kind : Kind) (p c : ℕ) (f : File) (o r : ℕ) (b : Buffers) (a : Asks kind 33 p c f o r b) (i e₁ : ℕ) (dma : List ℕ)
+    (w : Reading kind p f r b i e₁ dma) where
+  module _ (below : i < c) (e code : ℕ) (dma′ : List ℕ) (he : e ≡ entryOf kind (b .image) f ((r + i) / 128)) (hl : e ≤ entries kind)
+      (hc : code ≡ firstOf (rows33 kind o e (r + i) (b .image))) (hd : dma′ ≡ readAt kind o e (r + i) (128 * i) (b .image) dma) where
     -- one more
     pub reading-more : code ≡ 0 → length dma′ ≡ length dma → Reading kind p f r b (i + 1) e dma′
     reading-more z n = record {
-      so-far = rw add-one (turn-reads kind p c f o r b a i dma (w .long) below e he code hc (w .so-far) z ∙ ap (λ (x : List ℕ). run 0 (suc i) (withDma b x)) (sym hd));
+      so-far = rw add-one (turn-reads kind p c f o r b a i dma (w .long) below e he code hc (w .so-far) z
+          ∙ ap (λ (x : List ℕ). run 0 (suc i) (withDma b x)) (sym hd));
       long = n ∙ w .long;
       known = known-more kind (b .image) f r i e he hl;
     }
@@ -131,7 +137,8 @@ module _ (kind : Kind) (p c : ℕ) (f : File) (o r : ℕ) (b : Buffers) (a : Ask
     reading-stops answer n ha =
         let q : dma′ ≡ dma = hd ∙ rw (ne-eqb (firstOf (rows33 kind o e (r + i) (b .image))) 0 (λ z. n (hc ∙ z))) refl in
         let k = code-is kind p c f o r b a i dma (w .long) below e he code hc in
-        let g : told (several kind 33 p c b) ≡ outcome answer (withDma b dma) = stops-told kind 33 p b (withDma b dma) i c (w .so-far) (λ z. n (sym k ∙ z)) below ∙ ap (λ (x : ℕ). outcome x (withDma b dma)) (ap (λ (x : ℕ). x + 4096 * i) k ∙ sym ha) in
+        let g : told (several kind 33 p c b) ≡ outcome answer (withDma b dma) = stops-told kind 33 p b (withDma b dma) i c (w .so-far)
+        (λ z. n (sym k ∙ z)) below ∙ ap (λ (x : ℕ). outcome x (withDma b dma)) (ap (λ (x : ℕ). x + 4096 * i) k ∙ sym ha) in
         rw q (did-as _ _ answer _ _ _ _ (sym g) (did-none answer (withDma b dma)))
 
   -- all went well
@@ -140,7 +147,8 @@ module _ (kind : Kind) (p c : ℕ) (f : File) (o r : ℕ) (b : Buffers) (a : Ask
 
 -- ---- what the call has found
 
-pub asks : (kind : Kind) (n p c : ℕ) (b : Buffers) (l : LockList) (f : File) (o r : ℕ) → l ≡ unpack (b .list) → p < 16 → c ≤ 16 → badDrive n (b .fcb) ≡ false → Ready kind b → f ≡ callerFile p l (b .fcb) → o ≡ openOf l p f → r ≡ recordOf (b .fcb) → Asks kind n p c f o r b
+pub asks : (kind : Kind) (n p c : ℕ) (b : Buffers) (l : LockList) (f : File) (o r : ℕ) → l ≡ unpack (b .list) → p < 16 → c ≤ 16 → badDrive n (b .fcb) ≡ false
+    → Ready kind b → f ≡ callerFile p l (b .fcb) → o ≡ openOf l p f → r ≡ recordOf (b .fcb) → Asks kind n p c f o r b
 asks kind n p c b l f o r hl few fits drive ready hf ho hr = record {
   ready = ready;
   drive = drive;

@@ -9,11 +9,11 @@ use native.Mathlib.Omega.{arith}
 use lib.ListN.{length, take, drop}
 use lib.Seq.{take-length}
 use lib.Dec.{eqb, leb}
-use borrow.Author.Tests.{eq-eqb, ne-eqb, eqb-false, leb-false, ltb-false}
+use borrow.Author.Tests.{eq-eqb, ne-eqb, eqb-false, leb-false}
 use Rattle.words.specs.Tests.{_and_, _or_, _if_else_, lowest}
 use Rattle.words.specs.Bytes.{part}
-use Rattle.words.specs.Tables.{Row, firstOf, anyRow, noneZero}
-use Rattle.words.proofs.Tests.{either, equal?, or-fst, or-snd, lowest-holds, lowest-least}
+use Rattle.words.specs.Tables.{Row, firstOf, noneZero}
+use Rattle.words.proofs.Tests.{either, equal?, lowest-holds, lowest-least}
 use Rattle.words.proofs.Tables.{nonzeros, zero-none, first-below, belows}
 use Rattle.words.proofs.Bytes.{part-long}
 use Rattle.rules.specs.Kinds.{most, entries}
@@ -38,7 +38,7 @@ use Rattle.rules.proofs.Passed.{Passed}
 use Rattle.rules.proofs.Ends.{did-as, did-none}
 use Rattle.rules.proofs.Singles.{Runs, isWrite, isZeros, dma-front, dma-still, askedAt, code-single, effect-single}
 use Rattle.rules.proofs.Several.{codeAt, several-none, several-more, stops-told, ends-told}
-use Rattle.soundness.proofs.Passed.{any-append, opened-so}
+use Rattle.rules.proofs.Rows.{Passes34, passes-34}
 use Rattle.soundness.proofs.Taken.{caller-long, own-there}
 use Rattle.soundness.proofs.Blocks.{only, found-below}
 use Rattle.soundness.proofs.Written.{written-entry, written-first}
@@ -58,7 +58,8 @@ module _ (kind : Kind) (i : ℕ) (dma : List ℕ) (h : 128 * i + 128 ≤ length 
       ap (λ (m : ℕ). take m (part (128 * i) 128 dma)) (sym n) ∙ take-length (part (128 * i) 128 dma)
 
   -- a record is written from the first 128 bytes alone
-  written-front : (zeros : Bool) (w : Spot) (e₀ : ℕ) (f : File) (r : ℕ) (s : List ℕ) → written kind zeros w e₀ f r (dmaAt i dma) s ≡ written kind zeros w e₀ f r (part (128 * i) 128 dma) s
+  written-front : (zeros : Bool) (w : Spot) (e₀ : ℕ) (f : File) (r : ℕ) (s : List ℕ)
+      → written kind zeros w e₀ f r (dmaAt i dma) s ≡ written kind zeros w e₀ f r (part (128 * i) 128 dma) s
   unfolding written stored
   written-front zeros w e₀ f r s = rw (dma-front i dma h, front-again) refl
 
@@ -89,35 +90,17 @@ module _ (l : LockList) (p : ℕ) (f : File) (r c i locked : ℕ) (is : locked �
 
 -- ---- no row of the table applies
 
-record Passes (kind : Kind) (p : ℕ) (l : LockList) (o : ℕ) (f : File) (e r : ℕ) (s : List ℕ) : Type 0 where
-  is-open : o < 64
-  far : r < 262144
-  free : lockedByOther l p f r ≡ false
-  entry-room : (leb (entries kind) e and leb (entries kind) (freeEntry kind s)) ≡ false
-  block-room : (eqb (blockIn kind s e r) 0 and leb (blocks kind s) (freeBlock kind s)) ≡ false
-
 module _ (kind : Kind) (p : ℕ) (l : LockList) (o : ℕ) (f : File) (e₀ e r : ℕ) (s : List ℕ) where
   real-34 : noneZero (rows34 kind p l o f e₀ e r s) ≡ true
   unfolding rows34 rowsMay rowsRoom
   real-34 = search nonzeros depth 20 fits 20000
 
-  passes-34 : firstOf (rows34 kind p l o f e₀ e r s) ≡ 0 → Passes kind p l o f e r s
-  unfolding rows34 rowsMay rowsRoom anyRow
-  passes-34 z =
-      let h = zero-none (rows34 kind p l o f e₀ e r s) real-34 z in
-      let g = any-append (rowsMay p l o f e₀ r s) (rowsRoom kind s e r) h in
-      let a = or-snd _ _ (or-snd _ _ (g .0)) in
-      let b : r ≤ 262143 = ltb-false highest r (or-fst _ _ a) in
-      record {
-        is-open = opened-so o (or-fst _ _ (g .0));
-        far = omega arith;
-        free = or-fst _ _ (or-snd _ _ a);
-        entry-room = or-fst _ _ (g .1);
-        block-room = or-fst _ _ (or-snd _ _ (g .1));
-      }
+  passing : firstOf (rows34 kind p l o f e₀ e r s) ≡ 0 → Passes34 kind p l o f e₀ e r s
+  passing z = passes-34 kind p l o f e₀ e r s (zero-none (rows34 kind p l o f e₀ e r s) real-34 z)
 
 -- the code of one record's write leaves the high four bits of H free
-pub below-34 : (kind : Kind) (zeros : Bool) (o : ℕ) (stopped locked : Bool) (f : File) (e₀ e r : ℕ) (v s : List ℕ) (code entry : ℕ) (t : List ℕ) → OneDid kind zeros o stopped locked f e₀ e r v s code entry t → code < 4096
+pub below-34 : (kind : Kind) (zeros : Bool) (o : ℕ) (stopped locked : Bool) (f : File) (e₀ e r : ℕ) (v s : List ℕ) (code entry : ℕ) (t : List ℕ)
+    → OneDid kind zeros o stopped locked f e₀ e r v s code entry t → code < 4096
 unfolding rowsMayBy rowsRoom
 below-34 kind zeros o stopped locked f e₀ e r v s code entry t d =
     rw (d .gives) (first-below 4096 _ (omega arith) (search belows depth 20 fits 20000))
@@ -138,7 +121,8 @@ unfolding routineOf
 write-runs false = isWrite
 write-runs true = isZeros
 
-module _ (kind : Kind) (zeros : Bool) (p c : ℕ) (f : File) (e₀ o r locked : ℕ) (b : Buffers) (a : Asks kind (writeNumber zeros) p c f o r b) (i e₁ : ℕ) (s : List ℕ) (w : Writing kind zeros p f e₀ r locked b i e₁ s) (below : i < c) where
+module _ (kind : Kind) (zeros : Bool) (p c : ℕ) (f : File) (e₀ o r locked : ℕ) (b : Buffers) (a : Asks kind (writeNumber zeros) p c f o r b) (i e₁ : ℕ)
+    (s : List ℕ) (w : Writing kind zeros p f e₀ r locked b i e₁ s) (below : i < c) where
   abbrev n : ℕ
   n = writeNumber zeros
 
@@ -183,7 +167,9 @@ module _ (kind : Kind) (zeros : Bool) (p c : ℕ) (f : File) (e₀ o r locked : 
 
   -- the single call of this record is 34's table and effect on what was found
   module _ (e : ℕ) (he : e ≡ entryOf kind s f (q / 128)) where
-    table : (z : Bool) → firstOf (rowsOf (Call (routineOf z)) (askedAt kind p i b′) b′) ≡ firstOf (rows34 kind p l (openOf l p (callerFile p l (b .fcb))) (callerFile p l (b .fcb)) (entryOf kind s (callerFile p l (b .fcb)) 0) (entryOf kind s (callerFile p l (b .fcb)) ((recordOf (b .fcb) + i) / 128)) (recordOf (b .fcb) + i) s)
+    table : (z : Bool) → firstOf (rowsOf (Call (routineOf z)) (askedAt kind p i b′) b′) ≡ firstOf
+        (rows34 kind p l (openOf l p (callerFile p l (b .fcb))) (callerFile p l (b .fcb)) (entryOf kind s (callerFile p l (b .fcb)) 0)
+        (entryOf kind s (callerFile p l (b .fcb)) ((recordOf (b .fcb) + i) / 128)) (recordOf (b .fcb) + i) s)
     unfolding rowsOf askedBy lookUp routineOf
     table false = refl
     table true = refl
@@ -192,13 +178,16 @@ module _ (kind : Kind) (zeros : Bool) (p c : ℕ) (f : File) (e₀ o r locked : 
     rows-found =
         ap (λ (k : Chosen). firstOf (rowsOf k (askedAt kind p i b′) b′)) (write-chosen zeros)
         ∙ table zeros
-        ∙ ap (λ (g : File). firstOf (rows34 kind p l (openOf l p g) g (entryOf kind s g 0) (entryOf kind s g ((recordOf (b .fcb) + i) / 128)) (recordOf (b .fcb) + i) s)) (sym (a .file))
+        ∙ ap (λ (g : File). firstOf (rows34 kind p l (openOf l p g) g (entryOf kind s g 0) (entryOf kind s g ((recordOf (b .fcb) + i) / 128))
+        (recordOf (b .fcb) + i) s)) (sym (a .file))
         ∙ ap (λ (m : ℕ). firstOf (rows34 kind p l (openOf l p f) f (entryOf kind s f 0) (entryOf kind s f ((m + i) / 128)) (m + i) s)) (sym (a .number))
         ∙ ap (λ (m : ℕ). firstOf (rows34 kind p l m f (entryOf kind s f 0) (entryOf kind s f (q / 128)) q s)) (sym (a .place))
         ∙ ap (λ (m : ℕ). firstOf (rows34 kind p l o f m (entryOf kind s f (q / 128)) q s)) (sym (w .first))
         ∙ ap (λ (m : ℕ). firstOf (rows34 kind p l o f e₀ m q s)) (sym he)
 
-    effects : (z : Bool) → effectOf (Call (routineOf z)) (askedAt kind p i b′) (single i b′) ≡ does34 kind z (callerFile p l (b .fcb)) (entryOf kind s (callerFile p l (b .fcb)) 0) (entryOf kind s (callerFile p l (b .fcb)) ((recordOf (b .fcb) + i) / 128)) (recordOf (b .fcb) + i) (single i b′)
+    effects : (z : Bool) → effectOf (Call (routineOf z)) (askedAt kind p i b′) (single i b′) ≡ does34 kind z (callerFile p l (b .fcb))
+        (entryOf kind s (callerFile p l (b .fcb)) 0) (entryOf kind s (callerFile p l (b .fcb)) ((recordOf (b .fcb) + i) / 128)) (recordOf (b .fcb) + i)
+        (single i b′)
     unfolding effectOf askedBy lookUp routineOf
     effects false = refl
     effects true = refl
@@ -207,7 +196,8 @@ module _ (kind : Kind) (zeros : Bool) (p c : ℕ) (f : File) (e₀ o r locked : 
     effect-found =
         ap (λ (k : Chosen). effectOf k (askedAt kind p i b′) (single i b′)) (write-chosen zeros)
         ∙ effects zeros
-        ∙ ap (λ (g : File). does34 kind zeros g (entryOf kind s g 0) (entryOf kind s g ((recordOf (b .fcb) + i) / 128)) (recordOf (b .fcb) + i) (single i b′)) (sym (a .file))
+        ∙ ap (λ (g : File). does34 kind zeros g (entryOf kind s g 0) (entryOf kind s g ((recordOf (b .fcb) + i) / 128)) (recordOf (b .fcb) + i) (single i b′))
+        (sym (a .file))
         ∙ ap (λ (m : ℕ). does34 kind zeros f (entryOf kind s f 0) (entryOf kind s f ((m + i) / 128)) (m + i) (single i b′)) (sym (a .number))
         ∙ ap (λ (m : ℕ). does34 kind zeros f m (entryOf kind s f (q / 128)) q (single i b′)) (sym (w .first))
         ∙ ap (λ (m : ℕ). does34 kind zeros f e₀ m q (single i b′)) (sym he)
@@ -231,18 +221,20 @@ module _ (kind : Kind) (zeros : Bool) (p c : ℕ) (f : File) (e₀ o r locked : 
         turn-writes =
             several-more kind n p i b b′ (w .so-far) (code-is ∙ z)
             ∙ ap (λ (x : Outcome). run 0 (suc i) (backAt i b′ (x .left))) done
-            ∙ ap (λ (d : List ℕ). run 0 (suc i) (buffers (b .fcb) d (b .list) (written kind zeros (spotAt kind s e q) e₀ f q (dmaAt i (b .dma)) s))) (dma-still i (b .dma) room)
+            ∙ ap (λ (d : List ℕ). run 0 (suc i) (buffers (b .fcb) d (b .list) (written kind zeros (spotAt kind s e q) e₀ f q (dmaAt i (b .dma)) s)))
+            (dma-still i (b .dma) room)
             ∙ ap (λ (d : List ℕ). run 0 (suc i) (withImage b d)) front
 
         both : SoundBoth kind (b .list) t
         unfolding single does34
         both =
             let k = call-sound kind n p 1 (single i b′) (record { image-sound = w .image-sound; list-long = ok .list-long; list-sound = w .list-sound }) in
-            let m : SoundBoth kind (b .list) (written kind zeros (spotAt kind s e q) e₀ f q (dmaAt i (b .dma)) s) = subst (λ (y : Outcome). SoundBoth kind (y .left .list) (y .left .image)) done k in
+            let m : SoundBoth kind (b .list) (written kind zeros (spotAt kind s e q) e₀ f q (dmaAt i (b .dma)) s) = subst
+            (λ (y : Outcome). SoundBoth kind (y .left .list) (y .left .image)) done k in
             subst (λ (y : List ℕ). SoundBoth kind (b .list) y) front m
 
-        passes : Passes kind p l o f e q s
-        passes = passes-34 kind p l o f e₀ e q s (sym hc ∙ z)
+        passes : Passes34 kind p l o f e₀ e q s
+        passes = passing kind p l o f e₀ e q s (sym hc ∙ z)
 
         named : length (f .name) ≡ 11
         named = rw (a .file) (caller-long p l (b .fcb))
@@ -250,10 +242,11 @@ module _ (kind : Kind) (zeros : Bool) (p c : ℕ) (f : File) (e₀ o r locked : 
         -- the file is on the image, since the caller has it open
         there : entryOf kind s f 0 < entries kind
         there =
-            let o₁ : openOf l p f < 64 = (let k = a .place in let m = passes .is-open in omega arith) in
+            let o₁ : openOf l p f < 64 = (let k = a .place in let m = passes .may .is-open in omega arith) in
             let o₂ : openOf l p (callerFile p l (b .fcb)) < 64 = subst (λ (y : File). openOf l p y < 64) (a .file) o₁ in
             let all : Passed kind p 1 b′ = record { process-fits = a .process-fits; run-some = omega arith; run-fits = omega arith; ready = again } in
-            subst (λ (y : File). entryOf kind s y 0 < entries kind) (sym (a .file)) (own-there kind s p 1 b′ all (unpack-shape (b .list)) (list-sound-of kind (b .list) s (w .list-sound)) o₂)
+            subst (λ (y : File). entryOf kind s y 0 < entries kind) (sym (a .file))
+            (own-there kind s p 1 b′ all (unpack-shape (b .list)) (list-sound-of kind (b .list) s (w .list-sound)) o₂)
 
         -- as the laws of writing have it
         abbrev here : ℕ
@@ -263,7 +256,8 @@ module _ (kind : Kind) (zeros : Bool) (p c : ℕ) (f : File) (e₀ o r locked : 
         t₀ = written kind zeros (spotAt kind s here q) (entryOf kind s f 0) f q v s
 
         same : t ≡ t₀
-        same = ap (λ (y : ℕ). written kind zeros (spotAt kind s y q) e₀ f q v s) he ∙ ap (λ (y : ℕ). written kind zeros (spotAt kind s here q) y f q v s) (w .first)
+        same = ap (λ (y : ℕ). written kind zeros (spotAt kind s y q) e₀ f q v s) he
+            ∙ ap (λ (y : ℕ). written kind zeros (spotAt kind s here q) y f q v s) (w .first)
 
         sound₀ : SoundImage kind highest t₀
         sound₀ = sound-of kind highest t₀ (subst (λ (y : List ℕ). SoundBoth kind (b .list) y) same both .image-sound)
@@ -272,10 +266,10 @@ module _ (kind : Kind) (zeros : Bool) (p c : ℕ) (f : File) (e₀ o r locked : 
         full = let k : length v ≡ 128 = part-long (b .dma) (128 * i) 128 room in omega arith
 
         room₀ : (leb (entries kind) here and leb (entries kind) (freeEntry kind s)) ≡ false
-        room₀ = rw he at (passes .entry-room)
+        room₀ = rw he at (passes .room .entry-room)
 
         block₀ : (eqb (blockIn kind s here q) 0 and leb (blocks kind s) (freeBlock kind s)) ≡ false
-        block₀ = rw he at (passes .block-room)
+        block₀ = rw he at (passes .room .block-room)
 
         spot-below : spotAt kind s here q .entry < entries kind
         unfolding spotAt _if_else_ _and_
@@ -288,13 +282,14 @@ module _ (kind : Kind) (zeros : Bool) (p c : ℕ) (f : File) (e₀ o r locked : 
 
         at-spot : entryOf kind t₀ f (q / 128) ≡ spotAt kind s here q .entry
         at-spot =
-            let is = written-entry kind zeros s f q v (sound-of kind highest s (w .image-sound)) named (passes .far) there full room₀ block₀ in
+            let is = written-entry kind zeros s f q v (sound-of kind highest s (w .image-sound)) named (let k = passes .may .fits in omega arith) there full room₀ block₀ in
             let k = found-below kind t₀ f (q / 128) (spotAt kind s here q .entry) spot-below is in
-            only kind t₀ f (q / 128) (entryOf kind t₀ f (q / 128)) (spotAt kind s here q .entry) (sound₀ .files) k spot-below (found-is kind t₀ f (q / 128) named k) is
+            only kind t₀ f (q / 128) (entryOf kind t₀ f (q / 128)) (spotAt kind s here q .entry) (sound₀ .files) k spot-below
+            (found-is kind t₀ f (q / 128) named k) is
 
         at-first : entryOf kind t₀ f 0 ≡ entryOf kind s f 0
         at-first =
-            let is = written-first kind zeros s f q v (sound-of kind highest s (w .image-sound)) named (passes .far) there full room₀ block₀ in
+            let is = written-first kind zeros s f q v (sound-of kind highest s (w .image-sound)) named (let k = passes .may .fits in omega arith) there full room₀ block₀ in
             let k = found-below kind t₀ f 0 (entryOf kind s f 0) there is in
             only kind t₀ f 0 (entryOf kind t₀ f 0) (entryOf kind s f 0) (sound₀ .files) k there (found-is kind t₀ f 0 named k) is
 
@@ -306,7 +301,8 @@ module _ (kind : Kind) (zeros : Bool) (p c : ℕ) (f : File) (e₀ o r locked : 
 
 -- ---- the loop
 
-pub writing-none : (kind : Kind) (zeros : Bool) (p c : ℕ) (f : File) (e₀ o r locked : ℕ) (b : Buffers) → Asks kind (writeNumber zeros) p c f o r b → e₀ ≡ entryOf kind (b .image) f 0 → Writing kind zeros p f e₀ r locked b 0 0 (b .image)
+pub writing-none : (kind : Kind) (zeros : Bool) (p c : ℕ) (f : File) (e₀ o r locked : ℕ) (b : Buffers) → Asks kind (writeNumber zeros) p c f o r b
+    → e₀ ≡ entryOf kind (b .image) f 0 → Writing kind zeros p f e₀ r locked b 0 0 (b .image)
 writing-none kind zeros p c f e₀ o r locked b a h = record {
   so-far = several-none kind (writeNumber zeros) p b;
   long = refl;
@@ -317,8 +313,11 @@ writing-none kind zeros p c f e₀ o r locked b a h = record {
   known = known-none kind (b .image) f r;
 }
 
-module _ (kind : Kind) (zeros : Bool) (p c : ℕ) (f : File) (e₀ o r mode locked : ℕ) (b : Buffers) (x : StopsAt (unpack (b .list)) p f o r c mode locked) (a : Asks kind (writeNumber zeros) p c f o r b) (i e₁ : ℕ) (s : List ℕ) (w : Writing kind zeros p f e₀ r locked b i e₁ s) where
-  module _ (below : i < c) (e : ℕ) (stopped : Bool) (code entry : ℕ) (t : List ℕ) (he : e ≡ entryOf kind s f ((r + i) / 128)) (hs : stopped ≡ (readOnly s e₀ or eqb mode 2)) (d : OneDid kind zeros o stopped (eqb i locked) f e₀ e (r + i) (take (128 * i + 128 - 128 * i) (drop (128 * i) (b .dma))) s code entry t) where
+module _ (kind : Kind) (zeros : Bool) (p c : ℕ) (f : File) (e₀ o r mode locked : ℕ) (b : Buffers) (x : StopsAt (unpack (b .list)) p f o r c mode locked)
+    (a : Asks kind (writeNumber zeros) p c f o r b) (i e₁ : ℕ) (s : List ℕ) (w : Writing kind zeros p f e₀ r locked b i e₁ s) where
+  module _ (below : i < c) (e : ℕ) (stopped : Bool) (code entry : ℕ) (t : List ℕ) (he : e ≡ entryOf kind s f ((r + i) / 128))
+      (hs : stopped ≡ (readOnly s e₀ or eqb mode 2))
+      (d : OneDid kind zeros o stopped (eqb i locked) f e₀ e (r + i) (take (128 * i + 128 - 128 * i) (drop (128 * i) (b .dma))) s code entry t) where
     locked-so : eqb i locked ≡ lockedByOther (unpack (b .list)) p f (r + i)
     locked-so = locked-here (unpack (b .list)) p f r c i locked (x .locked-is) below (w .unlocked)
 
@@ -332,25 +331,30 @@ module _ (kind : Kind) (zeros : Bool) (p c : ℕ) (f : File) (e₀ o r mode lock
     pub writing-more : code ≡ 0 → length t ≡ length s → Writing kind zeros p f e₀ r locked b (i + 1) entry t
     writing-more z n =
         let k : 128 * i + 128 - 128 * i ≡ 128 = omega arith in
-        let g : t ≡ written kind zeros (spotAt kind s e (r + i)) e₀ f (r + i) (part (128 * i) 128 (b .dma)) s = d .wrote z ∙ ap (λ (m : ℕ). written kind zeros (spotAt kind s e (r + i)) e₀ f (r + i) (take m (drop (128 * i) (b .dma))) s) k in
+        let g : t ≡ written kind zeros (spotAt kind s e (r + i)) e₀ f (r + i) (part (128 * i) 128 (b .dma)) s = d .wrote z
+        ∙ ap (λ (m : ℕ). written kind zeros (spotAt kind s e (r + i)) e₀ f (r + i) (take m (drop (128 * i) (b .dma))) s) k in
         let y = subst (λ (m : List ℕ). SoundBoth kind (b .list) m) (sym g) (both kind zeros p c f e₀ o r locked b a i e₁ s w below e he code coded z) in
-        let not-here : i ≡ locked → ⊥ = eqb-false i locked (locked-so ∙ passes kind zeros p c f e₀ o r locked b a i e₁ s w below e he code coded z .free) in
+        let not-here : i ≡ locked → ⊥ = eqb-false i locked (locked-so ∙ passes kind zeros p c f e₀ o r locked b a i e₁ s w below e he code coded z .may .none-others) in
         let u = w .unlocked in
         record {
-          so-far = rw add-one (turn-writes kind zeros p c f e₀ o r locked b a i e₁ s w below e he code coded z ∙ ap (λ (m : List ℕ). run 0 (suc i) (withImage b m)) (sym g));
+          so-far = rw add-one (turn-writes kind zeros p c f e₀ o r locked b a i e₁ s w below e he code coded z
+              ∙ ap (λ (m : List ℕ). run 0 (suc i) (withImage b m)) (sym g));
           long = n ∙ w .long;
           image-sound = y .image-sound;
           list-sound = y .list-sound;
           first = first-still kind zeros p c f e₀ o r locked b a i e₁ s w below e he code coded z ∙ ap (λ (m : List ℕ). entryOf kind m f 0) (sym g);
           unlocked = omega arith;
-          known = known-more kind t f r i entry (d .at z ∙ entry-now kind zeros p c f e₀ o r locked b a i e₁ s w below e he code coded z ∙ ap (λ (m : List ℕ). entryOf kind m f ((r + i) / 128)) (sym g)) (d .within);
+          known = known-more kind t f r i entry (d .at z ∙ entry-now kind zeros p c f e₀ o r locked b a i e₁ s w below e he code coded z
+              ∙ ap (λ (m : List ℕ). entryOf kind m f ((r + i) / 128)) (sym g)) (d .within);
         }
 
     -- the first refusal stops the call
-    pub writing-stops : (answer : ℕ) → (code ≡ 0 → ⊥) → answer ≡ code + 4096 * i → Did (told (several kind (writeNumber zeros) p c b)) answer (b .fcb) (b .dma) (b .list) t
+    pub writing-stops : (answer : ℕ) → (code ≡ 0 → ⊥) → answer ≡ code + 4096 * i
+        → Did (told (several kind (writeNumber zeros) p c b)) answer (b .fcb) (b .dma) (b .list) t
     writing-stops answer n ha =
         let k = code-is kind zeros p c f e₀ o r locked b a i e₁ s w below e he code coded in
-        let g : told (several kind (writeNumber zeros) p c b) ≡ outcome answer (withImage b s) = stops-told kind (writeNumber zeros) p b (withImage b s) i c (w .so-far) (λ z. n (sym k ∙ z)) below ∙ ap (λ (m : ℕ). outcome m (withImage b s)) (ap (λ (m : ℕ). m + 4096 * i) k ∙ sym ha) in
+        let g : told (several kind (writeNumber zeros) p c b) ≡ outcome answer (withImage b s) = stops-told kind (writeNumber zeros) p b (withImage b s) i c
+        (w .so-far) (λ z. n (sym k ∙ z)) below ∙ ap (λ (m : ℕ). outcome m (withImage b s)) (ap (λ (m : ℕ). m + 4096 * i) k ∙ sym ha) in
         rw (d .kept n) (did-as _ _ answer _ _ _ _ (sym g) (did-none answer (withImage b s)))
 
   -- all went well
@@ -359,7 +363,8 @@ module _ (kind : Kind) (zeros : Bool) (p c : ℕ) (f : File) (e₀ o r mode lock
 
 -- ---- what the call has found of the list
 
-pub stops-at : (list : List ℕ) (l : LockList) (p : ℕ) (f : File) (o r c mode locked : ℕ) → l ≡ unpack list → mode ≡ itemAt l o .mode → locked ≡ lowest (isOthers l p f r) c → StopsAt (unpack list) p f o r c mode locked
+pub stops-at : (list : List ℕ) (l : LockList) (p : ℕ) (f : File) (o r c mode locked : ℕ) → l ≡ unpack list → mode ≡ itemAt l o .mode
+    → locked ≡ lowest (isOthers l p f r) c → StopsAt (unpack list) p f o r c mode locked
 stops-at list l p f o r c mode locked hl hm hk = record {
   mode-is = hm ∙ ap (λ (m : LockList). itemAt m o .mode) hl;
   locked-is = hk ∙ ap (λ (m : LockList). lowest (isOthers m p f r) c) hl;

@@ -27,6 +27,7 @@ pub record At (kind : Kind) (s : List ℕ) (f : File) (r b : ℕ) : Type 0 where
   pub number : mapNumber kind s entry (mapPlace kind r) ≡ b
   pub some : b ≡ 0 → ⊥
 
+-- the place of its number names a block
 pub at-names : (kind : Kind) (s : List ℕ) (f : File) (r b : ℕ) → (a : At kind s f r b) → Names kind s (a .entry) (mapPlace kind r)
 at-names kind s f r b a = record {
   entry-there = a .below;
@@ -35,11 +36,12 @@ at-names kind s f r b a = record {
   some = λ z. a .some (sym (a .number) ∙ z);
 }
 
+-- an extent that stands at an entry is found
 pub found-below : (kind : Kind) (s : List ℕ) (f : File) (x e : ℕ) → e < entries kind → Is s f x e → entryOf kind s f x < entries kind
 unfolding entryOf
 found-below kind s f x e l h = lowest-below (isEntry s f x) (entries kind) (any-found (isEntry s f x) (entries kind) e l (entry-so s f x e h))
 
--- where the extent is found is where it is
+-- an extent of a file stands at one entry only
 pub only : (kind : Kind) (s : List ℕ) (f : File) (x e d : ℕ) → Entries kind highest s → e < entries kind → d < entries kind → Is s f x e → Is s f x d → e ≡ d
 only kind s f x e d g l k a b =
     ⊎-elim
@@ -51,6 +53,7 @@ only kind s f x e d g l k a b =
     (λ (c′ : ltb d e ≡ false). let m = ltb-false e d c in let n = ltb-false d e c′ in omega arith) (either (ltb d e)))
     (either (ltb e d))
 
+-- a block that is found is the one that the record has, ..
 pub at-of : (kind : Kind) (s : List ℕ) (f : File) (r : ℕ) → length (f .name) ≡ 11 → (blockOf kind s f r ≡ 0 → ⊥) → At kind s f r (blockOf kind s f r)
 at-of kind s f r n h =
     let m = block-named kind highest s f r h in
@@ -62,6 +65,7 @@ at-of kind s f r n h =
       some = h;
     }
 
+-- .. and the one that it has is found
 pub of-at : (kind : Kind) (s : List ℕ) (f : File) (r b : ℕ) → length (f .name) ≡ 11 → SoundImage kind highest s → At kind s f r b → blockOf kind s f r ≡ b
 unfolding blockOf blockIn _if_else_
 of-at kind s f r b n g a =
@@ -84,7 +88,7 @@ blocks-same kind s t f r n g h forth back =
 
 -- ---- what changes leave
 
--- nothing is taken away
+-- where nothing is taken away a record keeps its block, ..
 pub at-grown : (kind : Kind) (s t : List ℕ) (f : File) (r b : ℕ) → Grown kind s t → At kind s f r b → At kind t f r b
 at-grown kind s t f r b g a = record {
   entry = a .entry;
@@ -94,6 +98,7 @@ at-grown kind s t f r b g a = record {
   some = a .some;
 }
 
+-- .. and an extent its entry
 pub is-grown : (kind : Kind) (s t : List ℕ) (f : File) (x e : ℕ) → Grown kind s t → e < entries kind → Is s f x e → Is t f x e
 is-grown kind s t f x e g l i = is-same s t f x e (g .head e l (i .used)) i
 
@@ -108,19 +113,24 @@ at-same kind s t f r b a h = record {
 
 -- the entries of a file that was not touched
 module _ (kind : Kind) (s t : List ℕ) (f h k : File) (c : Touches kind s t f h) where
+  -- an entry of any file but f stays as it was, ..
   pub kept-forth : (k ≡ f → ⊥) → (e x : ℕ) → e < entries kind → Is s k x e → Same s e t e
   kept-forth n e x l i =
       ⊎-elim (λ (q : Same s e t e). q) (λ (q : Theirs s t f h e). absurd (n (sym (i .file) ∙ q .was (i .used)))) (c .entry e l)
 
+  -- .. and one that is then of any file but h was so before;
   pub kept-back : (k ≡ h → ⊥) → (e x : ℕ) → e < entries kind → Is t k x e → Same s e t e
   kept-back n e x l i =
       ⊎-elim (λ (q : Same s e t e). q) (λ (q : Theirs s t f h e). absurd (n (sym (i .file) ∙ q .now (i .used)))) (c .entry e l)
 
+  -- a record of any file but f keeps its block, ..
   pub at-forth : (k ≡ f → ⊥) → (r b : ℕ) → At kind s k r b → At kind t k r b
   at-forth n r b a = at-same kind s t k r b a (kept-forth n (a .entry) (r / 128) (a .below) (a .is))
 
+  -- .. one that is then of any file but h had its block before, ..
   pub at-back : (k ≡ h → ⊥) → (r b : ℕ) → At kind t k r b → At kind s k r b
   at-back n r b a = at-same kind t s k r b a (same-back s t (a .entry) (kept-back n (a .entry) (r / 128) (a .below) (a .is)))
 
+  -- .. and an extent of any file but f stands where it stood
   pub is-forth : (k ≡ f → ⊥) → (x e : ℕ) → e < entries kind → Is s k x e → Is t k x e
   is-forth n x e l i = is-same s t k x e (head-of s e t e (kept-forth n e x l i)) i

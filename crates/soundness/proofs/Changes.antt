@@ -41,15 +41,27 @@ pub record Change (kind : Kind) (s t : List ℕ) (f : File) (a m n q : ℕ) : Ty
   pub touches : Touches kind s t f f
   pub data-kept : Data kind s t a m
 
+-- where all entries are the same no file was touched, ..
 pub touches-same : (kind : Kind) (s t : List ℕ) (f h : File) → length t ≡ length s → ((e : ℕ) → e < entries kind → Same s e t e) → Touches kind s t f h
 touches-same kind s t f h len g = record { long = len; entry = λ e l. inl (g e l) }
 
+-- .. and nothing was taken away
 pub grown-same : (kind : Kind) (s t : List ℕ) → ((e : ℕ) → e < entries kind → Same s e t e) → Grown kind s t
 grown-same kind s t g = record {
   head = λ e l u. head-of s e t e (g e l);
   number = λ e k n. map-same kind s t e k (g e (n .entry-there)) (n .place-there);
 }
 
+-- where nothing was taken away a block that was named is named still
+pub names-grown : (kind : Kind) (s t : List ℕ) → Grown kind s t → (e k : ℕ) → Names kind s e k → Names kind t e k
+names-grown kind s t g e k w = record {
+  entry-there = w .entry-there;
+  place-there = w .place-there;
+  entry-used = empty-same s e t e (g .head e (w .entry-there) (w .entry-used)) ∙ w .entry-used;
+  some = λ z. w .some (sym (g .number e k w) ∙ z);
+}
+
+-- a sound image that stays as it is
 pub no-change : (kind : Kind) (s : List ℕ) (f : File) (a m n q : ℕ) → SoundImage kind highest s → Change kind s s f a m n q
 no-change kind s f a m n q g = record {
   sound = g;
@@ -62,14 +74,6 @@ no-change kind s f a m n q g = record {
 module _ (kind : Kind) (s t u : List ℕ) (f : File) (a m n q : ℕ) (x : Change kind s t f a m n q) (y : Change kind t u f a m n q) where
   used-then : (e : ℕ) → e < entries kind → isEmpty s e ≡ false → isEmpty t e ≡ false
   used-then e l w = empty-same s e t e (x .grown .head e l w) ∙ w
-
-  names-then : (e k : ℕ) → Names kind s e k → Names kind t e k
-  names-then e k w = record {
-    entry-there = w .entry-there;
-    place-there = w .place-there;
-    entry-used = used-then e (w .entry-there) (w .entry-used);
-    some = λ z. w .some (sym (x .grown .number e k w) ∙ z);
-  }
 
   entry-then : (e : ℕ) → e < entries kind → Same s e u e ⊎ Theirs s u f f e
   entry-then e l =
@@ -95,13 +99,14 @@ module _ (kind : Kind) (s t u : List ℕ) (f : File) (a m n q : ℕ) (x : Change
       (λ (v : Stays kind s t e k). inr (record { named = v .named; number = z .number ∙ v .number })) (x .rest e k (z .named)))
       (y .rest e k w)
 
+  -- two changes one after the other are one
   pub change-then : Change kind s u f a m n q
   change-then = record {
     sound = y .sound;
     rest = rest-then;
     grown = record {
       head = λ e l w. head-then s t u e (x .grown .head e l w) (y .grown .head e l (used-then e l w));
-      number = λ e k w. y .grown .number e k (names-then e k w) ∙ x .grown .number e k w;
+      number = λ e k w. y .grown .number e k (names-grown kind s t (x .grown) e k w) ∙ x .grown .number e k w;
     };
     touches = record { long = y .touches .long ∙ x .touches .long; entry = entry-then };
     data-kept = record { at = λ i l c. y .data-kept .at i l c ∙ x .data-kept .at i l c };

@@ -1,9 +1,9 @@
--- Places emptied: Close, 43 and 143. Assumes nothing.
+-- Places emptied, by Close, 43 and 143, leave the list sound. Assumes nothing.
 use Prim.Native.Nat.{ℕ, _≤_, _<_}
-use mathlib.Core.Path.{_≡_, refl, sym, ap, subst, _∙_}
+use mathlib.Core.Path.{_≡_, refl, sym, ap, _∙_}
 use mathlib.Core.Bool.{Bool, true, false}
 use mathlib.Core.List.{List, map}
-use mathlib.Core.Logic.{_⊎_, inl, inr, ⊎-elim}
+use mathlib.Core.Logic.{_⊎_, inl, ⊎-elim}
 use native.Mathlib.Omega.{arith}
 use lib.ListN.{length-map}
 use lib.Dec.{eqb}
@@ -20,7 +20,8 @@ use Rattle.rules.specs.declared.list.LockList.{LockList}
 use Rattle.rules.specs.Locks.{blank, emptyPlace, itemAt, withItems, opensName, isKindBy, isKindByAt, opensBy, locksBy, isZero, goodEmpty, clashAt, keepsLimits}
 use Rattle.rules.specs.Effects.{isOfFile, unlessOfFile, isInRun, unlessInRun, unlessBy}
 use Rattle.rules.proofs.Items.{clash-none, clash-no, open-is, name-then, name-sym}
-use Rattle.rules.proofs.SoundList.{Shape, GoodOpen, GoodLock, Used, Vacant, SoundLocks}
+use Rattle.rules.proofs.SoundList.{Shape, Holder, GoodLock, Used, Vacant, SoundLocks}
+use Rattle.soundness.proofs.Placed.{limits-with, place-with}
 
 empty-good : goodEmpty emptyPlace ≡ true
 unfolding goodEmpty isZero all _and_
@@ -42,14 +43,17 @@ module _ (l : LockList) (away : Item → Bool) (turn : Item → Item) (t : Empti
   at-turn : (i : ℕ) → i < 64 → itemAt after i ≡ (emptyPlace if away (itemAt l i) else itemAt l i)
   at-turn i m = map-at turn (l .items) i blank blank (let k = h .items-long in omega arith) ∙ t .turned (itemAt l i)
 
+  -- a place that is to be emptied is then empty, ..
   pub at-gone : (i : ℕ) → i < 64 → away (itemAt l i) ≡ true → itemAt after i ≡ emptyPlace
   unfolding _if_else_
   at-gone i m q = at-turn i m ∙ rw q refl
 
+  -- .. any other holds what it held;
   pub at-kept : (i : ℕ) → i < 64 → away (itemAt l i) ≡ false → itemAt after i ≡ itemAt l i
   unfolding _if_else_
   at-kept i m q = at-turn i m ∙ rw q refl
 
+  -- the list keeps its shape, ..
   pub gone-shape : Shape after
   gone-shape = record {
     users-long = h .users-long;
@@ -59,24 +63,11 @@ module _ (l : LockList) (away : Item → Bool) (turn : Item → Item) (t : Empti
   }
 
   module _ (kind : Kind) (s : List ℕ) (g : SoundLocks kind l s) (whole : Whole l away) where
-    good-after : (i : ℕ) → i < 64 → away (itemAt l i) ≡ false → GoodOpen kind s l (itemAt l i) ⊎ GoodLock kind s l (itemAt l i)
-        → GoodOpen kind s after (itemAt l i) ⊎ GoodLock kind s after (itemAt l i)
-    good-after i m q c =
-        ⊎-elim (λ (o : GoodOpen kind s l (itemAt l i)). inl (record {
-          kind-one = o .kind-one;
-          mode-fits = o .mode-fits;
-          number-zero = o .number-zero;
-          there = o .there;
-        }))
-        (λ (o : GoodLock kind s l (itemAt l i)).
+    holder-after : (i : ℕ) → i < 64 → away (itemAt l i) ≡ false → GoodLock kind s l (itemAt l i) → Holder after (itemAt l i .process) (itemAt l i .name)
+    holder-after i m q o =
         let k = o .holder in
         let e = at-kept (k .place) (k .below) (whole .with-locks i (k .place) m (k .below) (o .kind-two) (k .opens) q) in
-        inr (record {
-          kind-two = o .kind-two;
-          mode-one = o .mode-one;
-          holder = record { place = k .place; below = k .below; opens = rw e (k .opens); mode = rw e (k .mode) };
-          block = o .block;
-        })) c
+        record { place = k .place; below = k .below; opens = rw e (k .opens); mode = rw e (k .mode) }
 
     place-after : (i : ℕ) → i < 64 → Vacant after i ⊎ Used kind s after i
     place-after i m =
@@ -84,16 +75,7 @@ module _ (l : LockList) (away : Item → Bool) (turn : Item → Item) (t : Empti
         (λ (q : away (itemAt l i) ≡ true).
         let e = at-gone i m q in
         inl (record { kind-zero = rw e refl; zeros = rw e empty-good }))
-        (λ (q : away (itemAt l i) ≡ false).
-        let e : itemAt l i ≡ itemAt after i = sym (at-kept i m q) in
-        ⊎-elim
-        (λ (v : Vacant l i). inl (record { kind-zero = rw (← e) (v .kind-zero); zeros = rw (← e) (v .zeros) }))
-        (λ (v : Used kind s l i). inr (record {
-          below = v .below;
-          plain = rw (← e) (v .plain);
-          good = subst (λ (x : Item). GoodOpen kind s after x ⊎ GoodLock kind s after x) e (good-after i m q (v .good));
-        }))
-        (g .place i m))
+        (λ (q : away (itemAt l i) ≡ false). place-with l (map turn (l .items)) kind s i (at-kept i m q) (holder-after i m q) (g .place i m))
         (either (away (itemAt l i)))
 
     apart-after : (i k : ℕ) → i < 64 → k < 64 → (i ≡ k → ⊥) → clashAt after i k ≡ false
@@ -126,14 +108,10 @@ module _ (l : LockList) (away : Item → Bool) (turn : Item → Item) (t : Empti
         and-both _ _ (le-leb (count (isKindByAt after 1 p) 64) (l .openlimit) (omega arith))
         (le-leb (count (isKindByAt after 2 p) 64) (l .locklimit) (omega arith))
 
+    -- .. and stays sound
     pub gone-sound : SoundLocks kind after s
     gone-sound = record {
-      limits = record {
-        capacity-good = g .limits .capacity-good;
-        open-good = g .limits .open-good;
-        lock-good = g .limits .lock-good;
-        users-good = g .limits .users-good;
-      };
+      limits = limits-with l (map turn (l .items)) (g .limits);
       place = place-after;
       apart = apart-after;
       keeps = keeps-after;
@@ -141,21 +119,26 @@ module _ (l : LockList) (away : Item → Bool) (turn : Item → Item) (t : Empti
 
 -- ---- the three that empty
 
+-- Close empties the places of the process's items on the file, ..
 pub close-empties : (p : ℕ) (f : File) → Empties (isOfFile p f) (unlessOfFile p f)
 unfolding unlessOfFile
 close-empties p f = record { turned = λ it. refl }
 
+-- .. 43 those of its locks in the run, ..
 pub unlock-empties : (p : ℕ) (f : File) (r n : ℕ) → Empties (isInRun p f r n) (unlessInRun p f r n)
 unfolding unlessInRun
 unlock-empties p f r n = record { turned = λ it. refl }
 
+-- (an item of the process)
 abbrev pub byProcess : ℕ → Item → Bool
 byProcess p it = eqb (it .process) p
 
+-- .. and 143 all of its places
 pub end-empties : (p : ℕ) → Empties (byProcess p) (unlessBy p)
 unfolding unlessBy
 end-empties p = record { turned = λ it. refl }
 
+-- an open goes only with its locks: by Close, ..
 pub close-whole : (l : LockList) (p : ℕ) (f : File) → Whole l (isOfFile p f)
 unfolding isOfFile
 close-whole l p f = record {
@@ -169,6 +152,7 @@ close-whole l p f = record {
       (name-then _ _ _ (name-sym _ _ (w .named)) (and-snd _ _ z₁)))) q;
 }
 
+-- .. by 43, which takes no open, ..
 pub unlock-whole : (l : LockList) (p : ℕ) (f : File) (r n : ℕ) → Whole l (isInRun p f r n)
 unfolding isInRun
 unlock-whole l p f r n = record {
@@ -176,6 +160,7 @@ unlock-whole l p f r n = record {
       absurd (omega arith)));
 }
 
+-- .. and by 143
 pub end-whole : (l : LockList) (p : ℕ) → Whole l (byProcess p)
 end-whole l p = record {
   with-locks = λ i o m k two a q. rw (open-is _ _ (itemAt l o) a .by) q;

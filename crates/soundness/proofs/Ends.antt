@@ -30,23 +30,28 @@ use Rattle.rules.proofs.Passed.{Passed}
 use Rattle.soundness.proofs.Leaves.{listOf, fileBy, newBy, MayMake, MayRename, MayWrite, MayLock, imageWritten}
 
 module _ (kind : Kind) (p c : ℕ) (b : Buffers) (ok : Passed kind p c b) where
+  -- the image that was lent is sound, ..
   pub image-of : SoundImage kind highest (b .image)
   image-of = sound-of kind highest (b .image) (ok .ready .image-sound)
 
+  -- .. the list has its shape, ..
   pub shape-of : Shape (listOf b)
   shape-of = unpack-shape (b .list)
 
+  -- .. and is sound against the image;
   pub list-of : SoundLocks kind (listOf b) (b .image)
   list-of = list-sound-of kind (b .list) (b .image) (ok .ready .list-sound)
 
+  -- the caller's user is one of 0 to 15
   pub caller-fits : userOf (listOf b) p ≤ 15
   caller-fits = user-fits (listOf b) p (list-of .limits) (ok .process-fits)
 
-  -- 22
+  -- 22: an entry of the file enters, and nothing is taken away; ..
   pub made-of : MayMake kind p b → (a m i j : ℕ) → Change kind (b .image) (made (freeEntry kind (b .image)) (fileBy p b) (b .image)) (fileBy p b) a m i j
   unfolding callerFile
   made-of w = made-change kind (b .image) (b .fcb) (userOf (listOf b) p) image-of caller-fits (w .legal) (w .gone) (w .entry-room)
 
+  -- .. the file is then there
   pub made-there : MayMake kind p b → entryOf kind (made (freeEntry kind (b .image)) (fileBy p b) (b .image)) (fileBy p b) 0 < entries kind
   unfolding callerFile
   made-there w =
@@ -65,6 +70,7 @@ module _ (kind : Kind) (p c : ℕ) (b : Buffers) (ok : Passed kind p c b) where
   unfolding newFile
   new-legal w = name-legal (userOf (listOf b) p) (b .fcb) 17 (w .legal-new)
 
+  -- the new name under the caller's user is the new file
   pub new-is : _≡_ {A = File} (record { user = fileBy p b .user; name = new .name }) new
   unfolding callerFile newFile fileFrom
   new-is = refl
@@ -76,16 +82,19 @@ module _ (kind : Kind) (p c : ℕ) (b : Buffers) (ok : Passed kind p c b) where
       none-there kind (b .image) new 0 (w .gone-new) (k .0) (k .1)
       (record { used = k .2 .used; file = k .2 .file ∙ e ∙ new-is; extent = k .2 .extent })
 
+  -- the image with the file renamed is sound; ..
   pub renamed-of : MayRename kind p b → SoundImage kind highest (renamed kind (fileBy p b) (new .name) (b .image))
   renamed-of w = renamed-sound kind (b .image) (fileBy p b) (new .name) image-of (caller-long p (listOf b) (b .fcb)) (new-long p (listOf b) (b .fcb)) new-low
       (new-legal w) (new-none w)
 
+  -- .. only the file's entries were touched, ..
   pub renamed-touch : MayRename kind p b → Touches kind (b .image) (renamed kind (fileBy p b) (new .name) (b .image)) (fileBy p b) new
   renamed-touch w =
       subst (λ (h : File). Touches kind (b .image) (renamed kind (fileBy p b) (new .name) (b .image)) (fileBy p b) h) new-is
       (renamed-touches kind (b .image) (fileBy p b) (new .name) image-of (caller-long p (listOf b) (b .fcb)) (new-long p (listOf b) (b .fcb)) new-low
       (new-legal w) (new-none w))
 
+  -- .. and each of them is then of the new file
   pub renamed-file : MayRename kind p b → (e : ℕ) → e < entries kind → isOf (b .image) (fileBy p b) e ≡ true
       → fileAt (renamed kind (fileBy p b) (new .name) (b .image)) e ≡ new
   renamed-file w e l h =
@@ -93,7 +102,7 @@ module _ (kind : Kind) (p c : ℕ) (b : Buffers) (ok : Passed kind p c b) where
       (new-none w) e l h
       ∙ new-is
 
-  -- 34, 40, 41
+  -- 34, 40, 41: the record is written in the block that it has, or in a free one
   pub written-of : MayWrite kind p b → (zeros : Bool) (v : List ℕ) → 128 ≤ length v
       → Old kind (b .image) (imageWritten kind zeros p b v) (fileBy p b) (recordOf (b .fcb))
       ⊎ New kind (b .image) (imageWritten kind zeros p b v) (fileBy p b) (recordOf (b .fcb))
@@ -101,7 +110,7 @@ module _ (kind : Kind) (p c : ℕ) (b : Buffers) (ok : Passed kind p c b) where
       written-step kind zeros (b .image) (fileBy p b) (recordOf (b .fcb)) v image-of (caller-long p (listOf b) (b .fcb)) (let k = w .fits in omega arith)
       (own-there kind (b .image) p c b ok shape-of list-of (w .is-open)) full (w .entry-room) (w .block-room)
 
-  -- 42
+  -- 42: what the run of locks asks for is there
   pub takes-of : MayLock kind p c b → Takes kind (b .image) (listOf b) p (fileBy p b) (recordOf (b .fcb)) c
   takes-of w = record {
     process-fits = let m = ok .process-fits in omega arith;

@@ -1,4 +1,4 @@
--- An entry of 32 bytes put into an empty place: Make, and a missing extent. Assumes nothing.
+-- An entry of 32 bytes put into an empty place, by Make or for a missing extent, leaves the image sound. Assumes nothing.
 use Prim.Native.Nat.{ℕ, _+_, _*_, _/_, _%_, _≤_, _<_}
 use mathlib.Core.Path.{_≡_, refl, sym, ap, subst, _∙_}
 use mathlib.Core.Bool.{true, false}
@@ -46,6 +46,7 @@ module _ (kind : Kind) (s v : List ℕ) (n : ℕ) (g : SoundImage kind highest s
   within : Same v 0 (put (32 * n) v s) n
   within = record { at = λ k l. put-in (32 * n) v s fits k (omega arith) ∙ ap (λ (j : ℕ). byte v j) (sym (zero-add k)) }
 
+  -- an entry whose map is zeros brings no block number: those that stand there then stood there before
   pub put-stays : ((k : ℕ) → k < 16 → byte v (16 + k) ≡ 0) → (e k : ℕ) → Names kind (put (32 * n) v s) e k → Stays kind s (put (32 * n) v s) e k
   put-stays zs e k m =
       ⊎-elim
@@ -59,6 +60,7 @@ module _ (kind : Kind) (s v : List ℕ) (n : ℕ) (g : SoundImage kind highest s
       record { named = names-same kind s (put (32 * n) v s) e k (empty-same s e (put (32 * n) v s) e (head-of s e (put (32 * n) v s) e w)) y m; number = y })
       (equal? e n)
 
+  -- a good entry of a missing extent, which is 0 or whose file has its extent 0, enters: the image stays sound, and nothing is taken away
   pub entry-put : isEmpty s n ≡ true → isEmpty v 0 ≡ false → goodFields highest v 0 ≡ true
       → ((k : ℕ) → k < 16 → byte v (16 + k) ≡ 0)
       → ((d : ℕ) → d < entries kind → Is s (fileAt v 0) (extentAt v 0) d → ⊥)
@@ -94,10 +96,12 @@ module _ (kind : Kind) (s v : List ℕ) (n : ℕ) (g : SoundImage kind highest s
 
 -- ---- the lowest empty entry, and what is missing
 
+-- the lowest empty entry is empty; ..
 pub free-empty : (kind : Kind) (s : List ℕ) → freeEntry kind s < entries kind → isEmpty s (freeEntry kind s) ≡ true
 unfolding freeEntry
 free-empty kind s h = lowest-holds (isEmpty s) (entries kind) h
 
+-- .. an extent that is not found stands nowhere
 pub none-there : (kind : Kind) (s : List ℕ) (f : File) (x : ℕ) → entries kind ≤ entryOf kind s f x → (d : ℕ) → d < entries kind → Is s f x d → ⊥
 unfolding entryOf
 none-there kind s f x h d l w = never (entry-so s f x d w) (lowest-over (isEntry s f x) (entries kind) d h l)
@@ -107,6 +111,7 @@ not-229 u h = ne-eqb u 229 (λ (q : u ≡ 229). absurd (omega arith))
 
 -- ---- Make
 
+-- the low seven bits of the low seven bits are these
 pub low-low : (b : ℕ) → b % 128 % 128 ≡ b % 128
 low-low b = omega arith
 
@@ -123,11 +128,13 @@ module _ (kind : Kind) (s fcb : List ℕ) (u : ℕ) (g : SoundImage kind highest
   unfolding goodFields goodUser goodNumbers fileFrom tab legalName legalAt legalByte all
   new-good = and-both _ _ (le-leb u 15 user) (and-both _ _ (simp low-low legal) (and-both _ _ refl (and-both _ _ refl refl)))
 
+  -- Make's entry has a map of zeros; ..
   pub new-zeros : (k : ℕ) → k < 16 → byte newcomer (16 + k) ≡ 0
   unfolding fileFrom tab
   new-zeros k l =
       getD-append-add (u ∷ (tab (lowFrom fcb 1) 11 ++ replicate 4 0)) (replicate 16 0) k 0 ∙ getD-replicate 16 k 0 0 l
 
+  -- .. it enters, and nothing is taken away; ..
   pub made-change : (a m i j : ℕ) → Change kind s (made (freeEntry kind s) (fileFrom u fcb 1) s) (fileFrom u fcb 1) a m i j
   unfolding made madeEntry isEmpty fileFrom tab
   made-change a m i j =
@@ -135,7 +142,7 @@ module _ (kind : Kind) (s fcb : List ℕ) (u : ℕ) (g : SoundImage kind highest
       (entry-put kind s newcomer (freeEntry kind s) g room refl (free-empty kind s room) (not-229 u user) new-good new-zeros
       (rw new-file (none-there kind s (fileFrom u fcb 1) 0 gone)) (inl refl) a m i j)
 
-  -- the new entry, as it stands there
+  -- .. it is then extent 0 of the file
   pub made-is : Is (made (freeEntry kind s) (fileFrom u fcb 1) s) (fileFrom u fcb 1) 0 (freeEntry kind s)
   unfolding made madeEntry isEmpty fileFrom tab
   made-is =
@@ -196,10 +203,11 @@ module _ (kind : Kind) (s : List ℕ) (f : File) (x : ℕ) (g : SoundImage kind 
   unfolding newEntry isEmpty
   ext-used = not-229 (f .user) user-fits
 
+  -- a missing extent's entry brings no block number; ..
   pub entered-stays : (e k : ℕ) → Names kind (put (32 * freeEntry kind s) fresh s) e k → Stays kind s (put (32 * freeEntry kind s) fresh s) e k
   entered-stays = put-stays kind s fresh (freeEntry kind s) g room ext-long ext-zeros
 
-  -- the new entry, as it stands there
+  -- .. it is then that extent of the file; ..
   pub entered-is : Is (put (32 * freeEntry kind s) fresh s) f x (freeEntry kind s)
   entered-is =
       let t = put (32 * freeEntry kind s) fresh s in
@@ -210,6 +218,7 @@ module _ (kind : Kind) (s : List ℕ) (f : File) (x : ℕ) (g : SoundImage kind 
         extent = extent-same fresh 0 t (freeEntry kind s) h ∙ ext-extent;
       }
 
+  -- .. it enters, and nothing is taken away
   pub entered-change : (a m i j : ℕ) → Change kind s (put (32 * freeEntry kind s) fresh s) f a m i j
   entered-change a m i j =
       subst (λ (h : File). Change kind s (put (32 * freeEntry kind s) fresh s) h a m i j) ext-file

@@ -1,4 +1,4 @@
--- Delete. Assumes nothing.
+-- Delete empties the file's entries and leaves the image sound. Assumes nothing.
 use Prim.Native.Nat.{ℕ, _+_, _*_, _≤_, _<_}
 use mathlib.Core.Path.{_≡_, refl, sym, ap, _∙_}
 use mathlib.Core.Bool.{true, false}
@@ -66,17 +66,19 @@ module _ (kind : Kind) (s : List ℕ) (f : File) (g : SoundImage kind highest s)
       }))
       (λ (y : isOf s f e ≡ false). rw (erase-same s e y, erase-same t e (o ∙ y)) h) (either (isOf s f e))
 
+  -- Delete has gone over all entries
   pub all-erased : Turned kind (erasedAt f) s (entries kind) (erased kind f s)
   unfolding erased
   all-erased = turned kind (erasedAt f) s erase-long erase-frame erase-local erase-beyond (entries kind) (omega arith)
 
-  -- the file's entries are empty, the others as they were
+  -- the file's entries are empty, ..
   pub erased-gone : (e : ℕ) → e < entries kind → isOf s f e ≡ true → isEmpty (erased kind f s) e ≡ true
   unfolding isEmpty
   erased-gone e l h =
       let w : Same (set s (32 * e) 229) e (erased kind f s) e = rw (erase-it s e h) at (all-erased .done e l l) in
       eq-eqb _ _ (first (set s (32 * e) 229) e (erased kind f s) e (head-of (set s (32 * e) 229) e (erased kind f s) e w) ∙ set-first s e l refl)
 
+  -- .. the others as they were;
   pub erased-kept : (e : ℕ) → e < entries kind → isOf s f e ≡ false → Same s e (erased kind f s) e
   erased-kept e l h = rw (erase-same s e h) at (all-erased .done e l l)
 
@@ -89,11 +91,13 @@ module _ (kind : Kind) (s : List ℕ) (f : File) (g : SoundImage kind highest s)
   files : (e : ℕ) → e < entries kind → isEmpty (erased kind f s) e ≡ false → fileAt (erased kind f s) e ≡ fileAt s e
   files e l u = file-same s e (erased kind f s) e (heads e l u)
 
+  -- block numbers stay or go, ..
   pub erased-stays : (e k : ℕ) → Names kind (erased kind f s) e k → Stays kind s (erased kind f s) e k
   erased-stays e k n =
       let w = still e (n .entry-there) (n .entry-used) in
       stays-same kind s (erased kind f s) e k (head-of s e (erased kind f s) e w) (map-same kind s (erased kind f s) e k w (n .place-there)) n
 
+  -- .. the image is sound, ..
   pub erased-sound : SoundImage kind highest (erased kind f s)
   erased-sound =
       let t = erased kind f s in
@@ -111,6 +115,7 @@ module _ (kind : Kind) (s : List ℕ) (f : File) (g : SoundImage kind highest s)
         maps = fewer kind s t (all-erased .len) erased-stays (g .maps);
       }
 
+  -- .. and no other file's entry was touched
   pub erased-touches : Touches kind s (erased kind f s) f f
   erased-touches = record {
     long = all-erased .len;

@@ -17,6 +17,7 @@ use Rattle.soundness.proofs.Blocks.{At, at-of, of-at, at-grown, is-grow
 module _ (kind : Kind) (s t : List ℕ) (l : LockList) (g : SoundLocks kind l s)
     (files : (i : ℕ) → i < 64 → GoodOpen kind s l (itemAt l i) → entryOf kind t (fileOf l (itemAt l i)) 0 < entries kind)
     (blocks : (i : ℕ) → i < 64 → GoodLock kind s l (itemAt l i) → blockOf kind t (fileOf l (itemAt l i)) (itemAt l i .number) ≡ 0 → ⊥) where
+  -- a list stays sound where each open still has its file, and the record of each lock a block, ..
   pub follow : SoundLocks kind l t
   follow = record {
     limits = g .limits;
@@ -52,13 +53,14 @@ module _ (kind : Kind) (s t : List ℕ) (l : LockList) (h : Shape l) (a : SoundI
       → blockOf kind t (fileOf l (itemAt l i)) (itemAt l i .number) ≡ 0 → ⊥
   block-so i m b w z = w .some (sym (of-at kind t (fileOf l (itemAt l i)) (itemAt l i .number) b (h .names-long i m) a w) ∙ z)
 
+  -- .. as where nothing is taken away ..
   pub follow-grown : Grown kind s t → SoundLocks kind l t
   follow-grown w =
       follow kind s t l g
       (λ i m o. there-so i m _ (o .there) (is-grown kind s t _ 0 _ w (o .there) (found-is kind s (fileOf l (itemAt l i)) 0 (h .names-long i m) (o .there))))
       (λ i m o. block-so i m _ (at-grown kind s t _ _ _ w (at-of kind s (fileOf l (itemAt l i)) (itemAt l i .number) (h .names-long i m) (o .block))))
 
-  -- an image in which no item's file was touched
+  -- .. or no item's file was touched
   pub follow-touched : (f k : File) → Touches kind s t f k
       → ((i : ℕ) → i < 64 → GoodOpen kind s l (itemAt l i) ⊎ GoodLock kind s l (itemAt l i) → fileOf l (itemAt l i) ≡ f → ⊥) → SoundLocks kind l t
   follow-touched f k w n =

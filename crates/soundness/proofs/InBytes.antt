@@ -9,7 +9,7 @@ use lib.ListN.{take, replicate}
 use lib.Dec.{eqb}
 use borrow.Author.Tests.{eqb-true, leb-true, ltb-true}
 use Rattle.words.specs.Tests.{_if_else_}
-use Rattle.words.specs.Tables.{firstOf, anyRow}
+use Rattle.words.specs.Tables.{anyRow}
 use Rattle.words.specs.Lists.{tab}
 use Rattle.words.specs.Bytes.{byte, byteFrom, lowFrom, le, areBytes}
 use Rattle.words.proofs.Tests.{either, all-at, and-fst, and-snd}
@@ -24,7 +24,7 @@ use Rattle.rules.specs.declared.spot.Spot.{Spot}
 use Rattle.rules.specs.declared.routine.Routine.the-variants.{Open, Close, Delete, Make, Rename, Read, Write, WriteZeros, TestWrite, Lock, Unlock, FreeSpace, Terminate}
 use Rattle.rules.specs.declared.routine.Chosen.{Chosen}
 use Rattle.rules.specs.declared.routine.Chosen.the-variants.{Call, Unknown}
-use Rattle.rules.specs.Serves.{Buffers, Outcome, outcome, chosen}
+use Rattle.rules.specs.Serves.{Buffers, Outcome, chosen}
 use Rattle.rules.specs.Drive.{nameAt, recordAt, blockIn, fileFrom}
 use Rattle.rules.specs.Locks.{blank, isOpened, itemAt, userOf, firstMark, secondMark, packItem, pack, unpack, isLimit, isUser, isLow, isZero, goodEmpty}
 use Rattle.rules.specs.Asks.{callerFile, newFile, recordOf}
@@ -165,6 +165,7 @@ module _ (kind : Kind) (l : LockList) (s : List ℕ) (g : SoundLocks kind l s) (
   place-small : (i : ℕ) → i < 64 → Small (itemAt l i)
   place-small i m = ⊎-elim (λ (w : Vacant l i). vacant-small (itemAt l i) (w .zeros)) (used-small i) (g .place i m)
 
+  -- a sound list, packed, is bytes
   pub pack-bytes : areBytes (pack l) ≡ true
   unfolding pack isLimit isUser
   pack-bytes =
@@ -237,12 +238,10 @@ module _ (kind : Kind) (n p c : ℕ) (b : Buffers) (w : InBytes b) where
   dma-left : areBytes (call kind n p c b .left .dma) ≡ true
   dma-left =
       ⊎-elim
-      (λ (h : anyRow (rowsCall kind n p c b) ≡ true). rw (refused-so h) (w .dma-bytes))
+      (λ (h : anyRow (rowsCall kind n p c b) ≡ true). rw (Rattle.rules.proofs.Tables.refused kind n p c b h) (w .dma-bytes))
       (λ (h : anyRow (rowsCall kind n p c b) ≡ false). rw (accepted kind n p c b h) (dma-done (chosen n) (asked kind p c b)))
       (either (anyRow (rowsCall kind n p c b)))
-    where
-      refused-so : anyRow (rowsCall kind n p c b) ≡ true → call kind n p c b ≡ outcome (firstOf (rowsCall kind n p c b)) b
-      refused-so = Rattle.rules.proofs.Tables.refused kind n p c b
 
+  -- a call that is lent bytes leaves bytes
   pub call-bytes : InBytes (call kind n p c b .left)
   call-bytes = let z = left kind n p c b in record { dma-bytes = dma-left; list-bytes = list-left _ _ (z .list); image-bytes = image-left _ (z .image) }

@@ -83,6 +83,7 @@ module _ (kind : Kind) (p c : ℕ) (b : Buffers) (g : SoundBoth kind (b .list) (
   both t list i (run-set ok w) = packed kind _ _ (locked-shape kind p c b ok w) (g .image-sound)
   both t list i (emptied ok away turn e w own) = packed kind _ _ (emptied-shape kind p c b ok away turn e w) (g .image-sound)
 
+-- what was sound before a call is sound after it, ..
 pub call-sound : (kind : Kind) (n p c : ℕ) (b : Buffers) → SoundBoth kind (b .list) (b .image)
     → SoundBoth kind (call kind n p c b .left .list) (call kind n p c b .left .image)
 call-sound kind n p c b g = let w = left kind n p c b in both kind p c b g _ _ (w .image) (w .list)
@@ -97,5 +98,6 @@ module _ (kind : Kind) (n p : ℕ) (b : Buffers) where
   steps-sound c g (stopped i b′ w z) k = steps-sound i (run 0 i b′) w k
   steps-sound c g (idle i x w z) k = steps-sound i x w k
 
+  -- .. and after a run of records
   pub several-sound : (c : ℕ) → SoundBoth kind (b .list) (b .image) → SoundBoth kind (several kind n p c b .left .list) (several kind n p c b .left .image)
   several-sound c k = steps-sound c (several kind n p c b) (steps kind n p b c) k

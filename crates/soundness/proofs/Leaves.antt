@@ -22,19 +22,23 @@ use Rattle.rules.specs.Codes.{standsAgainstAt, isNew}
 use Rattle.rules.proofs.Passed.{Passed}
 use Rattle.rules.specs.Effects.{accept, opened, made, erased, renamed, written, spotAt, closed, lockedRun, unlockedRun, terminated}
 
+-- the list as its buffer has it, ..
 abbrev pub listOf : Buffers → LockList
 listOf b = unpack (b .list)
 
+-- .. the caller's file, ..
 abbrev pub fileBy : ℕ → Buffers → File
 fileBy p b = callerFile p (unpack (b .list)) (b .fcb)
 
+-- .. and (23) the file under its new name
 abbrev pub newBy : ℕ → Buffers → File
 newBy p b = newFile p (unpack (b .list)) (b .fcb)
 
--- the place of the caller's open of its file
+-- the place of the caller's open of its file, ..
 abbrev pub openBy : ℕ → Buffers → ℕ
 openBy p b = openOf (unpack (b .list)) p (callerFile p (unpack (b .list)) (b .fcb))
 
+-- .. and the mode of that open
 abbrev pub modeBy : ℕ → Buffers → ℕ
 modeBy p b = itemAt (unpack (b .list)) (openOf (unpack (b .list)) p (callerFile p (unpack (b .list)) (b .fcb))) .mode
 
@@ -99,6 +103,7 @@ pub record Idle (p : ℕ) (b : Buffers) : Type 0 where
   pub not-unlocked : modeBy p b ≡ 1 → ⊥
 
 -- ---- the image after a write, from the DMA's bytes v
+-- the image with the call's record written, from the bytes v
 abbrev pub imageWritten : Kind → Bool → ℕ → Buffers → List ℕ → List ℕ
 imageWritten kind zeros p b v =
     written kind zeros (spotAt kind (b .image) (entryOf kind (b .image) (fileBy p b) (recordOf (b .fcb) / 128)) (recordOf (b .fcb)))

@@ -43,6 +43,7 @@ pub data ImageLeft (kind : Kind) (p c : ℕ) (b : Buffers) : List ℕ → Type 0
   file-erased : Passed kind p c b → MayDelete kind p b → ImageLeft kind p c b (erased kind (fileBy p b) (b .image))
   file-renamed : Passed kind p c b → MayRename kind p b → ImageLeft kind p c b (renamed kind (fileBy p b) (newBy p b .name) (b .image))
 
+-- of an outcome, both
 pub record Left (kind : Kind) (p c : ℕ) (b : Buffers) (o : Outcome) : Type 0 where
   pub list : ListLeft kind p c b (o .left .image) (o .left .list)
   pub image : ImageLeft kind p c b (o .left .image)
@@ -89,5 +90,6 @@ module _ (kind : Kind) (n p c : ℕ) (b : Buffers) where
   left-by o (nowTold k ok dma) = record { list = list-same _; image = image-same }
   left-by o (nowEnded k ok) = record { list = emptied ok _ _ (end-empties p) (end-whole (listOf b) p) (λ it h. eqb-true _ _ h); image = image-same }
 
+  -- every call leaves one of these
   pub left : Left kind p c b (call kind n p c b)
   left = left-by _ (walk kind n p c b)

@@ -1,3 +1,4 @@
+-- Sound stays sound, and bytes stay bytes: what each change of the image and of the list leaves, and that every call makes one of these. Assumes nothing.
 pub mod Numbers
 pub mod Steps
 pub mod Changes
@@ -9,7 +10,6 @@ pub mod Erased
 pub mod Renamed
 pub mod Blocks
 pub mod Leaves
-pub mod Passed
 pub mod Walk
 pub mod Placed
 pub mod Emptied

@@ -20,6 +20,7 @@ use Rattle.rules.proofs.Sizes.{map-small, map-large}
 
 -- ---- the numbers lean on bytes 16 to 31 alone
 
+-- where bytes 16 to 31 are the same, the numbers are
 pub map-later : (kind : Kind) (s t : List ℕ) (e k : ℕ) → k < numbers kind
     → ((i : ℕ) → 16 ≤ i → i < 32 → byte t (32 * e + i) ≡ byte s (32 * e + i)) → mapNumber kind t e k ≡ mapNumber kind s e k
 unfolding numbers
@@ -56,6 +57,7 @@ module _ (at : ℕ) (v s : List ℕ) (fits : at + length v ≤ length s) where
 abbrev pub numbered : Kind → ℕ → ℕ → ℕ → List ℕ → List ℕ
 numbered kind n q b s = put (mapAt kind n q) (le (width kind) b) s
 
+-- the number stands in its place, ..
 pub number-there : (kind : Kind) (s : List ℕ) (n q b : ℕ) → 32 * n + 32 ≤ length s → q < numbers kind → b < most kind
     → mapNumber kind (numbered kind n q b s) n q ≡ b
 unfolding numbers most width le
@@ -70,6 +72,7 @@ number-there Large s n q b fits l h =
     let y : byte (put at v s) (at + 1) ≡ b / 256 % 256 = put-in at v s (omega arith) 1 (omega arith) in
     rw (← map-large (put at v s) n q, x, y) (omega arith)
 
+-- .. in every other place the one that stood there; ..
 pub number-else : (kind : Kind) (s : List ℕ) (n q b e k : ℕ) → 32 * n + 32 ≤ length s → q < numbers kind → k < numbers kind
     → ((e ≡ n) × (k ≡ q) → ⊥) → mapNumber kind (numbered kind n q b s) e k ≡ mapNumber kind s e k
 unfolding numbers width le
@@ -101,10 +104,12 @@ module _ (kind : Kind) (s : List ℕ) (n q b : ℕ) (fits : 32 * n + 32 ≤ leng
   inside : mapAt kind n q + length (le (width kind) b) ≤ length s
   inside = let w = number-fits kind n q b short in omega arith
 
+  -- .. bytes outside of the entry's map stay, ..
   pub number-out : (i : ℕ) → (i < 32 * n + 16) ⊎ (32 * n + 32 ≤ i) → byte (numbered kind n q b s) i ≡ byte s i
   number-out i c =
       put-out (mapAt kind n q) (le (width kind) b) s inside i
       (⊎-elim (λ (h : i < 32 * n + 16). inl (omega arith)) (λ (h : 32 * n + 32 ≤ i). let w = number-fits kind n q b short in inr (omega arith)) c)
 
+  -- .. and so does the length
   pub number-long : length (numbered kind n q b s) ≡ length s
   number-long = length-put (mapAt kind n q) (le (width kind) b) s inside

@@ -1,4 +1,4 @@
--- One empty place set. Assumes nothing.
+-- One empty place set to an item that fits leaves the list sound. Assumes nothing.
 use Prim.Native.Nat.{ℕ, _+_, _<_}
 use mathlib.Core.Path.{_≡_, refl, sym, ap, subst, _∙_}
 use mathlib.Core.Bool.{true, false}
@@ -17,13 +17,46 @@ use Rattle.rules.specs.declared.item.Item.{Item}
 use Rattle.rules.specs.declared.list.LockList.{LockList}
 use Rattle.rules.specs.Locks.{blank, itemAt, withItems, fileOf, opensName, isKindBy, isKindByAt, opensBy, locksBy, isEmptyAt, freePlace, sameFile, clash, clashAt, keepsLimits}
 use Rattle.rules.proofs.Items.{clash-at-sym}
-use Rattle.rules.proofs.SoundList.{Shape, Holder, GoodOpen, GoodLock, isPlain, Used, Vacant, SoundLocks, capacity-fits}
+use Rattle.rules.proofs.SoundList.{Shape, Holder, GoodOpen, GoodLock, isPlain, Used, Vacant, Limits, SoundLocks, capacity-fits}
+
+-- ---- a list with other items
+
+module _ (l : LockList) (xs : List Item) where
+  -- its limits are as good as before; ..
+  pub limits-with : Limits l → Limits (withItems l xs)
+  limits-with g = record { capacity-good = g .capacity-good; open-good = g .open-good; lock-good = g .lock-good; users-good = g .users-good }
+
+  module _ (kind : Kind) (s : List ℕ) where
+    -- .. so is an item, a lock if its process still has that file open unlocked, ..
+    pub good-with : (x : Item) → (GoodLock kind s l x → Holder (withItems l xs) (x .process) (x .name))
+        → GoodOpen kind s l x ⊎ GoodLock kind s l x → GoodOpen kind s (withItems l xs) x ⊎ GoodLock kind s (withItems l xs) x
+    good-with x holder c =
+        ⊎-elim (λ (o : GoodOpen kind s l x). inl (record { kind-one = o .kind-one; mode-fits = o .mode-fits; number-zero = o .number-zero; there = o .there }))
+        (λ (o : GoodLock kind s l x). inr (record { kind-two = o .kind-two; mode-one = o .mode-one; holder = holder o; block = o .block })) c
+
+    -- .. and a place whose item stays
+    pub place-with : (i : ℕ) → itemAt (withItems l xs) i ≡ itemAt l i
+        → (GoodLock kind s l (itemAt l i) → Holder (withItems l xs) (itemAt l i .process) (itemAt l i .name))
+        → Vacant l i ⊎ Used kind s l i → Vacant (withItems l xs) i ⊎ Used kind s (withItems l xs) i
+    place-with i q holder c =
+        let e : itemAt l i ≡ itemAt (withItems l xs) i = sym q in
+        ⊎-elim
+        (λ (v : Vacant l i). inl (record { kind-zero = rw (← e) (v .kind-zero); zeros = rw (← e) (v .zeros) }))
+        (λ (v : Used kind s l i). inr (record {
+          below = v .below;
+          plain = rw (← e) (v .plain);
+          good = subst (λ (x : Item). GoodOpen kind s (withItems l xs) x ⊎ GoodLock kind s (withItems l xs) x) e (good-with (itemAt l i) holder (v .good));
+        }))
+        c
+
+-- ---- one place set
 
 -- a place below the capacity that holds nothing
 pub record Room (l : LockList) (j : ℕ) : Type 0 where
   pub below : j < l .capacity
   pub empty : itemAt l j .kind ≡ 0
 
+-- the lowest empty place is such a place, where there is one
 pub free-room : (l : LockList) → freePlace l < l .capacity → Room l (freePlace l)
 unfolding freePlace isEmptyAt
 free-room l h = record { below = h; empty = eqb-true _ _ (lowest-holds (isEmptyAt l) (l .capacity) h) }
@@ -32,12 +65,15 @@ module _ (l : LockList) (j : ℕ) (it : Item) (h : Shape l) (inside : j < 64) wh
   abbrev now : LockList
   now = withItems l (set (l .items) j it)
 
+  -- the place holds the item, ..
   pub at-here : itemAt now j ≡ it
   at-here = getD-set-same (l .items) j it blank (let k = h .items-long in omega arith)
 
+  -- .. every other what it held; ..
   pub at-other : (i : ℕ) → (i ≡ j → ⊥) → itemAt now i ≡ itemAt l i
   at-other i q = getD-set-other (l .items) j i it blank q
 
+  -- .. the list keeps its shape
   pub set-shape : length (it .name) ≡ 11 → Shape now
   set-shape n = record {
     users-long = h .users-long;
@@ -56,7 +92,7 @@ module _ (l : LockList) (j : ℕ) (it : Item) (h : Shape l) (inside : j < 64) wh
         absurd (omega arith) in
         record { place = o .place; below = o .below; opens = rw (at-other (o .place) q) (o .opens); mode = rw (at-other (o .place) q) (o .mode) }
 
-    -- how many of a kind a process has
+    -- a process has as many items of a kind as before, where the new one is none of these, ..
     pub kind-count : (k p : ℕ) → (k ≡ 0 → ⊥) → isKindBy k p it ≡ false → count (isKindByAt now k p) 64 ≡ count (isKindByAt l k p) 64
     unfolding isKindByAt isKindBy
     kind-count k p n none =
@@ -64,6 +100,7 @@ module _ (l : LockList) (j : ℕ) (it : Item) (h : Shape l) (inside : j < 64) wh
         (λ (q : i ≡ j). rw (q, at-here, none) (sym (and-left _ _ (ne-eqb _ _ (λ (z : itemAt l j .kind ≡ k). n (sym z ∙ empty))))))
         (λ (q : i ≡ j → ⊥). rw (at-other i q) refl) (equal? i j))
 
+    -- .. and one more where it is
     pub kind-more : (k p : ℕ) → (k ≡ 0 → ⊥) → isKindBy k p it ≡ true → count (isKindByAt now k p) 64 ≡ count (isKindByAt l k p) 64 + 1
     unfolding isKindByAt isKindBy
     kind-more k p n some =
@@ -87,15 +124,8 @@ module _ (kind : Kind) (s : List ℕ) (l : LockList) (j : ℕ) (it : Item) (h : 
   abbrev after : LockList
   after = withItems l (set (l .items) j it)
 
-  good-after : (x : Item) → GoodOpen kind s l x ⊎ GoodLock kind s l x → GoodOpen kind s after x ⊎ GoodLock kind s after x
-  good-after x c =
-      ⊎-elim (λ (o : GoodOpen kind s l x). inl (record { kind-one = o .kind-one; mode-fits = o .mode-fits; number-zero = o .number-zero; there = o .there }))
-      (λ (o : GoodLock kind s l x). inr (record {
-        kind-two = o .kind-two;
-        mode-one = o .mode-one;
-        holder = holder-set l j it h inside (r .empty) (x .process) (x .name) (o .holder);
-        block = o .block;
-      })) c
+  holder-after : (x : Item) → GoodLock kind s l x → Holder after (x .process) (x .name)
+  holder-after x o = holder-set l j it h inside (r .empty) (x .process) (x .name) (o .holder)
 
   place-after : (i : ℕ) → i < 64 → Vacant after i ⊎ Used kind s after i
   place-after i m =
@@ -105,18 +135,10 @@ module _ (kind : Kind) (s : List ℕ) (l : LockList) (j : ℕ) (it : Item) (h : 
       inr (record {
         below = rw q (r .below);
         plain = rw e at (w .plain);
-        good = subst (λ (x : Item). GoodOpen kind s after x ⊎ GoodLock kind s after x) e (good-after it (w .good));
+        good = subst (λ (x : Item). GoodOpen kind s after x ⊎ GoodLock kind s after x) e
+            (good-with l (set (l .items) j it) kind s it (holder-after it) (w .good));
       }))
-      (λ (q : i ≡ j → ⊥).
-      let e : itemAt l i ≡ itemAt after i = sym (at-other l j it h inside i q) in
-      ⊎-elim
-      (λ (v : Vacant l i). inl (record { kind-zero = rw (← e) (v .kind-zero); zeros = rw (← e) (v .zeros) }))
-      (λ (v : Used kind s l i). inr (record {
-        below = v .below;
-        plain = rw (← e) (v .plain);
-        good = subst (λ (x : Item). GoodOpen kind s after x ⊎ GoodLock kind s after x) e (good-after (itemAt l i) (v .good));
-      }))
-      (g .place i m))
+      (λ (q : i ≡ j → ⊥). place-with l (set (l .items) j it) kind s i (at-other l j it h inside i q) (holder-after (itemAt l i)) (g .place i m))
       (equal? i j)
 
   here-apart : (i : ℕ) → i < 64 → (i ≡ j → ⊥) → clashAt after j i ≡ false
@@ -150,14 +172,10 @@ module _ (kind : Kind) (s : List ℕ) (l : LockList) (j : ℕ) (it : Item) (h : 
       (λ (q : isKindBy 2 p it ≡ false). rw (kind-count l j it h inside (r .empty) 2 p (λ (z : 2 ≡ 0). absurd (omega arith)) q) (and-snd _ _ k))
       (either (isKindBy 2 p it)))
 
+  -- an item that fits leaves the list sound
   pub set-sound : SoundLocks kind after s
   set-sound = record {
-    limits = record {
-      capacity-good = g .limits .capacity-good;
-      open-good = g .limits .open-good;
-      lock-good = g .limits .lock-good;
-      users-good = g .limits .users-good;
-    };
+    limits = limits-with l (set (l .items) j it) (g .limits);
     place = place-after;
     apart = apart-after;
     keeps = keeps-after;

@@ -1,4 +1,4 @@
--- Rename. Assumes nothing.
+-- Rename gives the file's entries the new name and leaves the image sound. Assumes nothing.
 use Prim.Native.Nat.{ℕ, zero, suc, _+_, _*_, _/_, _%_, _≤_, _<_}
 use mathlib.Core.Path.{_≡_, refl, sym, ap, _∙_}
 use mathlib.Core.Bool.{true, false, not}
@@ -112,10 +112,12 @@ module _ (kind : Kind) (s : List ℕ) (f : File) (name : List ℕ) (g : SoundIma
       (λ (y : isOf s f e ≡ true). rw (change s e y, change t e (o ∙ y)) (fresh-local kind name s t e l w (omega (arith, w)) h))
       (λ (y : isOf s f e ≡ false). rw (leave s e y, leave t e (o ∙ y)) h) (either (isOf s f e))
 
+  -- Rename has gone over all entries
   pub all-renamed : Turned kind (renamedAt f name) s (entries kind) (renamed kind f name s)
   unfolding renamed
   all-renamed = turned kind (renamedAt f name) s at-long at-frame at-local at-beyond (entries kind) (omega arith)
 
+  -- entries of other files stay as they were; ..
   pub renamed-kept : (e : ℕ) → e < entries kind → isOf s f e ≡ false → Same s e (renamed kind f name s) e
   renamed-kept e l h = rw (leave s e h) at (all-renamed .done e l l)
 
@@ -137,13 +139,16 @@ module _ (kind : Kind) (s : List ℕ) (f : File) (name : List ℕ) (g : SoundIma
   zeroth : (e : ℕ) → e < entries kind → byte (renamed kind f name s) (32 * e) ≡ byte s (32 * e)
   zeroth e l = sym (at-zero (renamed kind f name s) e) ∙ outside e 0 l (omega arith) (inl refl) ∙ at-zero s e
 
+  -- .. those in use stay in use and the empty ones empty, ..
   pub renamed-empty : (e : ℕ) → e < entries kind → isEmpty (renamed kind f name s) e ≡ isEmpty s e
   unfolding isEmpty
   renamed-empty e l = rw (zeroth e l)
 
+  -- .. each with its extent ..
   pub renamed-extent : (e : ℕ) → e < entries kind → extentAt (renamed kind f name s) e ≡ extentAt s e
   renamed-extent e l = rw (outside e 12 l (omega arith) (inr (omega arith)), outside e 14 l (omega arith) (inr (omega arith)))
 
+  -- .. and its block numbers
   pub renamed-number : (e k : ℕ) → e < entries kind → k < numbers kind → mapNumber kind (renamed kind f name s) e k ≡ mapNumber kind s e k
   renamed-number e k l m = map-later kind s (renamed kind f name s) e k m (λ i u v. outside e i l v (inr (omega arith)))
 
@@ -158,6 +163,7 @@ module _ (kind : Kind) (s : List ℕ) (f : File) (name : List ℕ) (g : SoundIma
         ∙ fresh-in kind name s e l w k m in
         omega arith
 
+    -- the file's entries are then of the new name under the same user, ..
     pub renamed-new : (e : ℕ) → e < entries kind → isOf s f e ≡ true → fileAt (renamed kind f name s) e ≡ record { user = f .user; name = name }
     unfolding fileAt fileFrom
     renamed-new e l h =
@@ -165,6 +171,7 @@ module _ (kind : Kind) (s : List ℕ) (f : File) (name : List ℕ) (g : SoundIma
         let n = tab-ext (lowFrom (renamed kind f name s) (nameAt e)) (λ (k : ℕ). getD name k 0) 11 (low-now e l h) ∙ tab-getD name 0 11 nsize in
         λ i. record { user = u i; name = n i }
 
+    -- .. the others of the file that they were of;
     pub renamed-old : (e : ℕ) → e < entries kind → isOf s f e ≡ false → fileAt (renamed kind f name s) e ≡ fileAt s e
     renamed-old e l h = file-same s e (renamed kind f name s) e (head-of s e (renamed kind f name s) e (renamed-kept e l h))
 
@@ -194,6 +201,7 @@ module _ (kind : Kind) (s : List ℕ) (f : File) (name : List ℕ) (g : SoundIma
         )
         (λ (h : isOf s f e ≡ false). fields-same s e (renamed kind f name s) e (renamed-kept e l h) g′) (either (isOf s f e))
 
+    -- the block numbers that stand there then stood there before, ..
     pub renamed-stays : (e k : ℕ) → Names kind (renamed kind f name s) e k → Stays kind s (renamed kind f name s) e k
     renamed-stays e k n =
         let y = renamed-number e k (n .entry-there) (n .place-there) in
@@ -221,6 +229,7 @@ module _ (kind : Kind) (s : List ℕ) (f : File) (name : List ℕ) (g : SoundIma
         (λ (b : isOf s f e ≡ false). renamed-old d k a ∙ q ∙ sym (renamed-old e l b)) (either (isOf s f e)))
         (either (isOf s f d))
 
+    -- .. the image is sound, ..
     pub renamed-sound : SoundImage kind highest (renamed kind f name s)
     renamed-sound =
         let t = renamed kind f name s in
@@ -233,6 +242,7 @@ module _ (kind : Kind) (s : List ℕ) (f : File) (name : List ℕ) (g : SoundIma
           maps = fewer kind s t (all-renamed .len) renamed-stays (g .maps);
         }
 
+    -- .. and no other file's entry was touched
     pub renamed-touches : Touches kind s (renamed kind f name s) f (record { user = f .user; name = name })
     renamed-touches = record {
       long = all-renamed .len;

@@ -117,6 +117,7 @@ module _ (kind : Kind) (s : List ℕ) (l₀ : LockList) (p : ℕ) (f : File) (r 
           let c = t .room in
           omega (arith, new-count)
 
+      -- a record that the process does not hold yet has a place left for it
       pub run-room : freePlace l < l₀ .capacity
       unfolding freePlace freePlaces
       run-room = lowest-below (isEmptyAt l) (l₀ .capacity) (count-any (isEmptyAt l) (l₀ .capacity) some-free)
@@ -235,6 +236,7 @@ module _ (kind : Kind) (s : List ℕ) (l₀ : LockList) (p : ℕ) (f : File) (r 
       locks = let a = w .locks in omega arith;
     }
 
+  -- after each record of the run the list is sound, and holds the locks so far
   pub running : (k : ℕ) → k ≤ n → Running kind s l₀ p f r k
   unfolding turns count
   running zero m = record {

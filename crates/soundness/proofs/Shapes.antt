@@ -1,5 +1,6 @@
 -- A list after each change of it: its shape, and that it is sound. Assumes nothing.
 use Prim.Native.Nat.{ℕ, _<_}
+use mathlib.Core.Path.{sym, subst}
 use mathlib.Core.Bool.{Bool}
 use mathlib.Core.List.{List, map}
 use native.Mathlib.Omega.{arith}
@@ -8,10 +9,10 @@ use Rattle.rules.specs.declared.item.Item.{Item}
 use Rattle.rules.specs.declared.list.LockList.{LockList}
 use Rattle.rules.specs.Serves.{Buffers}
 use Rattle.rules.specs.Drive.{freeEntry}
-use Rattle.rules.specs.Locks.{freshOpen, freePlace, withItems}
+use Rattle.rules.specs.Locks.{freshOpen, freePlace, withItems, unpack, pack}
 use Rattle.rules.specs.Asks.{recordOf, openMode, makeMode}
 use Rattle.rules.specs.Effects.{placed, opened, made, lockedRun}
-use Rattle.rules.proofs.SoundList.{Shape, SoundLocks, capacity-fits}
+use Rattle.rules.proofs.SoundList.{Shape, SoundLocks, capacity-fits, unpacked}
 use Rattle.rules.proofs.Passed.{Passed}
 use Rattle.soundness.proofs.Placed.{free-room, Fits, set-shape, set-sound}
 use Rattle.soundness.proofs.Emptied.{Empties, Whole, gone-shape, gone-sound}
@@ -21,9 +22,14 @@ use Rattle.soundness.proofs.Taken.{mayopen-fits, maymake-fits}
 use Rattle.soundness.proofs.Leaves.{listOf, fileBy, MayOpen, MayMake, MayLock}
 use Rattle.soundness.proofs.Ends.{shape-of, list-of, made-of, made-there, takes-of}
 
+-- the list has its shape and is sound
 pub record SoundShape (kind : Kind) (l : LockList) (s : List ℕ) : Type 0 where
   pub shape : Shape l
   pub sound : SoundLocks kind l s
+
+-- what holds of such a list holds of what its bytes read as
+pub packed : (P : LockList → Type 0) (kind : Kind) (l : LockList) (s : List ℕ) → SoundShape kind l s → P l → P (unpack (pack l))
+packed P kind l s h w = subst P (sym (unpacked kind l s (h .sound) (h .shape))) w
 
 module _ (kind : Kind) (p c : ℕ) (b : Buffers) (ok : Passed kind p c b) where
   -- a new open against an image s that has the file
@@ -41,11 +47,12 @@ module _ (kind : Kind) (p c : ℕ) (b : Buffers) (ok : Passed kind p c b) where
       inside : SoundLocks kind (listOf b) s → freePlace (listOf b) < 64
       inside g = let c = capacity-fits (listOf b) (g .limits) in omega arith
 
-  -- a new open, of a file that is there and of one just made
+  -- the list has its shape and is sound with a new open of a file that is there, ..
   pub opened-shape : MayOpen kind p b → SoundShape kind (opened p (fileBy p b) (openMode (b .fcb)) (listOf b)) (b .image)
   opened-shape w = open-put (b .image) (openMode (b .fcb)) (list-of kind p c b ok) (w .room)
       (mayopen-fits kind (b .image) p c b ok (list-of kind p c b ok) w (w .there))
 
+  -- .. or of one just made, ..
   pub made-shape : MayMake kind p b → SoundShape kind (opened p (fileBy p b) (makeMode (b .fcb)) (listOf b))
       (made (freeEntry kind (b .image)) (fileBy p b) (b .image))
   made-shape w =
@@ -55,7 +62,7 @@ module _ (kind : Kind) (p c : ℕ) (b : Buffers) (ok : Passed kind p c b) where
       open-put t (makeMode (b .fcb)) g (w .room) (maymake-fits kind t p c b ok g (b .image) (shape-of kind p c b ok) (list-of kind p c b ok) (w .gone) w
       (made-there kind p c b ok w))
 
-  -- places emptied
+  -- .. with places emptied, ..
   pub emptied-shape : (away : Item → Bool) (turn : Item → Item) → Empties away turn → Whole (listOf b) away
       → SoundShape kind (withItems (listOf b) (map turn (listOf b .items))) (b .image)
   emptied-shape away turn t w = record {
@@ -63,7 +70,7 @@ module _ (kind : Kind) (p c : ℕ) (b : Buffers) (ok : Passed kind p c b) where
     sound = gone-sound (listOf b) away turn t (shape-of kind p c b ok) kind (b .image) (list-of kind p c b ok) w;
   }
 
-  -- a run of locks
+  -- .. and with a run of locks
   pub locked-shape : MayLock kind p c b → SoundShape kind (lockedRun p (fileBy p b) (recordOf (b .fcb)) c (listOf b)) (b .image)
   unfolding lockedRun
   locked-shape w =

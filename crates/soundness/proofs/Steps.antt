@@ -32,6 +32,7 @@ module _ (kind : Kind) (s t : List ℕ) (n : ℕ) (below : n < entries kind) (wa
   comes : (f : File) (x d : ℕ) → d < entries kind → (d ≡ n → ⊥) → Is t f x d → Is s f x d
   comes f x d l q h = is-same t s f x d (head-back s t d (heads d l q)) h
 
+  -- an entry that enters leaves the directory good
   pub enters : isEmpty t n ≡ false → Entries kind highest s → Entries kind highest t
   enters u₀ g = record {
     fields = λ e l u.
@@ -79,6 +80,7 @@ module _ (kind : Kind) (s t : List ℕ)
     (back : (d e : ℕ) → d < entries kind → e < entries kind → isEmpty t d ≡ false → isEmpty t e ≡ false → fileAt t d ≡ fileAt t e → fileAt s d ≡ fileAt s e)
     (forth : (d e : ℕ) → d < entries kind → e < entries kind → isEmpty s d ≡ false → isEmpty t e ≡ false → fileAt s d ≡ fileAt s e → (isEmpty t d ≡ false)
     × (fileAt t d ≡ fileAt t e)) where
+  -- entries that go, or get another name, leave the directory good
   pub moves : Entries kind highest s → Entries kind highest t
   moves g = record {
     fields = λ e l u. good e l u (g .fields e l (used e l u));
@@ -101,7 +103,7 @@ pub record Stays (kind : Kind) (s t : List ℕ) (e k : ℕ) : Type 0 where
   pub named : Names kind s e k
   pub number : mapNumber kind t e k ≡ mapNumber kind s e k
 
--- numbers stay or go
+-- numbers that stay or go leave the maps good
 pub fewer : (kind : Kind) (s t : List ℕ) → length t ≡ length s → ((e k : ℕ) → Names kind t e k → Stays kind s t e k) → Maps kind s → Maps kind t
 unfolding blocks
 fewer kind s t len h g = record {
@@ -119,6 +121,7 @@ module _ (kind : Kind) (s t : List ℕ) (n q b : ℕ) (len : length t ≡ length
   here : (e k : ℕ) → (e ≡ n) × (k ≡ q) → mapNumber kind t e k ≡ b
   here e k z = rw (z .0, z .1) now
 
+  -- a free block taken leaves the maps good
   pub takes : Maps kind s → Maps kind t
   unfolding blocks
   takes g = record {

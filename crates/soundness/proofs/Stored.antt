@@ -1,4 +1,4 @@
--- Bytes of a used entry set: its count, or a block number; and bytes past the directory. Assumes nothing.
+-- Bytes of a used entry set, its count or a block number, and bytes past the directory, leave the image sound. Assumes nothing.
 use Prim.Native.Nat.{ℕ, _+_, _*_, _≤_, _<_}
 use mathlib.Core.Path.{_≡_, sym, ap, _∙_}
 use mathlib.Core.Bool.{true, false}
@@ -33,6 +33,7 @@ module _ (kind : Kind) (s t : List ℕ) (len : length t ≡ length s) (heads : (
   files : (e : ℕ) → e < entries kind → fileAt t e ≡ fileAt s e
   files e l = file-same s e t e (heads e l)
 
+  -- the image stays sound where the maps do and each count is at most 128
   pub heads-sound : (Maps kind s → Maps kind t) → SoundImage kind highest s → SoundImage kind highest t
   heads-sound m g = record {
     long = long-same kind s t len (g .long);
@@ -42,16 +43,18 @@ module _ (kind : Kind) (s t : List ℕ) (len : length t ≡ length s) (heads : (
     maps = m (g .maps);
   }
 
+-- a number that is the same, in an entry with the same head, stays
 pub stays-same : (kind : Kind) (s t : List ℕ) (e k : ℕ) → Head s e t e → mapNumber kind t e k ≡ mapNumber kind s e k → Names kind t e k → Stays kind s t e k
 stays-same kind s t e k h y n = record { named = names-same kind s t e k (empty-same s e t e h) y n; number = y }
 
 -- ---- a record's or a block's bytes
 
 module _ (kind : Kind) (s v : List ℕ) (at : ℕ) (f : File) (low : 32 * entries kind ≤ at) (fits : at + length v ≤ length s) (g : SoundImage kind highest s) where
+  -- all entries stay as they are, ..
   pub entries-same : (e : ℕ) → e < entries kind → Same s e (put at v s) e
   entries-same e l = record { at = λ k m. put-out at v s fits (32 * e + k) (inl (omega arith)) }
 
-  -- inside the m bytes from a on
+  -- .. and the image sound: nothing changes but bytes inside the m from a on
   pub data-change : (a m i j : ℕ) → a ≤ at → at + length v ≤ a + m → Change kind s (put at v s) f a m i j
   data-change a m i j from to =
       let t = put at v s in
@@ -78,12 +81,13 @@ module _ (kind : Kind) (s t : List ℕ) (n : ℕ) (below : n < entries kind) (le
         (λ (c : ltb e n ≡ false). let l = ltb-false e n c in let w : (e ≡ n → ⊥) = q in inr (omega arith)) (either (ltb e n)));
   }
 
+  -- all heads stay, ..
   pub tail-heads : (e : ℕ) → Head s e t e
   tail-heads e =
       ⊎-elim (λ (q : e ≡ n). rw q (record { at = λ k m. elsewhere (32 * n + k) (inl (omega arith)) }))
       (λ (q : e ≡ n → ⊥). head-of s e t e (tail-others e q)) (equal? e n)
 
-  -- all but soundness
+  -- .. and where the image is still sound and keeps its block numbers nothing is taken away
   pub tail-change : (f : File) → fileAt s n ≡ f → SoundImage kind highest t → ((e k : ℕ) → Names kind s e k → mapNumber kind t e k ≡ mapNumber kind s e k)
       → (a m x y : ℕ) → ((e k : ℕ) → Names kind t e k → ((e ≡ x) × (k ≡ y)) ⊎ Stays kind s t e k) → Change kind s t f a m x y
   tail-change f file g stays a m x y rest = record {
@@ -103,7 +107,7 @@ module _ (kind : Kind) (s t : List ℕ) (n : ℕ) (below : n < entries kind) (le
     data-kept = record { at = λ i l c. elsewhere i (inr (omega arith)) };
   }
 
--- the count
+-- the count set, to 128 at most: the image stays sound, and nothing is taken away
 pub count-change : (kind : Kind) (s : List ℕ) (n b : ℕ) (f : File) → n < entries kind → b ≤ 128 → fileAt s n ≡ f → SoundImage kind highest s
     → (a m x y : ℕ) → Change kind s (set s (32 * n + 15) b) f a m x y
 count-change kind s n b f below small file g a m x y =
@@ -128,6 +132,7 @@ count-change kind s n b f below small file g a m x y =
 
 -- ---- a free block taken
 
+-- a free block stands in no map, ..
 pub free-unnamed : (kind : Kind) (s : List ℕ) (b : ℕ) → isFree kind s b ≡ true → (e k : ℕ) → Names kind s e k → mapNumber kind s e k ≡ b → ⊥
 unfolding isFree isUsed namesBlock holdsNumber
 free-unnamed kind s b h e k n q =
@@ -135,6 +140,7 @@ free-unnamed kind s b h e k n q =
     (and-both _ _ (not-of-false _ (n .entry-used)) (any-found (holdsNumber kind s b e) (numbers kind) k (n .place-there) (eq-eqb _ _ q)))
     (any-at (namesBlock kind s b) (entries kind) e (not-true _ (and-snd _ _ h)) (n .entry-there))
 
+-- .. and is none of the directory's
 pub free-low : (kind : Kind) (s : List ℕ) (b : ℕ) → isFree kind s b ≡ true → 2 ≤ b
 unfolding isFree
 free-low kind s b h = leb-true 2 b (and-fst _ _ h)
@@ -144,6 +150,7 @@ module _ (kind : Kind) (s : List ℕ) (n q b : ℕ) (f : File) (below : n < entr
   fits : 32 * n + 32 ≤ length s
   fits = omega (arith, length-long kind s (g .long))
 
+  -- it stands in its place, ..
   pub taken-there : mapNumber kind (numbered kind n q b s) n q ≡ b
   taken-there = number-there kind s n q b fits short (omega (arith, length-few kind s (g .long)))
 
@@ -159,10 +166,12 @@ module _ (kind : Kind) (s : List ℕ) (n q b : ℕ) (f : File) (below : n < entr
   taken-else : (e k : ℕ) → ((e ≡ n) × (k ≡ q) → ⊥) → k < numbers kind → mapNumber kind (numbered kind n q b s) e k ≡ mapNumber kind s e k
   taken-else e k c l = number-else kind s n q b e k fits short l c
 
+  -- .. the numbers that stood there stay, ..
   pub taken-number : (e k : ℕ) → Names kind s e k → mapNumber kind (numbered kind n q b s) e k ≡ mapNumber kind s e k
   taken-number e k m = taken-else e k (λ c. m .some (ap (λ (i : ℕ). mapNumber kind s i k) (c .0) ∙ ap (λ (i : ℕ). mapNumber kind s n i) (c .1) ∙ was))
       (m .place-there)
 
+  -- .. no other is new; ..
   pub taken-rest : (e k : ℕ) → Names kind (numbered kind n q b s) e k → ((e ≡ n) × (k ≡ q)) ⊎ Stays kind s (numbered kind n q b s) e k
   taken-rest e k m =
       let t = numbered kind n q b s in
@@ -177,6 +186,7 @@ module _ (kind : Kind) (s : List ℕ) (n q b : ℕ) (f : File) (below : n < entr
       (⊎-elim (λ (c : ltb n e ≡ true). let l = ltb-true n e c in inr (omega arith))
       (λ (c : ltb n e ≡ false). let l = ltb-false n e c in inl (omega arith)) (either (ltb n e)))
 
+  -- .. the image stays sound, and nothing is taken away
   pub block-change : (a m : ℕ) → Change kind s (numbered kind n q b s) f a m n q
   block-change a m =
       let t = numbered kind n q b s in

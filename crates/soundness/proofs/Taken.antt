@@ -1,7 +1,7 @@
 -- What the leaves give to the list: a new open, a run of locks, and that nobody has the file open. Assumes nothing.
 use Prim.Native.Nat.{ℕ, _+_, _%_, _≤_, _<_}
 use mathlib.Core.Path.{_≡_, refl, sym, ap, _∙_}
-use mathlib.Core.Bool.{Bool, true, false, not}
+use mathlib.Core.Bool.{true, false, not}
 use mathlib.Core.List.{List}
 use mathlib.Core.Logic.{_⊎_, inl, ⊎-elim}
 use native.Mathlib.Omega.{arith}
@@ -11,7 +11,7 @@ use lib.Dec.{eqb, leb}
 use borrow.Author.Tests.{eqb-true, eq-eqb, ne-eqb, le-leb, lt-ltb, not-true, not-false}
 use Rattle.words.specs.Tests.{_and_, _or_, all, _if_else_}
 use Rattle.words.specs.Bytes.{byte, lowFrom}
-use Rattle.words.proofs.Tests.{either, never, and-fst, and-snd, or-fst, or-snd, or-so, all-ext, all-make, any-at, lowest-holds, lowest-over}
+use Rattle.words.proofs.Tests.{and-rest, either, never, and-fst, and-snd, or-fst, or-snd, or-so, all-ext, all-make, any-at, lowest-holds, lowest-over}
 use Rattle.words.proofs.Lists.{tab-at}
 use Rattle.words.proofs.Sets.{and-both, not-of-false}
 use Rattle.rules.specs.declared.kind.Kind.{Kind}
@@ -35,14 +35,17 @@ use Rattle.soundness.proofs.Leaves.{listOf, fileBy, openBy, modeBy, May
 -- ---- the name in an FCB, as a file has it
 
 module _ (u : ℕ) (fcb : List ℕ) (at : ℕ) where
+  -- its bytes are the low seven bits of those in the FCB, ..
   pub name-byte : (k : ℕ) → k < 11 → byte (fileFrom u fcb at .name) k ≡ lowFrom fcb at k
   unfolding fileFrom
   name-byte k l = tab-at (lowFrom fcb at) 11 k 0 l
 
+  -- .. so they have no high bits, ..
   pub name-low : all (isLow (fileFrom u fcb at .name)) 11 ≡ true
   unfolding isLow
   name-low = all-make (isLow (fileFrom u fcb at .name)) 11 (λ k l. lt-ltb (byte (fileFrom u fcb at .name) k) 128 (rw (name-byte k l) (omega arith)))
 
+  -- .. and it is legal where the one in the FCB is
   pub name-legal : legalName fcb at ≡ true → legalName (fileFrom u fcb at .name) 0 ≡ true
   unfolding legalName legalAt legalByte
   name-legal h =
@@ -55,26 +58,32 @@ module _ (u : ℕ) (fcb : List ℕ) (at : ℕ) where
             (λ k m. ap (λ (b : ℕ). leb 32 b and leb b 126 and not (eqb b 63)) (low k m)),
       ) h
 
+-- the name of the caller's file is of eleven bytes, ..
 pub caller-long : (p : ℕ) (l : LockList) (fcb : List ℕ) → length (callerFile p l fcb .name) ≡ 11
 unfolding callerFile
 caller-long p l fcb = from-long (userOf l p) fcb 1
 
+-- .. the new name too;
 pub new-long : (p : ℕ) (l : LockList) (fcb : List ℕ) → length (newFile p l fcb .name) ≡ 11
 unfolding newFile
 new-long p l fcb = from-long (userOf l p) fcb 17
 
+-- the file's user is the caller's, ..
 pub caller-user : (p : ℕ) (l : LockList) (fcb : List ℕ) → callerFile p l fcb .user ≡ userOf l p
 unfolding callerFile fileFrom
 caller-user p l fcb = refl
 
+-- .. its name has no high bits, ..
 pub caller-low : (p : ℕ) (l : LockList) (fcb : List ℕ) → all (isLow (callerFile p l fcb .name)) 11 ≡ true
 unfolding callerFile
 caller-low p l fcb = name-low (userOf l p) fcb 1
 
+-- .. and is legal where the one in the FCB is;
 pub caller-legal : (p : ℕ) (l : LockList) (fcb : List ℕ) → legalName fcb 1 ≡ true → legalName (callerFile p l fcb .name) 0 ≡ true
 unfolding callerFile
 caller-legal p l fcb h = name-legal (userOf l p) fcb 1 h
 
+-- that name under the caller's user is the file
 pub caller-mine : (p : ℕ) (l : LockList) (fcb : List ℕ) → _≡_ {A = File} (record { user = userOf l p; name = callerFile p l fcb .name }) (callerFile p l fcb)
 caller-mine p l fcb = λ i. record { user = sym (caller-user p l fcb) i; name = callerFile p l fcb .name }
 
@@ -133,7 +142,7 @@ module _ (kind : Kind) (s : List ℕ) (p c : ℕ) (b : Buffers) (ok : Passed kin
     locks-fit = λ q z. absurd (never z refl);
   }
 
-  -- 15
+  -- 15: the new open fits into the lowest empty place, ..
   pub mayopen-fits : MayOpen kind p b → entryOf kind s f 0 < entries kind → Fits kind s l (freePlace l) (freshOpen p (f .name) (openMode (b .fcb)))
   unfolding openOf opensNameAt standBeside standsAgainstAt standsAgainst opensFileAt opensFile
   mayopen-fits w there =
@@ -144,17 +153,13 @@ module _ (kind : Kind) (s : List ℕ) (p c : ℕ) (b : Buffers) (ok : Passed kin
       let n : itemAt l i .process ≡ p → ⊥ = λ q.
       never (open-so p (f .name) (itemAt l i) (record { kind-one = o .kind-one; by = q; named = o .named }))
       (lowest-over (opensNameAt l p (f .name)) 64 i (w .unopened) m) in
-      let a : (eqb (openMode (b .fcb)) 0 or not (eqb (itemAt l i .mode) (openMode (b .fcb)))) ≡ false = then-false _ _ (not-of-false _ (ne-eqb _ _ n))
-      (then-false _ _ opens against) in
+      let a : (eqb (openMode (b .fcb)) 0 or not (eqb (itemAt l i .mode) (openMode (b .fcb)))) ≡ false = and-rest _ _ (not-of-false _ (ne-eqb _ _ n))
+      (and-rest _ _ opens against) in
       let e : itemAt l i .mode ≡ openMode (b .fcb) = eqb-true _ _ (not-false _ (or-snd _ _ a)) in
       and-both _ _ (not-of-false _ (ne-eqb p (itemAt l i .process) (λ q. n (sym q))))
       (and-both _ _ (eq-eqb (openMode (b .fcb)) (itemAt l i .mode) (sym e)) (not-of-false _ (or-fst _ _ a))))
-    where
-      then-false : (x y : Bool) → x ≡ true → (x and y) ≡ false → y ≡ false
-      then-false true y e h = unfold _and_ in h
-      then-false false y e h = absurd (never e refl)
 
-  -- 22: nobody has a file open that is not there
+  -- .. 22: and so it does of a file just made, since nobody had it open
   pub maymake-fits : (s₀ : List ℕ) → Shape l → SoundLocks kind l s₀ → entries kind ≤ entryOf kind s₀ f 0 → MayMake kind p b → entryOf kind s f 0 < entries kind
       → Fits kind s l (freePlace l) (freshOpen p (f .name) (makeMode (b .fcb)))
   maymake-fits s₀ h g₀ gone w there =
@@ -181,6 +186,7 @@ module _ (kind : Kind) (s : List ℕ) (l : LockList) (g : SoundLocks kind l s) (
   unfolding anyOpen opensFileAt opensFile
   no-open i m k u n = never (and-both _ _ (eq-eqb _ _ k) (and-both _ _ (eq-eqb _ _ u) n)) (any-at (opensFileAt l f) 64 i none m)
 
+  -- no item is of the file
   pub no-items : (i : ℕ) → i < 64 → GoodOpen kind s l (itemAt l i) ⊎ GoodLock kind s l (itemAt l i) → fileOf l (itemAt l i) ≡ f → ⊥
   no-items i m c e =
       let u : userOf l (itemAt l i .process) ≡ f .user = ap (λ (k : File). k .user) e in
@@ -195,11 +201,12 @@ module _ (kind : Kind) (s : List ℕ) (l : LockList) (g : SoundLocks kind l s) (
 -- ---- a run of locks
 
 module _ (kind : Kind) (s : List ℕ) (p c : ℕ) (b : Buffers) (ok : Passed kind p c b) (h : Shape (listOf b)) (g : SoundLocks kind (listOf b) s) where
-  -- the caller's open
+  -- what is found is the caller's open of the file, ..
   pub own-open : openBy p b < 64 → IsOpen p (fileBy p b .name) (itemAt (listOf b) (openBy p b))
   unfolding openOf opensNameAt
   own-open m = open-is p (fileBy p b .name) _ (lowest-holds (opensNameAt (listOf b) p (fileBy p b .name)) 64 m)
 
+  -- .. a good item ..
   pub own-good : openBy p b < 64 → Used kind s (listOf b) (openBy p b)
   own-good m =
       ⊎-elim (λ (v : Vacant (listOf b) (openBy p b)). let z = v .kind-zero in let y = own-open m .kind-one in absurd (omega arith)) (λ v. v)
@@ -208,22 +215,25 @@ module _ (kind : Kind) (s : List ℕ) (p c : ℕ) (b : Buffers) (ok : Passed kin
   own-name : openBy p b < 64 → itemAt (listOf b) (openBy p b) .name ≡ fileBy p b .name
   own-name m = name-is _ _ (h .names-long (openBy p b) m) (caller-long p (listOf b) (b .fcb)) (own-open m .named)
 
+  -- .. that names the file;
   pub own-file : (m : openBy p b < 64) → fileOf (listOf b) (itemAt (listOf b) (openBy p b)) ≡ fileBy p b
   own-file m =
       let u : userOf (listOf b) (itemAt (listOf b) (openBy p b) .process) ≡ fileBy p b .user = ap (λ (q : ℕ). userOf (listOf b) q) (own-open m .by)
       ∙ sym (caller-user p (listOf b) (b .fcb)) in
       λ i. record { user = u i; name = own-name m i }
 
-  -- the file of an open is there
+  -- a file that is open is there, ..
   pub own-there : openBy p b < 64 → entryOf kind s (fileBy p b) 0 < entries kind
   own-there m =
       ⊎-elim (λ (o : GoodOpen kind s (listOf b) (itemAt (listOf b) (openBy p b))). rw (own-file m) at (o .there))
       (λ (o : GoodLock kind s (listOf b) (itemAt (listOf b) (openBy p b))). let z = o .kind-two in let y = own-open m .kind-one in absurd (omega arith))
       (own-good m .good)
 
+  -- .. the caller may hold locks on it where the mode is unlocked, ..
   pub own-holder : (m : openBy p b < 64) → modeBy p b ≡ 1 → Holder (listOf b) p (fileBy p b .name)
   own-holder m e = record { place = openBy p b; below = m; opens = open-so _ _ _ (own-open m); mode = e }
 
+  -- .. and its name is legal
   pub own-legal : openBy p b < 64 → legalName (fileBy p b .name) 0 ≡ true
   unfolding isPlain
   own-legal m = rw (own-name m) at (and-fst _ _ (and-snd _ _ (own-good m .plain)))

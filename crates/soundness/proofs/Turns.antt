@@ -1,4 +1,4 @@
--- Changes made to one entry after the other. Assumes nothing.
+-- Changes made to one entry after the other: each entry has had its own, and nothing else has changed. Assumes nothing.
 use Prim.Native.Nat.{ℕ, zero, suc, _*_, _≤_, _<_}
 use mathlib.Core.Path.{_≡_, refl, _∙_}
 use mathlib.Core.List.{List}
@@ -12,6 +12,7 @@ use Rattle.rules.specs.declared.kind.Kind.{Kind}
 use Rattle.rules.specs.Kinds.{entries}
 use Rattle.rules.proofs.Frames.{Same, same-refl}
 
+-- after m turns: entries below m as their turn leaves them, the others and all past the directory as they were
 pub record Turned (kind : Kind) (step : ℕ → List ℕ → List ℕ) (s : List ℕ) (m : ℕ) (t : List ℕ) : Type 0 where
   pub len : length t ≡ length s
   pub done : (e : ℕ) → e < entries kind → e < m → Same (step e s) e t e
@@ -24,6 +25,7 @@ module _ (kind : Kind) (step : ℕ → List ℕ → List ℕ) (s : List ℕ)
     (frame : (t : List ℕ) (e d : ℕ) → e < entries kind → length t ≡ length s → (d ≡ e → ⊥) → Same t d (step e t) d)
     (local : (t : List ℕ) (e : ℕ) → e < entries kind → length t ≡ length s → Same s e t e → Same (step e s) e (step e t) e)
     (beyond : (t : List ℕ) (e i : ℕ) → e < entries kind → length t ≡ length s → 32 * entries kind ≤ i → byte (step e t) i ≡ byte t i) where
+  -- steps in turn leave just that
   pub turned : (m : ℕ) → m ≤ entries kind → Turned kind step s m (turns step m s)
   unfolding turns
   turned zero l = record { len = refl; done = λ e k z. absurd (omega arith); ahead = λ e k z. same-refl s e; past = λ i k. refl }

@@ -1,174 +1,149 @@
 -- Every call ends in one of the leaves. Assumes nothing.
-use Prim.Native.Nat.{ℕ, _+_, _-_, _≤_, _<_}
+use Prim.Native.Nat.{ℕ, _/_}
 use mathlib.Core.Path.{_≡_, refl, sym, subst}
-use mathlib.Core.Bool.{Bool, true, false, not}
-use mathlib.Core.List.{List, _++_}
+use mathlib.Core.Bool.{Bool, true, false}
 use mathlib.Core.Logic.{_⊎_, inl, inr, ⊎-elim}
 use native.Mathlib.Omega.{arith}
 use lib.ListN.{length-take, length-drop}
 use lib.Dec.{eqb, ltb}
-use borrow.Author.Tests.{eqb-true, eqb-false, leb-true, leb-false, ltb-true, ltb-false, not-false, eq-eqb}
-use Rattle.words.specs.Tests.{_and_, _if_else_, lowest}
+use borrow.Author.Tests.{eqb-true, eqb-false, ne-eqb, lt-leb, ltb-true, ltb-false}
+use Rattle.words.specs.Tests.{_if_else_}
 use Rattle.words.specs.Bytes.{part}
-use Rattle.words.specs.Tables.{Row, firstOf, anyRow}
-use Rattle.words.proofs.Tests.{either, never, or-fst, or-snd, any-at, lowest-over}
-use Rattle.words.proofs.Tables.{some-applies}
+use Rattle.words.specs.Tables.{firstOf, anyRow}
+use Rattle.words.proofs.Tests.{either, never}
+use Rattle.words.proofs.Tables.{some-applies, any-append}
 use Rattle.words.proofs.Sets.{and-left}
 use Rattle.rules.specs.declared.kind.Kind.{Kind}
 use Rattle.rules.specs.declared.routine.Routine.the-variants.{Open, Close, Delete, Make, Rename, Read, Write, WriteZeros, TestWrite, Lock, Unlock, FreeSpace, Terminate}
 use Rattle.rules.specs.declared.routine.Chosen.{Chosen}
 use Rattle.rules.specs.declared.routine.Chosen.the-variants.{Call, Unknown}
 use Rattle.rules.specs.Serves.{Buffers, Outcome, chosen, isUnknown}
-use Rattle.rules.specs.Drive.{entryOf, lookUp, missing, blockIn}
+use Rattle.rules.specs.Drive.{entryOf, lookUp, blockOf}
 use Rattle.rules.specs.Locks.{isOpened}
-use Rattle.rules.specs.Asks.{openMode}
-use Rattle.rules.specs.Codes.{rowsAll, rowsNew, rows15, rows16, rows19, rows22, rows23, rows34, rows41, rows42, rows43, rowsThere, rowsMay, rowsRoom, rowsRun, rowsLacking, rowsTake, stopsDelete, stopsRename, lacks, firstLacking, isOthers, rowsDiffer}
+use Rattle.rules.specs.Asks.{recordOf}
+use Rattle.rules.specs.Codes.{rowsAll, rows42, rows43, stopsDelete, stopsRename}
 use Rattle.rules.specs.Effects.{does15, does16, does19, does22, makes, does23, does33, does34, does41, does42, does43, does46, does143}
 use Rattle.rules.specs.Call.{asked, askedBy, rowsOf, effectOf, rowsCall, call}
 use Rattle.rules.proofs.Tables.{accepted, refused, nonzero-call}
-use Rattle.soundness.proofs.Passed.{any-append, any-only, opened-so, may-write, has-room, is-there, block-some, r, e}
 use Rattle.rules.proofs.Passed.{Passed, passed, known}
-use Rattle.soundness.proofs.Leaves.{Leaf, listOf, fileBy, openBy, modeBy, MayLock, reopened, newlyOpened, newlyMade, nowClosed, nowErased, nowRenamed, nowRead, nowWritten, nowRewritten, nowLocked, lockIdle, nowUnlocked, unlockIdle, nowTold, nowEnded}
+use Rattle.rules.proofs.Rows.{passes-15, passes-16, passes-19, passes-22, passes-23, passes-34, passes-41, run-open, passes-42}
+use Rattle.soundness.proofs.Leaves.{Leaf, listOf, fileBy, newBy, openBy, modeBy, reopened, newlyOpened, newlyMade, nowClosed, nowErased, nowRenamed, nowRead, nowWritten, nowRewritten, nowLocked, lockIdle, nowUnlocked, unlockIdle, nowTold, nowEnded}
+
+-- the entries of the caller's file: of extent 0, and of the extent with the record
+abbrev first : Kind → ℕ → Buffers → ℕ
+first kind p b = entryOf kind (b .image) (fileBy p b) 0
+
+abbrev entry : Kind → ℕ → Buffers → ℕ
+entry kind p b = entryOf kind (b .image) (fileBy p b) (recordOf (b .fcb) / 128)
 
 -- ---- one call's table and effect
 
 module _ (kind : Kind) (n p c : ℕ) (b : Buffers) (ok : Passed kind p c b) where
-  open-leaf : chosen n ≡ Call Open → anyRow (rowsOf (Call Open) (asked kind p c b) b) ≡ false → Leaf kind n p c b (effectOf (Call Open) (asked kind p c b) b)
-  unfolding rowsOf effectOf asked askedBy rowsNew rows15 does15 anyRow missing lookUp isOpened _if_else_
+  open-leaf : chosen n ≡ Call Open → anyRow (rowsOf (Call Open) (asked kind p c b) b) ≡ false
+      → Leaf kind n p c b (effectOf (Call Open) (asked kind p c b) b)
+  unfolding rowsOf effectOf asked askedBy does15 lookUp isOpened _if_else_
   open-leaf k h =
-      let h₁ = or-snd _ _ h in
-      let h₂ = or-snd _ _ h₁ in
+      let w = passes-15 kind p (listOf b) (openBy p b) (fileBy p b) (lookUp kind (b .image) (fileBy p b)) (b .fcb) h in
       ⊎-elim
       (λ (q : ltb (openBy p b) 64 ≡ true).
-      let m : not (eqb (modeBy p b) (openMode (b .fcb))) ≡ false = rest (ltb (openBy p b) 64) _ q (or-fst _ _ h₂) in
-      rw q (reopened k ok (record { is-open = ltb-true _ _ q; same-mode = eqb-true _ _ (not-false _ m) }) _))
+      let m = ltb-true _ _ q in
+      rw q (reopened k ok (record { is-open = m; same-mode = w .same-mode m }) _))
       (λ (q : ltb (openBy p b) 64 ≡ false).
-      let h₃ = any-only (not (ltb (openBy p b) 64)) _ (rw q refl) (or-snd _ _ h₂) in
-      let h₄ = or-snd _ _ h₃ in
+      let m = ltb-false _ _ q in
       rw q (newlyOpened k ok (record {
-        legal = not-false _ (or-fst _ _ h);
-        there = leb-false _ _ (or-fst _ _ h₁);
-        unopened = ltb-false _ _ q;
-        none-against = or-fst _ _ h₃;
-        within = leb-false _ _ (or-fst _ _ h₄);
-        room = leb-false _ _ (or-fst _ _ (or-snd _ _ h₄));
+        legal = w .legal;
+        there = w .there;
+        unopened = m;
+        none-against = w .none-against m;
+        within = w .within m;
+        room = w .room m;
       }) _))
       (either (ltb (openBy p b) 64))
-    where
-      rest : (x y : Bool) → x ≡ true → (x and y) ≡ false → y ≡ false
-      rest true y e h = unfold _and_ in h
-      rest false y e h = absurd (never e refl)
 
-  make-leaf : chosen n ≡ Call Make → anyRow (rowsOf (Call Make) (asked kind p c b) b) ≡ false → Leaf kind n p c b (effectOf (Call Make) (asked kind p c b) b)
-  unfolding rowsOf effectOf asked askedBy rows22 does22 makes anyRow missing lookUp
+  make-leaf : chosen n ≡ Call Make → anyRow (rowsOf (Call Make) (asked kind p c b) b) ≡ false
+      → Leaf kind n p c b (effectOf (Call Make) (asked kind p c b) b)
+  unfolding rowsOf effectOf asked askedBy does22 makes lookUp
   make-leaf k h =
-      let h₁ = or-snd _ _ h in
-      let h₂ = or-snd _ _ h₁ in
-      let h₃ = or-snd _ _ h₂ in
-      newlyMade k ok (record {
-        legal = not-false _ (or-fst _ _ h);
-        gone = leb-true _ _ (not-false _ (or-fst _ _ h₁));
-        within = leb-false _ _ (or-fst _ _ h₂);
-        room = leb-false _ _ (or-fst _ _ h₃);
-        entry-room = leb-false _ _ (or-fst _ _ (or-snd _ _ h₃));
-      }) _
+      let w = passes-22 kind p (listOf b) (lookUp kind (b .image) (fileBy p b)) (b .fcb) (b .image) h in
+      newlyMade k ok (record { legal = w .legal; gone = w .gone; within = w .within; room = w .room; entry-room = w .entry-room }) _
 
   close-leaf : chosen n ≡ Call Close → anyRow (rowsOf (Call Close) (asked kind p c b) b) ≡ false
       → Leaf kind n p c b (effectOf (Call Close) (asked kind p c b) b)
-  unfolding rowsOf effectOf asked askedBy rows16 does16 anyRow
-  close-leaf k h = nowClosed k ok (opened-so _ (or-fst _ _ h))
+  unfolding rowsOf effectOf asked askedBy does16
+  close-leaf k h = nowClosed k ok (passes-16 (openBy p b) h)
 
   delete-leaf : chosen n ≡ Call Delete → anyRow (rowsOf (Call Delete) (asked kind p c b) b) ≡ false
       → Leaf kind n p c b (effectOf (Call Delete) (asked kind p c b) b)
-  unfolding rowsOf effectOf asked askedBy rows19 does19 anyRow missing lookUp stopsDelete
+  unfolding rowsOf effectOf asked askedBy does19 lookUp stopsDelete
   delete-leaf k h =
-      let h₁ = or-snd _ _ h in
-      nowErased k ok (record { legal = not-false _ (or-fst _ _ h); there = leb-false _ _ (or-fst _ _ h₁); unopened = or-fst _ _ (or-snd _ _ h₁) })
+      let w = passes-19 kind (listOf b) (fileBy p b) (lookUp kind (b .image) (fileBy p b)) (b .fcb) (b .image) h in
+      nowErased k ok (record { legal = w .legal; there = w .there; unopened = w .unstopped })
 
   rename-leaf : chosen n ≡ Call Rename → anyRow (rowsOf (Call Rename) (asked kind p c b) b) ≡ false
       → Leaf kind n p c b (effectOf (Call Rename) (asked kind p c b) b)
-  unfolding rowsOf effectOf asked askedBy rows23 does23 anyRow missing lookUp stopsRename
+  unfolding rowsOf effectOf asked askedBy does23 lookUp stopsRename
   rename-leaf k h =
-      let h₁ = or-snd _ _ h in
-      let h₂ = or-snd _ _ h₁ in
-      nowRenamed k ok (record {
-        legal = not-false _ (or-fst _ _ (or-fst _ _ h));
-        legal-new = not-false _ (or-snd _ _ (or-fst _ _ h));
-        there = leb-false _ _ (or-fst _ _ h₁);
-        unopened = or-fst _ _ h₂;
-        gone-new = leb-true _ _ (not-false _ (or-fst _ _ (or-snd _ _ (or-snd _ _ h₂))));
-      })
+      let found = lookUp kind (b .image) (fileBy p b) in
+      let w = passes-23 kind (listOf b) (fileBy p b) found (lookUp kind (b .image) (newBy p b)) (b .fcb) (b .image) h in
+      nowRenamed k ok (record { legal = w .legal; legal-new = w .legal-new; there = w .there; unopened = w .unstopped; gone-new = w .gone-new })
 
   write-leaf : (zeros : Bool) → (chosen n ≡ Call Write) ⊎ (chosen n ≡ Call WriteZeros) → anyRow (rowsOf (Call Write) (asked kind p c b) b) ≡ false
-      → Leaf kind n p c b (does34 kind zeros (fileBy p b) (entryOf kind (b .image) (fileBy p b) 0) (e kind p b) (r p b) b)
-  unfolding rowsOf asked askedBy rows34 does34 lookUp
+      → Leaf kind n p c b (does34 kind zeros (fileBy p b) (first kind p b) (entry kind p b) (recordOf (b .fcb)) b)
+  unfolding rowsOf asked askedBy does34 lookUp
   write-leaf zeros k h =
-      let g = any-append (rowsMay p (listOf b) (openBy p b) (fileBy p b) (entryOf kind (b .image) (fileBy p b) 0) (r p b) (b .image))
-      (rowsRoom kind (b .image) (e kind p b) (r p b)) h in
-      let m = has-room kind p b (g .1) in
-      nowWritten k ok (may-write kind p b (g .0) (m .0) (m .1)) zeros
+      let w = passes-34 kind p (listOf b) (openBy p b) (fileBy p b) (first kind p b) (entry kind p b) (recordOf (b .fcb)) (b .image) h in
+      nowWritten k ok (record {
+        is-open = w .may .is-open;
+        fits = w .may .fits;
+        unlocked-by-others = w .may .none-others;
+        entry-room = w .room .entry-room;
+        block-room = w .room .block-room;
+      }) zeros
 
+  -- a record that is there needs no room
   test-leaf : chosen n ≡ Call TestWrite → anyRow (rowsOf (Call TestWrite) (asked kind p c b) b) ≡ false
       → Leaf kind n p c b (effectOf (Call TestWrite) (asked kind p c b) b)
-  unfolding rowsOf effectOf asked askedBy rows41 does41 lookUp
+  unfolding rowsOf effectOf asked askedBy does41 lookUp blockOf
   test-leaf k h =
-      let may = rowsMay p (listOf b) (openBy p b) (fileBy p b) (entryOf kind (b .image) (fileBy p b) 0) (r p b) (b .image) in
-      let there = rowsThere kind (b .image) (e kind p b) (r p b) in
-      let last = rowsDiffer kind (b .dma) (b .image) (blockIn kind (b .image) (e kind p b) (r p b)) (r p b) in
-      let g = any-append may (there ++ last) h in
-      let m = is-there kind p b (any-append there last (g .1) .0) in
-      let w = ok .ready .dma-long in
-      nowRewritten k ok (may-write kind p b (g .0) (and-left _ _ (m .0)) (and-left _ _ (m .1))) (block-some kind p b (m .1)) (part 128 128 (b .dma))
-      (simp (length-take, length-drop) (omega arith)) refl
+      let w = passes-41 kind p (listOf b) (openBy p b) (fileBy p b) (first kind p b) (entry kind p b) (recordOf (b .fcb)) (b .dma) (b .image) h in
+      let long = ok .ready .dma-long in
+      nowRewritten k ok (record {
+        is-open = w .may .is-open;
+        fits = w .may .fits;
+        unlocked-by-others = w .may .none-others;
+        entry-room = and-left _ _ (lt-leb _ _ (w .there .extent));
+        block-room = and-left _ _ (ne-eqb _ _ (w .there .block));
+      }) (w .there .block) (part 128 128 (b .dma)) (simp (length-take, length-drop) (omega arith)) refl
 
-  run-open : (more : List Row) → anyRow (rowsRun (listOf b) (openBy p b) (r p b) c (b .dma) more) ≡ false → openBy p b < 64
-  unfolding rowsRun anyRow
-  run-open more h = opened-so _ (or-fst _ _ h)
-
-  run-more : (more : List Row) → eqb (modeBy p b) 1 ≡ true → anyRow (rowsRun (listOf b) (openBy p b) (r p b) c (b .dma) more) ≡ false → (r p b + c - 1 ≤ 262143)
-      × (anyRow more ≡ false)
-  unfolding rowsRun anyRow
-  run-more more q h =
-      let h₁ = any-only _ _ q (or-snd _ _ h) in
-      let h₂ = or-snd _ _ h₁ in
-      (ltb-false 262143 _ (or-fst _ _ h₂), or-snd _ _ h₂)
-
-  lock-may : openBy p b < 64 → modeBy p b ≡ 1 → r p b + c - 1 ≤ 262143
-      → anyRow (rowsLacking kind (b .image) (fileBy p b) (r p b) c (firstLacking kind (b .image) (fileBy p b) (r p b) c) ++ rowsTake p (listOf b) (fileBy p b)
-      (r p b) c) ≡ false → MayLock kind p c b
-  unfolding rowsLacking rowsTake anyRow firstLacking lacks isOthers
-  lock-may o m fits h =
-      let g = any-append (rowsLacking kind (b .image) (fileBy p b) (r p b) c (firstLacking kind (b .image) (fileBy p b) (r p b) c))
-      (rowsTake p (listOf b) (fileBy p b) (r p b) c) h in
-      let lack : ltb (lowest (lacks kind (b .image) (fileBy p b) (r p b)) c) c ≡ false = or-fst _ _ (or-snd _ _ (g .0)) in
-      let h₁ = or-snd _ _ (g .1) in
-      record {
-        is-open = o;
-        is-unlocked = m;
-        fits = fits;
-        have-blocks = λ k l z. never (eq-eqb _ _ z) (lowest-over (lacks kind (b .image) (fileBy p b) (r p b)) c k (ltb-false _ _ lack) l);
-        none-others = λ k l. any-at (isOthers (listOf b) p (fileBy p b) (r p b)) c k (or-fst _ _ (g .1)) l;
-        within = ltb-false _ _ (or-fst _ _ h₁);
-        room = ltb-false _ _ (or-fst _ _ (or-snd _ _ h₁));
-      }
-
-  lock-leaf : chosen n ≡ Call Lock → anyRow (rowsOf (Call Lock) (asked kind p c b) b) ≡ false → Leaf kind n p c b (effectOf (Call Lock) (asked kind p c b) b)
+  lock-leaf : chosen n ≡ Call Lock → anyRow (rowsOf (Call Lock) (asked kind p c b) b) ≡ false
+      → Leaf kind n p c b (effectOf (Call Lock) (asked kind p c b) b)
   unfolding rowsOf effectOf asked askedBy rows42 does42 _if_else_
   lock-leaf k h =
+      let o = run-open (listOf b) (openBy p b) (recordOf (b .fcb)) c (b .dma) _ h in
       ⊎-elim
       (λ (q : eqb (modeBy p b) 1 ≡ true).
-      let g = run-more _ q h in
-      rw q (nowLocked k ok (lock-may (run-open _ h) (eqb-true _ _ q) (g .0) (g .1))))
-      (λ (q : eqb (modeBy p b) 1 ≡ false). rw q (lockIdle k ok (record { is-open = run-open _ h; not-unlocked = eqb-false _ _ q })))
+      let m = eqb-true _ _ q in
+      let w = passes-42 kind p (listOf b) (openBy p b) (fileBy p b) (recordOf (b .fcb)) c (b .dma) (b .image) m h in
+      rw q (nowLocked k ok (record {
+        is-open = o;
+        is-unlocked = m;
+        fits = w .fits;
+        have-blocks = w .have-blocks;
+        none-others = w .none-others;
+        within = w .within;
+        room = w .room;
+      })))
+      (λ (q : eqb (modeBy p b) 1 ≡ false). rw q (lockIdle k ok (record { is-open = o; not-unlocked = eqb-false _ _ q })))
       (either (eqb (modeBy p b) 1))
 
   unlock-leaf : chosen n ≡ Call Unlock → anyRow (rowsOf (Call Unlock) (asked kind p c b) b) ≡ false
       → Leaf kind n p c b (effectOf (Call Unlock) (asked kind p c b) b)
   unfolding rowsOf effectOf asked askedBy rows43 does43 _if_else_
   unlock-leaf k h =
+      let o = run-open (listOf b) (openBy p b) (recordOf (b .fcb)) c (b .dma) _ h in
       ⊎-elim
-      (λ (q : eqb (modeBy p b) 1 ≡ true). rw q (nowUnlocked k ok (record { is-open = run-open _ h; is-unlocked = eqb-true _ _ q })))
-      (λ (q : eqb (modeBy p b) 1 ≡ false). rw q (unlockIdle k ok (record { is-open = run-open _ h; not-unlocked = eqb-false _ _ q })))
+      (λ (q : eqb (modeBy p b) 1 ≡ true). rw q (nowUnlocked k ok (record { is-open = o; is-unlocked = eqb-true _ _ q })))
+      (λ (q : eqb (modeBy p b) 1 ≡ false). rw q (unlockIdle k ok (record { is-open = o; not-unlocked = eqb-false _ _ q })))
       (either (eqb (modeBy p b) 1))
 
   leaf : (k : Chosen) → chosen n ≡ k → isUnknown k ≡ false → anyRow (rowsOf k (asked kind p c b) b) ≡ false
@@ -189,6 +164,7 @@ module _ (kind : Kind) (n p c : ℕ) (b : Buffers) (ok : Passed kind p c b) wher
   leaf (Call Terminate) k u h = nowEnded k ok
   leaf Unknown k u h = absurd (never refl u)
 
+-- every call ends in a leaf
 pub walk : (kind : Kind) (n p c : ℕ) (b : Buffers) → Leaf kind n p c b (call kind n p c b)
 walk kind n p c b =
     ⊎-elim

@@ -1,4 +1,4 @@
--- Writing a record. Assumes nothing.
+-- Writing a record leaves the image sound: the record has its block still, or a free one that it takes. Assumes nothing.
 use Prim.Native.Nat.{ℕ, _+_, _*_, _/_, _≤_, _<_}
 use mathlib.Core.Path.{_≡_, refl, sym, _∙_}
 use mathlib.Core.Bool.{Bool, true, false, true≢false}
@@ -252,6 +252,7 @@ module _ (kind : Kind) (zeros : Bool) (s : List ℕ) (f : File) (r : ℕ) (v : L
   abbrev here : ℕ
   here = entryOf kind s f (r / 128)
 
+  -- the record is written in the block that it has, or in a free one
   pub written-step : (leb (entries kind) here and leb (entries kind) (freeEntry kind s)) ≡ false
       → (eqb (blockIn kind s here r) 0 and leb (blocks kind s) (freeBlock kind s)) ≡ false
       → Old kind s (written kind zeros (spotAt kind s here r) (entryOf kind s f 0) f r v s) f r
@@ -298,10 +299,11 @@ module _ (kind : Kind) (zeros : Bool) (s : List ℕ) (f : File) (r : ℕ) (v : L
       (either (eqb (mapNumber kind s here (mapPlace kind r)) 0)))
       (either (leb (entries kind) here))
 
-  -- .. and the entry of extent 0 stays
+  -- nothing is taken away, ..
   grown-to : (t : List ℕ) → Old kind s t f r ⊎ New kind s t f r → Grown kind s t
   grown-to t w = ⊎-elim (λ (k : Old kind s t f r). k .wrote .change .grown) (λ (k : New kind s t f r). k .wrote .change .grown) w
 
+  -- .. and extent 0 stands where it stood
   pub written-first : (leb (entries kind) here and leb (entries kind) (freeEntry kind s)) ≡ false
       → (eqb (blockIn kind s here r) 0 and leb (blocks kind s) (freeBlock kind s)) ≡ false
       → Is (written kind zeros (spotAt kind s here r) (entryOf kind s f 0) f r v s) f 0 (entryOf kind s f 0)

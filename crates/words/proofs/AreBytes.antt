@@ -64,7 +64,8 @@ unfolding areBytes tab
 bytes-tab f zero h = refl
 bytes-tab f (suc n) h = and-both _ _ (lt-ltb (f 0) 256 (h 0 (omega arith))) (bytes-tab (λ (k : ℕ). f (suc k)) n (λ k m. h (suc k) (omega arith)))
 
-pub bytes-flat : {A : Type 0} (f : A → List ℕ) (d : A) (xs : List A) → ((i : ℕ) → i < length xs → areBytes (f (getD xs i d)) ≡ true) → areBytes (flat f xs) ≡ true
+pub bytes-flat : {A : Type 0} (f : A → List ℕ) (d : A) (xs : List A) → ((i : ℕ) → i < length xs → areBytes (f (getD xs i d)) ≡ true)
+    → areBytes (flat f xs) ≡ true
 unfolding areBytes flat
 bytes-flat f d [] h = refl
 bytes-flat f d (x ∷ xs) h = bytes-append (f x) (flat f xs) (h 0 (omega arith)) (bytes-flat f d xs (λ i m. h (suc i) (omega arith)))

@@ -24,7 +24,8 @@ pub part-byte : (s : List ℕ) (at n k : ℕ) → k < n → byte (part at n s) k
 part-byte s at n k h = getD-take n (drop at s) k 0 h ∙ getD-drop at s k 0
 
 -- of two lists with the same bytes there
-pub part-same : (s t : List ℕ) (at n : ℕ) → at + n ≤ length s → length t ≡ length s → ((k : ℕ) → k < n → byte t (at + k) ≡ byte s (at + k)) → part at n t ≡ part at n s
+pub part-same : (s t : List ℕ) (at n : ℕ) → at + n ≤ length s → length t ≡ length s → ((k : ℕ) → k < n → byte t (at + k) ≡ byte s (at + k))
+    → part at n t ≡ part at n s
 part-same s t at n h e b =
     sym (tab-getD (part at n t) 0 n (part-long t at n (omega arith)))
     ∙ tab-ext (λ (k : ℕ). getD (part at n t) k 0) (λ (k : ℕ). getD (part at n s) k 0) n (λ k l. part-byte t at n k l ∙ b k l ∙ sym (part-byte s at n k l))
@@ -79,7 +80,8 @@ module _ (at : ℕ) (v s : List ℕ) (fits : at + length v ≤ length s) where
 -- ---- loops and loans that put bytes
 
 -- a turn of a loop that copies
-pub paste-turn : (d : List ℕ) (at : ℕ) (s : List ℕ) (j : ℕ) (l : List ℕ) → at + j < length d → j < length s → l ≡ paste d at s j → set l (at + j) (getD s j 0) ≡ paste d at s (j + 1)
+pub paste-turn : (d : List ℕ) (at : ℕ) (s : List ℕ) (j : ℕ) (l : List ℕ) → at + j < length d → j < length s → l ≡ paste d at s j
+    → set l (at + j) (getD s j 0) ≡ paste d at s (j + 1)
 paste-turn d at s j l h k e = ap (λ (m : List ℕ). set m (at + j) (getD s j 0)) e ∙ rw add-one (paste-suc d at s j 0 h k)
 
 -- the end of it
@@ -97,7 +99,8 @@ lent-back a e xs ys zs h g n =
     ∙ sym (append-assoc (take a xs) zs (drop (a + length zs) xs))
 
 -- the same of a part of k bytes that came back filled with zeros
-pub lent-zeros : (a e k : ℕ) (xs ys : List ℕ) → e ≡ a + k → e ≤ length xs → ys ≡ replicate (length (take (e - a) (drop a xs))) 0 → putMid a (e - a) xs ys ≡ put a (replicate k 0) xs
+pub lent-zeros : (a e k : ℕ) (xs ys : List ℕ) → e ≡ a + k → e ≤ length xs → ys ≡ replicate (length (take (e - a) (drop a xs))) 0
+    → putMid a (e - a) xs ys ≡ put a (replicate k 0) xs
 lent-zeros a e k xs ys h m n =
     let j : length (take (e - a) (drop a xs)) ≡ k = simp (length-take, length-drop) (omega arith) in
     lent-back a e xs ys (replicate k 0) (omega arith) (length-replicate k 0 ∙ omega arith) (n ∙ ap (λ (i : ℕ). replicate i 0) j)

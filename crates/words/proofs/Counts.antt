@@ -98,7 +98,8 @@ count-one f g p (suc n) l was now h =
     rw (y, z) (omega arith))
     (λ (e : eqb n p ≡ false).
     let w = eqb-false n p e in
-    let m : p < n = ⊎-elim (λ (q : leb n p ≡ true). let j = leb-true n p q in absurd (w (omega arith))) (λ (q : leb n p ≡ false). leb-false n p q) (either (leb n p)) in
+    let m : p < n = ⊎-elim (λ (q : leb n p ≡ true). let j = leb-true n p q in absurd (w (omega arith))) (λ (q : leb n p ≡ false). leb-false n p q)
+    (either (leb n p)) in
     let k = count-one f g p n m was now (λ i j z. h i (omega arith) z) in
     rw (h n (omega arith) w) (omega arith))
     (either (eqb n p))

@@ -28,7 +28,8 @@ pub record Pasted (d : List ℕ) (at : ℕ) (s l : List ℕ) (i : ℕ) : Type 0 
 pub pasted-none : (d : List ℕ) (at : ℕ) (s : List ℕ) → Pasted d at s d 0
 pasted-none d at s = record { long = refl; so = paste-zero d at s }
 
-pub pasted-more : (d : List ℕ) (at : ℕ) (s l : List ℕ) (i : ℕ) → Pasted d at s l i → at + length s ≤ length d → i < length s → Pasted d at s (set l (at + i) (getD s i 0)) (i + 1)
+pub pasted-more : (d : List ℕ) (at : ℕ) (s l : List ℕ) (i : ℕ) → Pasted d at s l i → at + length s ≤ length d → i < length s
+    → Pasted d at s (set l (at + i) (getD s i 0)) (i + 1)
 pasted-more d at s l i p h k = record {
   long = length-set l (at + i) (getD s i 0) ∙ p .long;
   so = paste-turn d at s i l (omega arith) k (p .so);
@@ -98,7 +99,8 @@ total-one p (suc n) =
     (either (eqb p n))
   where
     other : (p n : ℕ) → (p ≡ n → ⊥) → n ≤ p → suc n ≤ p
-    other p n h k = ⊎-elim (λ (l : ltb n p ≡ true). let m = ltb-true n p l in omega arith) (λ (l : ltb n p ≡ false). let m = ltb-false n p l in absurd (h (omega arith))) (either (ltb n p))
+    other p n h k = ⊎-elim (λ (l : ltb n p ≡ true). let m = ltb-true n p l in omega arith)
+        (λ (l : ltb n p ≡ false). let m = ltb-false n p l in absurd (h (omega arith))) (either (ltb n p))
 
 -- ---- a list mapped twice
 

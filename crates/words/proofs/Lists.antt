@@ -123,14 +123,17 @@ module _ {A : Type 0} (f : A → List ℕ) (w : ℕ) (hw : (x : A) → length (f
 
 -- a list cut into blocks, each of which g takes for f's
 module _ {A : Type 0} (f : A → List ℕ) (g : List ℕ → A) (w : ℕ) where
-  pub flat-cut : (n a : ℕ) (s : List ℕ) → length s ≡ a + w * n → ((i : ℕ) → i < n → f (g (take w (drop (a + w * i) s))) ≡ take w (drop (a + w * i) s)) → flat f (tab (λ (i : ℕ). g (take w (drop (a + w * i) s))) n) ≡ drop a s
+  pub flat-cut : (n a : ℕ) (s : List ℕ) → length s ≡ a + w * n → ((i : ℕ) → i < n → f (g (take w (drop (a + w * i) s))) ≡ take w (drop (a + w * i) s))
+      → flat f (tab (λ (i : ℕ). g (take w (drop (a + w * i) s))) n) ≡ drop a s
   unfolding flat tab
   flat-cut zero a s h k = let z : length s ≤ a = omega arith in sym (drop-of-length-le s z)
   flat-cut (suc n) a s h k =
       let z : a + w * 0 ≡ a = omega arith in
       let y : (i : ℕ) → a + w + w * i ≡ a + w * suc i = λ (i : ℕ). omega (arith, mul-suc w i) in
-      let e : tab (λ (i : ℕ). g (take w (drop (a + w * suc i) s))) n ≡ tab (λ (i : ℕ). g (take w (drop (a + w + w * i) s))) n = tab-ext _ _ n (λ i l. ap (λ (j : ℕ). g (take w (drop j s))) (sym (y i))) in
-      let r : flat f (tab (λ (i : ℕ). g (take w (drop (a + w + w * i) s))) n) ≡ drop (a + w) s = flat-cut n (a + w) s (omega (arith, mul-suc w n)) (λ i l. rw (y i) (k (suc i) (omega arith))) in
+      let e : tab (λ (i : ℕ). g (take w (drop (a + w * suc i) s))) n ≡ tab (λ (i : ℕ). g (take w (drop (a + w + w * i) s))) n = tab-ext _ _ n
+      (λ i l. ap (λ (j : ℕ). g (take w (drop j s))) (sym (y i))) in
+      let r : flat f (tab (λ (i : ℕ). g (take w (drop (a + w + w * i) s))) n) ≡ drop (a + w) s = flat-cut n (a + w) s (omega (arith, mul-suc w n))
+      (λ i l. rw (y i) (k (suc i) (omega arith))) in
       let b : f (g (take w (drop a s))) ≡ take w (drop a s) = rw z at (k 0 (omega arith)) in
       rw (z, b, e, r) (ap (λ (t : List ℕ). take w (drop a s) ++ t) (sym (drop-drop w a s)) ∙ take-append-drop w (drop a s))
 

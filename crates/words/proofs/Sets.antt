@@ -252,13 +252,47 @@ pub ruleset turning-as = (needs, refl, turns-none, turns-more, turns-ends-as)
 pub ruleset turning = (needs, refl, turns-none, turns-more, turns-ends)
 
 -- a function that tests one thing after the other
-pub ruleset choices = (if-yes, if-no, and-first, and-then, and-left, and-right, and-both, or-first, or-then, not-of-false, not-of-true, not-answer, same-as, not-as, test-as, tests, answers)
+pub ruleset choices = (
+  if-yes,
+  if-no,
+  and-first,
+  and-then,
+  and-left,
+  and-right,
+  and-both,
+  or-first,
+  or-then,
+  not-of-false,
+  not-of-true,
+  not-answer,
+  same-as,
+  not-as,
+  test-as,
+  tests,
+  answers,
+)
 
 -- .. where a byte was made wider
 pub ruleset wides = (less-as, most-as, and-first, and-then, or-first, or-then, tests)
 
 -- a table of codes
-pub ruleset codes = (row-yes, row-no, row-none, only-on, only-off, or-left, or-right, or-none, not-of-false, not-of-true, same-as, not-as, test-as, tests, answers)
+pub ruleset codes = (
+  row-yes,
+  row-no,
+  row-none,
+  only-on,
+  only-off,
+  or-left,
+  or-right,
+  or-none,
+  not-of-false,
+  not-of-true,
+  same-as,
+  not-as,
+  test-as,
+  tests,
+  answers,
+)
 
 -- a match over numbers
 pub ruleset keys = (if-yes, if-no, eq-eqb, ne-eqb, key-not, refl)

@@ -8,7 +8,7 @@ use lib.Dec.{eqb, ltb}
 use borrow.Author.Tests.{ltb-true}
 use Rattle.words.specs.Tests.{_and_, _or_, _if_else_}
 use Rattle.words.specs.Tables.{Row, _when_, firstOf, anyRow, noneZero, onlyIf}
-use Rattle.words.proofs.Tests.{either, equal?, and-fst, and-snd}
+use Rattle.words.proofs.Tests.{either, equal?, and-fst, and-snd, or-fst, or-snd}
 
 -- no row applies: the code is 0
 pub none-applies : (rows : List Row) → anyRow rows ≡ false → firstOf rows ≡ 0
@@ -42,6 +42,20 @@ pub zero-none : (rows : List Row) → noneZero rows ≡ true → firstOf rows �
 zero-none rows r z =
     ⊎-elim (λ (h : anyRow rows ≡ true). absurd (true≢false (sym (ap (λ (n : ℕ). eqb n 0) z) ∙ some-applies rows r h)))
     (λ (h : anyRow rows ≡ false). h) (either (anyRow rows))
+
+-- no row of two tables applies: none of either, ..
+pub any-append : (xs ys : List Row) → anyRow (xs ++ ys) ≡ false → (anyRow xs ≡ false) × (anyRow ys ≡ false)
+unfolding anyRow _or_
+any-append [] ys h = (refl, h)
+any-append (x ∷ xs) ys h =
+    let a : x .test ≡ false = or-fst (x .test) (anyRow (xs ++ ys)) h in
+    let k = any-append xs ys (or-snd (x .test) (anyRow (xs ++ ys)) h) in
+    (rw a (k .0), k .1)
+
+-- .. of one that is looked at only where a test holds: none of it, where it does
+pub any-only : (t : Bool) (rows : List Row) → t ≡ true → anyRow (onlyIf t rows) ≡ false → anyRow rows ≡ false
+unfolding onlyIf _if_else_
+any-only t rows e h = rw e at h
 
 -- two tables, one after the other
 pub first-then : (xs ys : List Row) → firstOf xs ≡ 0 → noneZero xs ≡ true → firstOf (xs ++ ys) ≡ firstOf ys

@@ -42,6 +42,11 @@ unfolding _and_
 and-snd true y h = h
 and-snd false y h = absurd (true≢false (sym h))
 
+-- the first of two holds, both do not: the second does not
+pub and-rest : (x y : Bool) → x ≡ true → (x and y) ≡ false → y ≡ false
+unfolding _and_
+and-rest x y e h = rw e at h
+
 pub or-fst : (x y : Bool) → (x or y) ≡ false → x ≡ false
 unfolding _or_
 or-fst true y h = h

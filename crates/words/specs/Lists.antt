@@ -1,6 +1,8 @@
 -- Lists made by a rule. Assumes nothing.
-use Prim.Native.Nat.{ℕ, zero, suc}
+use Prim.Native.Nat.{ℕ, zero, suc, _+_}
+use mathlib.Core.Bool.{Bool}
 use mathlib.Core.List.{List, [], _∷_, _++_}
+use Rattle.words.specs.Tests.{_if_else_}
 
 -- f 0, f 1, .., f (n - 1)
 unfoldable pub tab : {A : Type 0} → (ℕ → A) → ℕ → List A
@@ -11,6 +13,16 @@ tab f (suc n) = f 0 ∷ tab (λ (k : ℕ). f (suc k)) n
 unfoldable pub flat : {A : Type 0} → (A → List ℕ) → List A → List ℕ
 flat f [] = []
 flat f (x ∷ xs) = f x ++ flat f xs
+
+-- how many of a list pass a test
+unfoldable pub tally : {A : Type 0} → (A → Bool) → List A → ℕ
+tally t [] = 0
+tally t (x ∷ xs) = tally t xs + (1 if t x else 0)
+
+-- those of a list that a test does not take away
+unfoldable pub without : {A : Type 0} → (A → Bool) → List A → List A
+without away [] = []
+without away (x ∷ xs) = without away xs if away x else x ∷ without away xs
 
 -- a step taken at 0, 1, .., n - 1
 unfoldable pub turns : {A : Type 0} → (ℕ → A → A) → ℕ → A → A

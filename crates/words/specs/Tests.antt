@@ -37,3 +37,8 @@ lowest f (suc n) = lowest f n if any f n else n if f n else suc n
 unfoldable pub count : (ℕ → Bool) → ℕ → ℕ
 count f zero = 0
 count f (suc n) = count f n + (1 if f n else 0)
+
+-- f 0 + .. + f (n - 1)
+unfoldable pub sumBelow : (ℕ → ℕ) → ℕ → ℕ
+sumBelow f zero = 0
+sumBelow f (suc n) = sumBelow f n + f n

@@ -25,15 +25,19 @@ use Rattle.rules.proofs.Sizes.{record-room}
 use Rattle.rules.specs.declared.file.File.{File}
 use Rattle.rules.specs.declared.spot.Spot.{Spot}
 
-pub spot-is : (e e′ b b′ : ℕ) (p t : Bool) → e ≡ e′ → b ≡ b′ → _≡_ {A = Spot} (record { entry = e; fresh = p; block = b; taken = t }) (record { entry = e′; fresh = p; block = b′; taken = t })
+pub spot-is : (e e′ b b′ : ℕ) (p t : Bool) → e ≡ e′ → b ≡ b′
+    → _≡_ {A = Spot} (record { entry = e; fresh = p; block = b; taken = t }) (record { entry = e′; fresh = p; block = b′; taken = t })
 spot-is e e′ b b′ p t q r = rw (q, r)
 
 -- eleven bytes, one by one
-pub eleven : (n : List ℕ) → length n ≡ 11 → getD n 0 0 ∷ getD n 1 0 ∷ getD n 2 0 ∷ getD n 3 0 ∷ getD n 4 0 ∷ getD n 5 0 ∷ getD n 6 0 ∷ getD n 7 0 ∷ getD n 8 0 ∷ getD n 9 0 ∷ getD n 10 0 ∷ [] ≡ n
+pub eleven : (n : List ℕ) → length n ≡ 11 → getD n 0 0 ∷ getD n 1 0 ∷ getD n 2 0 ∷ getD n 3 0 ∷ getD n 4 0 ∷ getD n 5 0 ∷ getD n 6 0 ∷ getD n 7 0 ∷ getD n 8 0
+    ∷ getD n 9 0 ∷ getD n 10 0 ∷ [] ≡ n
 unfolding tab
 eleven n h = tab-getD n 0 11 h
 
-pub made-is : (f : File) → length (f .name) ≡ 11 → f .user ∷ getD (f .name) 0 0 ∷ getD (f .name) 1 0 ∷ getD (f .name) 2 0 ∷ getD (f .name) 3 0 ∷ getD (f .name) 4 0 ∷ getD (f .name) 5 0 ∷ getD (f .name) 6 0 ∷ getD (f .name) 7 0 ∷ getD (f .name) 8 0 ∷ getD (f .name) 9 0 ∷ getD (f .name) 10 0 ∷ 0 ∷ 0 ∷ 0 ∷ 0 ∷ 0 ∷ 0 ∷ 0 ∷ 0 ∷ 0 ∷ 0 ∷ 0 ∷ 0 ∷ 0 ∷ 0 ∷ 0 ∷ 0 ∷ 0 ∷ 0 ∷ 0 ∷ 0 ∷ [] ≡ madeEntry f
+pub made-is : (f : File) → length (f .name) ≡ 11 → f .user ∷ getD (f .name) 0 0 ∷ getD (f .name) 1 0 ∷ getD (f .name) 2 0 ∷ getD (f .name) 3 0 ∷ getD
+    (f .name) 4 0 ∷ getD (f .name) 5 0 ∷ getD (f .name) 6 0 ∷ getD (f .name) 7 0 ∷ getD (f .name) 8 0 ∷ getD (f .name) 9 0 ∷ getD
+    (f .name) 10 0 ∷ 0 ∷ 0 ∷ 0 ∷ 0 ∷ 0 ∷ 0 ∷ 0 ∷ 0 ∷ 0 ∷ 0 ∷ 0 ∷ 0 ∷ 0 ∷ 0 ∷ 0 ∷ 0 ∷ 0 ∷ 0 ∷ 0 ∷ 0 ∷ [] ≡ madeEntry f
 unfolding madeEntry
 made-is f h = ap (λ (n : List ℕ). f .user ∷ (n ++ replicate 20 0)) (eleven (f .name) h)
 
@@ -58,11 +62,13 @@ pub large-put : (t s : List ℕ) (e k b : ℕ) → t ≡ put (32 * e + (16 + 2 *
 unfolding width le
 large-put t s e k b h = h
 
-pub number-put : (kind one : Kind) (t s : List ℕ) (e k b : ℕ) → kind ≡ one → t ≡ put (mapAt one e k) (le (width one) b) s → t ≡ put (mapAt kind e k) (le (width kind) b) s
+pub number-put : (kind one : Kind) (t s : List ℕ) (e k b : ℕ) → kind ≡ one → t ≡ put (mapAt one e k) (le (width one) b) s
+    → t ≡ put (mapAt kind e k) (le (width kind) b) s
 number-put kind one t s e k b q h = rw q h
 
 module _ (kind : Kind) (w : Spot) (r : ℕ) (s : List ℕ) where
-  pub mapped-on : (t : List ℕ) (k : ℕ) → w .taken ≡ true → k ≡ mapPlace kind r → t ≡ put (mapAt kind (w .entry) k) (le (width kind) (w .block)) s → t ≡ mapped kind w r s
+  pub mapped-on : (t : List ℕ) (k : ℕ) → w .taken ≡ true → k ≡ mapPlace kind r → t ≡ put (mapAt kind (w .entry) k) (le (width kind) (w .block)) s
+      → t ≡ mapped kind w r s
   unfolding mapped _if_else_
   mapped-on t k y p h = rw (y, ← p) h
 
@@ -75,13 +81,16 @@ module _ (kind : Kind) (w : Spot) (r : ℕ) (s : List ℕ) where
   stored-as t v x at p q h = rw (← p, ← q) h
 
 -- a record lies in the image with its block
-pub record-lies : (kind : Kind) (block r at : ℕ) (s : List ℕ) → at ≡ recordAt kind block r → blockSize kind * block + blockSize kind ≤ length s → at + 128 ≤ length s
+pub record-lies : (kind : Kind) (block r at : ℕ) (s : List ℕ) → at ≡ recordAt kind block r → blockSize kind * block + blockSize kind ≤ length s
+    → at + 128 ≤ length s
 record-lies kind block r at s h g = rw h (record-room kind block r (length s) g)
 
 -- ---- a block cleared
 
 module _ (kind : Kind) (zeros : Bool) (w : Spot) (xs : List ℕ) where
-  pub cleared-on : (ys : List ℕ) (a m : ℕ) → zeros ≡ true → w .taken ≡ true → a ≡ blockSize kind * w .block → m ≡ blockSize kind → blockSize kind * w .block + blockSize kind ≤ length xs → ys ≡ replicate (length (take (a + m - a) (drop a xs))) 0 → putMid a (a + m - a) xs ys ≡ cleared kind zeros w xs
+  pub cleared-on : (ys : List ℕ) (a m : ℕ) → zeros ≡ true → w .taken ≡ true → a ≡ blockSize kind * w .block → m ≡ blockSize kind
+      → blockSize kind * w .block + blockSize kind ≤ length xs → ys ≡ replicate (length (take (a + m - a) (drop a xs))) 0
+      → putMid a (a + m - a) xs ys ≡ cleared kind zeros w xs
   unfolding cleared _if_else_ _and_
   cleared-on ys a m z y p q f h = rw (z, y, ← p, ← q) (lent-zeros a (a + m) m xs ys refl (omega arith) h)
 
@@ -95,6 +104,7 @@ module _ (kind : Kind) (zeros : Bool) (w : Spot) (xs : List ℕ) where
 
 -- ---- the steps of a write, one after the other
 
-pub written-as : (kind : Kind) (zeros : Bool) (w : Spot) (e₀ : ℕ) (f : File) (r : ℕ) (v s a b c d t : List ℕ) → a ≡ entered w e₀ f r s → b ≡ mapped kind w r a → c ≡ counted w r b → d ≡ cleared kind zeros w c → t ≡ stored kind w r v d → t ≡ written kind zeros w e₀ f r v s
+pub written-as : (kind : Kind) (zeros : Bool) (w : Spot) (e₀ : ℕ) (f : File) (r : ℕ) (v s a b c d t : List ℕ) → a ≡ entered w e₀ f r s → b ≡ mapped kind w r a
+    → c ≡ counted w r b → d ≡ cleared kind zeros w c → t ≡ stored kind w r v d → t ≡ written kind zeros w e₀ f r v s
 unfolding written
 written-as kind zeros w e₀ f r v s a b c d t ha hb hc hd ht = rw (← ha, ← hb, ← hc, ← hd) ht

@@ -1,1 +1,2 @@
+-- The proofs of `writing`.
 pub mod Entries

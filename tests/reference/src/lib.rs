@@ -1,34 +1,13 @@
 //! A second, independent program for the rules of document 01.
 
 pub mod answer;
-pub mod book;
-pub mod build;
 pub mod calls;
-pub mod comparison;
-pub mod coverage;
-pub mod damage;
 pub mod drive;
-pub mod engine;
-pub mod faults;
-pub mod generate;
-pub mod history;
 pub mod kind;
-#[cfg(feature = "linked")]
-pub mod linked;
 pub mod locks;
 pub mod name;
-pub mod named;
-pub mod named_kinds;
-pub mod parts;
-pub mod pipe;
 pub mod program;
-pub mod program_cases;
-pub mod random;
 pub mod singly;
-pub mod stage;
-pub mod step;
-pub mod table;
-pub mod wire;
 
 pub use program::mpmcalls;
 

@@ -12,7 +12,8 @@ use Rattle.mpmcalls.proofs.read_rest.Statement.{statement}
 use Rattle.mpmcalls.proofs.read_rest.Tie as tie
 
 -- m bytes were read after the first n
-read-more : (n m : ℕ) (xs ys : List ℕ) → n ≤ length xs → m ≤ length ys → length ys ≡ length (midOf n (length xs - n) xs) → Counts (n + m) (putMid n (length xs - n) xs ys)
+read-more : (n m : ℕ) (xs ys : List ℕ) → n ≤ length xs → m ≤ length ys → length ys ≡ length (midOf n (length xs - n) xs)
+    → Counts (n + m) (putMid n (length xs - n) xs ys)
 read-more n m xs ys h k e =
     let l = same-len-mid n (length xs - n) xs ys e in
     let w : length (midOf n (length xs - n) xs) ≡ length xs - n = rw (length-take, length-drop) (omega arith) in
@@ -36,4 +37,5 @@ read-rest-spec =
     -- same-length
     (λ c. search needs)
     -- returns
-    (λ c. read-more _ _ _ (c .before .before .read-full .last .1 .0) (c .before .before .before .before .before .pre) (c .before .before .read-full .ensures .0) (c .before .input .given .0)))
+    (λ c. read-more _ _ _ (c .before .before .read-full .last .1 .0) (c .before .before .before .before .before .pre) (c .before .before .read-full .ensures .0)
+    (c .before .input .given .0)))

@@ -30,11 +30,17 @@ run-calls-spec =
     -- loop-less
     (λ c. omega arith)
     -- loop-again
-    (λ c. (c .before .before .before .before .before .step .kept .1 .0 ∙ c .before .before .before .before .before .before .before .before .before .loop .inv .0, c .before .before .before .before .before .step .kept .1 .1 .0 ∙ c .before .before .before .before .before .before .before .before .before .loop .inv .1, omega arith))
+    (λ c. (
+      c .before .before .before .before .before .step .kept .1 .0
+          ∙ c .before .before .before .before .before .before .before .before .before .loop .inv .0,
+      c .before .before .before .before .before .step .kept .1 .1 .0 ∙ c .before .before .before .before .before .before .before .before .before .loop .inv .1,
+      omega arith,
+    ))
     -- same-length
     (λ c. c .before .before .before .before .before .step .kept .1 .0 ∙ c .before .before .before .before .before .before .before .before .before .loop .inv .0)
     -- same-length-2
-    (λ c. c .before .before .before .before .before .step .kept .1 .1 .0 ∙ c .before .before .before .before .before .before .before .before .before .loop .inv .1)
+    (λ c. c .before .before .before .before .before .step .kept .1 .1 .0
+    ∙ c .before .before .before .before .before .before .before .before .before .loop .inv .1)
     -- returns
     (λ c. tt)
     -- same-length-3

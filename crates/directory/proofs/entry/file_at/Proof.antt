@@ -1,3 +1,4 @@
+-- `directory::entry::file_at` meets its contract.
 use borrow.Author.Needs.{needs}
 use Rattle.rules.specs.Drive.{fileAt}
 use Rattle.directory.proofs.entry.file_at.Statement.{statement}

@@ -1,3 +1,4 @@
+-- `directory::entry::is_of` meets its contract.
 use borrow.Author.Needs.{needs}
 use Rattle.words.proofs.Sets.{choices}
 use Rattle.rules.specs.Drive.{isEmpty, isOf}

@@ -1,3 +1,4 @@
+-- `directory::entry::large_number` meets its contract.
 use borrow.Author.Needs.{needs}
 use mathlib.Core.Path.{refl}
 use Rattle.directory.proofs.Arms.{large-is}

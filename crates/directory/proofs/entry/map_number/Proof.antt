@@ -1,3 +1,4 @@
+-- `directory::entry::map_number` meets its contract.
 use borrow.Author.Needs.{needs}
 use Rattle.directory.proofs.Arms.{small-places, large-places, number-as}
 use Rattle.directory.proofs.entry.map_number.Statement.{statement}

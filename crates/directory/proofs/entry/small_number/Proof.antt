@@ -1,3 +1,4 @@
+-- `directory::entry::small_number` meets its contract.
 use borrow.Author.Needs.{needs}
 use Rattle.directory.proofs.Arms.{small-is}
 use Rattle.directory.proofs.entry.small_number.Statement.{statement}

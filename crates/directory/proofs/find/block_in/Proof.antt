@@ -1,3 +1,4 @@
+-- `directory::find::block_in` meets its contract.
 use borrow.Author.Needs.{needs}
 use Rattle.directory.proofs.Arms.{block-none, block-found}
 use Rattle.directory.proofs.find.block_in.Statement.{statement}

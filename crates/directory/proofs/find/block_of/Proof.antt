@@ -1,3 +1,4 @@
+-- `directory::find::block_of` meets its contract.
 use borrow.Author.Needs.{needs}
 use Rattle.rules.specs.Drive.{blockOf}
 use Rattle.directory.proofs.find.block_of.Statement.{statement}

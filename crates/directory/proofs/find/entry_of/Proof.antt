@@ -1,3 +1,4 @@
+-- `directory::find::entry_of` meets its contract.
 use Prim.Native.Nat.{_-_, _≤_}
 use mathlib.Core.Path.{_≡_}
 use mathlib.Core.Bool.{false}

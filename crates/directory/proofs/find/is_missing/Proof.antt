@@ -1,3 +1,4 @@
+-- `directory::find::is_missing` meets its contract.
 use borrow.Author.Needs.{needs}
 use Rattle.words.proofs.Sets.{wides}
 use Rattle.rules.specs.Drive.{missing}

@@ -1,3 +1,4 @@
+-- `directory::find::look_up` meets its contract.
 use borrow.Author.Needs.{needs}
 use Rattle.rules.specs.Drive.{lookUp}
 use Rattle.directory.proofs.find.look_up.Statement.{statement}

@@ -1,3 +1,4 @@
+-- `directory::name::file_from` meets its contract.
 use borrow.Author.Needs.{needs}
 use Rattle.rules.specs.Drive.{fileFrom}
 use Rattle.directory.proofs.name.file_from.Statement.{statement}

@@ -1,3 +1,4 @@
+-- `directory::name::legal_byte` meets its contract.
 use Rattle.words.proofs.Sets.{choices}
 use Rattle.rules.specs.Drive.{legalByte}
 use Rattle.directory.proofs.name.legal_byte.Statement.{statement}

@@ -1,3 +1,4 @@
+-- `directory::name::legal_name` meets its contract.
 use borrow.Author.Needs.{needs}
 use Rattle.words.proofs.Sets.{choices}
 use Rattle.rules.specs.Drive.{legalName}

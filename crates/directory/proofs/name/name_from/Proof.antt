@@ -1,3 +1,4 @@
+-- `directory::name::name_from` meets its contract.
 use Prim.Native.Nat.{_-_, _≤_}
 use mathlib.Core.Path.{_≡_}
 use Rattle.words.specs.Bytes.{lowFrom}

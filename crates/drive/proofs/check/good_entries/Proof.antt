@@ -1,3 +1,4 @@
+-- `drive::check::good_entries` meets its contract.
 use borrow.Author.Needs.{needs}
 use Rattle.drive.proofs.Marks.{one-kind}
 use Rattle.drive.proofs.check.good_entries.Statement.{statement}

@@ -1,3 +1,4 @@
+-- `drive::check::good_entry` meets its contract.
 use Rattle.words.proofs.Sets.{answers}
 use borrow.Author.Needs.{needs}
 use Rattle.rules.specs.Drive.{goodEntry}

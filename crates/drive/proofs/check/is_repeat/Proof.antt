@@ -1,3 +1,4 @@
+-- `drive::check::is_repeat` meets its contract.
 use borrow.Author.Needs.{needs}
 use Rattle.rules.specs.Drive.{isRepeat}
 use Rattle.drive.proofs.check.is_repeat.Statement.{statement}

@@ -1,3 +1,4 @@
+-- `drive::check::large_entries` meets its contract.
 use borrow.Author.Needs.{needs}
 use Rattle.drive.proofs.Marks.{large-none}
 use Rattle.drive.proofs.check.large_entries.Statement.{statement}

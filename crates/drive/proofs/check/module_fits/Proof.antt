@@ -1,3 +1,4 @@
+-- `drive::check::module_fits` meets its contract.
 use borrow.Author.Needs.{needs}
 use Rattle.words.proofs.Sets.{wides}
 use Rattle.drive.proofs.check.module_fits.Statement.{statement}

@@ -1,3 +1,4 @@
+-- `drive::check::small_entries` meets its contract.
 use borrow.Author.Needs.{needs}
 use Rattle.drive.proofs.Marks.{small-none}
 use Rattle.drive.proofs.check.small_entries.Statement.{statement}

@@ -1,3 +1,4 @@
+-- `drive::check::sound_directory` meets its contract.
 use borrow.Author.Needs.{needs}
 use Rattle.words.proofs.Sets.{choices}
 use Rattle.rules.specs.Drive.{soundDirectory}

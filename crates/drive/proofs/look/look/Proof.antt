@@ -1,3 +1,4 @@
+-- `drive::look::look` meets its contract.
 use mathlib.Core.Path.{refl}
 use borrow.Author.Needs.{needs}
 use native.Mathlib.Omega.{arith}

@@ -1,3 +1,4 @@
+-- `drive::look::look_at` meets its contract.
 use borrow.Author.Needs.{needs}
 use Rattle.drive.proofs.Looking.{look-begins}
 use Rattle.drive.proofs.look.look_at.Statement.{statement}

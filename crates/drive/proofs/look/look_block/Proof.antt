@@ -1,3 +1,4 @@
+-- `drive::look::look_block` meets its contract.
 use borrow.Author.Needs.{needs}
 use native.Mathlib.Omega.{arith}
 use Rattle.drive.proofs.Looking.{looked-image, looked-user, looked-long, looked-block, looked-not}

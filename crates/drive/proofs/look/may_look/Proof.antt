@@ -1,3 +1,4 @@
+-- `drive::look::may_look` meets its contract.
 use borrow.Author.Needs.{needs}
 use Rattle.words.proofs.Sets.{choices}
 use Rattle.rules.specs.Look.{mayLook}

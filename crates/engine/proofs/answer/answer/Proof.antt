@@ -1,3 +1,4 @@
+-- `engine::answer::answer` meets its contract.
 use borrow.Author.Needs.{needs}
 use native.Mathlib.Omega.{arith}
 use Rattle.engine.proofs.Passing.{is-call, numbers, fcb-there, list-there, all-passed, ends-unknown, ends-bad, ends-refused, ends-served}
@@ -41,7 +42,11 @@ answer-spec =
     -- returns-3
     (λ c. search ends-refused)
     -- cast-serve-by
-    (λ c. omega (arith, numbers _ _ _ _ _ _ _ (c .before .before .before .before .before .before .before .before .bad-numbers .ensures) (c .before .before .before .before .before .before .before .if1 .left) .process-fits))
+    (λ c. omega (
+      arith,
+      numbers _ _ _ _ _ _ _ (c .before .before .before .before .before .before .before .before .bad-numbers .ensures)
+          (c .before .before .before .before .before .before .before .if1 .left) .process-fits,
+    ))
     -- serve-by-requires
     (λ c κs.
     let e = c .before .before .before .before .before .before .before .before .before .before .before .before .bad-numbers .ensures in
@@ -57,4 +62,20 @@ answer-spec =
     -- same-length-11
     (λ c. search needs)
     -- returns-4
-    (λ c. ends-served _ _ _ _ _ _ _ (c .before .before .before .before .before .before .before .before .before .before .before .before .before .before .before .before .before .before .before .before .before .bad-numbers .ensures) (c .before .before .before .before .before .before .before .before .before .before .before .before .before .before .before .before .before .before .before .before .if1 .left) _ (c .before .before .before .before .before .before .before .before .before .before .before .before .before .before .refusal .ensures) _ _ _ _ _ _ _ (c .before .before .before .before .before .before .before .before .before .before .before .before .before .if2 .left) (c .before .before .before .before .before .before .before .before .before .before .before .before .before .before .before .before .before .before .before .before .before .before .before .before .before .before .before .before .routine-of .ensures) (c .before .before .before .before .before .before .before .before .serve-by .ensures) (search (c .before .before .before .before .before .before .before .before .before .before .before .before .before .before .before .before .before .before .before .before .before .before .before .before .before .before .before .match, c .before .before .before .before .before .before .before .before .before .before .before .before .before .before .before .before .before .before .before .before .before .before .before .before .before .known-told .given, c .before .before .before .before .before .before .before .before .before .before .before .before .before .before .before .before .before .before .before .before .before .before .before .before .before .before .chosen .given))))
+    (λ c. ends-served _ _ _ _ _ _ _ (c .before .before .before .before .before .before .before .before .before .before .before .before .before .before .before
+    .before .before .before .before .before .before .bad-numbers .ensures)
+    (c .before .before .before .before .before .before .before .before .before .before .before .before .before .before .before .before .before .before
+    .before .before .if1 .left) _ (c .before .before .before .before .before .before .before .before .before .before .before .before .before .before
+    .refusal .ensures) _ _ _ _ _ _ _ (c .before .before .before .before .before .before .before .before .before .before .before .before .before .if2 .left)
+    (c .before .before .before .before .before .before .before .before .before .before .before .before .before .before .before .before .before .before
+    .before .before .before .before .before .before .before .before .before .before .routine-of .ensures)
+    (c .before .before .before .before .before .before .before .before .serve-by .ensures)
+    (search (
+      c .before .before .before .before .before .before .before .before .before .before .before .before .before .before .before .before .before
+          .before .before .before .before .before .before .before .before .before .before .match,
+      c .before .before .before .before .before .before .before
+          .before .before .before .before .before .before .before .before .before .before .before .before .before .before .before .before .before .before
+          .known-told .given,
+      c .before .before .before .before .before .before .before .before .before .before .before .before .before .before .before .before
+          .before .before .before .before .before .before .before .before .before .before .chosen .given,
+    ))))

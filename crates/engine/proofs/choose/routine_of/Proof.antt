@@ -1,3 +1,4 @@
+-- `engine::choose::routine_of` meets its contract.
 use Rattle.words.proofs.Sets.{keys}
 use Rattle.rules.specs.Serves.{chosen}
 use Rattle.engine.proofs.choose.routine_of.Statement.{statement}

@@ -1,3 +1,4 @@
+-- `engine::refuse::bad_drive` meets its contract.
 use borrow.Author.Needs.{needs}
 use Rattle.words.proofs.Sets.{choices}
 use Rattle.rules.specs.Codes.{badDrive}

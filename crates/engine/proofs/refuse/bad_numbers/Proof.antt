@@ -1,3 +1,4 @@
+-- `engine::refuse::bad_numbers` meets its contract.
 use Rattle.words.proofs.Sets.{choices}
 use Rattle.rules.specs.Codes.{badNumbers}
 use Rattle.engine.proofs.Passing.{known}

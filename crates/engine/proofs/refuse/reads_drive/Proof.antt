@@ -1,3 +1,4 @@
+-- `engine::refuse::reads_drive` meets its contract.
 use mathlib.Core.Path.{refl}
 use borrow.Author.Needs.{needs}
 use Rattle.engine.specs.Drives.{readsDrive}

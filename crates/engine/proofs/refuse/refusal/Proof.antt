@@ -1,3 +1,4 @@
+-- `engine::refuse::refusal` meets its contract.
 use borrow.Author.Needs.{needs}
 use Rattle.words.proofs.Sets.{codes}
 use Rattle.rules.specs.Codes.{rowsInside}

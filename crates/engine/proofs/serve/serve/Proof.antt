@@ -1,3 +1,4 @@
+-- `engine::serve::serve` meets its contract.
 use mathlib.Core.Path.{refl}
 use borrow.Author.Needs.{needs}
 use Rattle.engine.specs.Drives.{usesCount}

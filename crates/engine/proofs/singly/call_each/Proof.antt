@@ -10,7 +10,9 @@ use Rattle.engine.proofs.singly.call_each.Statement.{statement}
 use Rattle.engine.proofs.singly.call_each.Tie as tie
 
 abbrev Inv-loop : tie.InvT-loop
-Inv-loop kind function process count fcb dma₀ list₀ image₀ r i₀ dma list image i = (i ≤ count) × (several kind function process i (buffers fcb dma₀ list₀ image₀) ≡ run 0 i (buffers fcb dma list image)) × (length dma ≡ 2048) × (length list ≡ length list₀) × (length image ≡ length image₀) × (r + i < 16777216)
+Inv-loop kind function process count fcb dma₀ list₀ image₀ r i₀ dma list image i = (i ≤ count)
+    × (several kind function process i (buffers fcb dma₀ list₀ image₀) ≡ run 0 i (buffers fcb dma list image)) × (length dma ≡ 2048)
+    × (length list ≡ length list₀) × (length image ≡ length image₀) × (r + i < 16777216)
 
 abbrev μ-loop : tie.MeasureT-loop
 μ-loop kind function process count fcb dma₀ list₀ image₀ r i₀ dma list image i = count - i

@@ -1,3 +1,4 @@
+-- `files::close::close_file` meets its contract.
 use borrow.Author.Needs.{needs}
 use Rattle.files.proofs.Opening.{close-refused, close-done}
 use Rattle.files.proofs.close.close_file.Statement.{statement}

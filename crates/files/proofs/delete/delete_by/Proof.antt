@@ -1,3 +1,4 @@
+-- `files::delete::delete_by` meets its contract.
 use borrow.Author.Needs.{needs}
 use Rattle.files.proofs.Removing.{delete-refused, delete-done}
 use Rattle.files.proofs.delete.delete_by.Statement.{statement}

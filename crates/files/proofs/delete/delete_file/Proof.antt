@@ -1,3 +1,4 @@
+-- `files::delete::delete_file` meets its contract.
 use borrow.Author.Needs.{needs}
 use Rattle.files.proofs.Removing.{delete-called}
 use Rattle.files.proofs.delete.delete_file.Statement.{statement}

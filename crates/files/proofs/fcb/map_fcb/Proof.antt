@@ -1,3 +1,4 @@
+-- `files::fcb::map_fcb` meets its contract.
 use borrow.Author.Needs.{needs}
 use Rattle.files.proofs.Opening.{fcb-mapped}
 use Rattle.files.proofs.fcb.map_fcb.Statement.{statement}

@@ -1,3 +1,4 @@
+-- `files::fcb::number_fcb` meets its contract.
 use mathlib.Core.Path.{refl}
 use borrow.Author.Needs.{needs}
 use Rattle.words.proofs.Sets.{choices}

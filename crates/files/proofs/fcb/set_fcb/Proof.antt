@@ -1,3 +1,4 @@
+-- `files::fcb::set_fcb` meets its contract.
 use borrow.Author.Needs.{needs}
 use Rattle.rules.specs.Effects.{fcbOpened}
 use Rattle.files.proofs.fcb.set_fcb.Statement.{statement}

@@ -1,3 +1,4 @@
+-- `files::limit::at_open_limit` meets its contract.
 use borrow.Author.Needs.{needs}
 use Rattle.files.proofs.limit.at_open_limit.Statement.{statement}
 use Rattle.files.proofs.limit.at_open_limit.Tie as tie

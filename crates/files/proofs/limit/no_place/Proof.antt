@@ -1,3 +1,4 @@
+-- `files::limit::no_place` meets its contract.
 use borrow.Author.Needs.{needs}
 use Rattle.files.proofs.limit.no_place.Statement.{statement}
 use Rattle.files.proofs.limit.no_place.Tie as tie

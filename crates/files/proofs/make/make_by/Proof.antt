@@ -1,3 +1,4 @@
+-- `files::make::make_by` meets its contract.
 use borrow.Author.Needs.{needs}
 use Rattle.files.proofs.Making.{make-room, make-refused, make-done}
 use Rattle.files.proofs.Opening.{place-fits}
@@ -25,13 +26,20 @@ make-by-spec =
     -- free-place-requires
     (λ c κs. search needs)
     -- make-entry-requires
-    (λ c κs. let h = make-room _ _ _ _ _ _ _ _ (c .before .before .before .before .before .before .before .make-refusal .ensures) (c .before .before .before .before .before .before .if1 .left) (c .before .before .free-entry .ensures .0) in search needs)
+    (λ c κs. let h = make-room _ _ _ _ _ _ _ _ (c .before .before .before .before .before .before .before .make-refusal .ensures)
+    (c .before .before .before .before .before .before .if1 .left) (c .before .before .free-entry .ensures .0) in search needs)
     -- set-fcb-requires
-    (λ c κs. let h = place-fits _ _ (c .before .before .before .before .before .before .free-place .ensures) (search (needs, c .before .before .before .before .before .before .before .before .before .before .before .before .before .before .before .before .before .before .before .before .before .good .1 .1 .0)) in search needs)
+    (λ c κs. let h = place-fits _ _ (c .before .before .before .before .before .before .free-place .ensures)
+    (search (
+      needs,
+      c .before .before .before .before .before .before .before .before .before .before .before .before .before .before .before .before .before
+          .before .before .before .before .good .1 .1 .0,
+    )) in search needs)
     -- open-requires
     (λ c κs. search needs)
     -- pack-requires
-    (λ c κs. c .before .before .before .before .before .before .before .before .before .before .before .before .before .before .before .before .before .before .before .before .before .before .before .before .before .before .pre .list-long)
+    (λ c κs. c .before .before .before .before .before .before .before .before .before .before .before .before .before .before .before .before .before .before
+    .before .before .before .before .before .before .before .before .pre .list-long)
     -- same-length-3
     (λ c. search needs)
     -- same-length-4

@@ -1,3 +1,4 @@
+-- `files::make::make_file` meets its contract.
 use borrow.Author.Needs.{needs}
 use Rattle.files.proofs.Making.{make-called}
 use Rattle.files.proofs.make.make_file.Statement.{statement}

@@ -1,3 +1,4 @@
+-- `files::make::no_entry` meets its contract.
 use borrow.Author.Needs.{needs}
 use Rattle.files.proofs.make.no_entry.Statement.{statement}
 use Rattle.files.proofs.make.no_entry.Tie as tie

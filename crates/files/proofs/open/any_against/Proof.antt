@@ -1,3 +1,4 @@
+-- `files::open::any_against` meets its contract.
 use borrow.Author.Needs.{needs}
 use Rattle.files.proofs.open.any_against.Statement.{statement}
 use Rattle.files.proofs.open.any_against.Tie as tie

@@ -1,3 +1,4 @@
+-- `files::open::open_by` meets its contract.
 use mathlib.Core.Path.{refl}
 use borrow.Author.Needs.{needs}
 use Rattle.files.proofs.Opening.{place-fits, open-refused, open-again, open-new}

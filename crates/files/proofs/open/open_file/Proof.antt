@@ -1,3 +1,4 @@
+-- `files::open::open_file` meets its contract.
 use borrow.Author.Needs.{needs}
 use Rattle.files.proofs.Opening.{open-called}
 use Rattle.files.proofs.open.open_file.Statement.{statement}

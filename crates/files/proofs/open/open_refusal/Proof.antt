@@ -1,3 +1,4 @@
+-- `files::open::open_refusal` meets its contract.
 use borrow.Author.Needs.{needs}
 use Rattle.words.proofs.Sets.{codes}
 use Rattle.rules.specs.Codes.{rowsNew, rows15}

@@ -1,3 +1,4 @@
+-- `files::open::opened_otherwise` meets its contract.
 use borrow.Author.Needs.{needs}
 use Rattle.words.proofs.Sets.{choices}
 use Rattle.rules.specs.Locks.{isOpened}

@@ -1,3 +1,4 @@
+-- `files::open::same_mode` meets its contract.
 use borrow.Author.Needs.{needs}
 use Rattle.files.proofs.open.same_mode.Statement.{statement}
 use Rattle.files.proofs.open.same_mode.Tie as tie

@@ -1,3 +1,4 @@
+-- `files::rename::illegal_names` meets its contract.
 use borrow.Author.Needs.{needs}
 use Rattle.words.proofs.Sets.{choices}
 use Rattle.files.proofs.rename.illegal_names.Statement.{statement}

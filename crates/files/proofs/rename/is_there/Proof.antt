@@ -1,3 +1,4 @@
+-- `files::rename::is_there` meets its contract.
 use borrow.Author.Needs.{needs}
 use Rattle.words.proofs.Sets.{not-answer}
 use Rattle.files.proofs.rename.is_there.Statement.{statement}

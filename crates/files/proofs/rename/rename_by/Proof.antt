@@ -1,3 +1,4 @@
+-- `files::rename::rename_by` meets its contract.
 use borrow.Author.Needs.{needs}
 use Rattle.files.proofs.Removing.{rename-refused, rename-done}
 use Rattle.files.proofs.rename.rename_by.Statement.{statement}

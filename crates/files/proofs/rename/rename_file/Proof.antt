@@ -1,3 +1,4 @@
+-- `files::rename::rename_file` meets its contract.
 use borrow.Author.Needs.{needs}
 use Rattle.files.proofs.Removing.{name-low, rename-called}
 use Rattle.files.proofs.rename.rename_file.Statement.{statement}

@@ -1,3 +1,4 @@
+-- `files::rename::rename_refusal` meets its contract.
 use mathlib.Core.Path.{refl}
 use borrow.Author.Needs.{needs}
 use Rattle.words.proofs.Sets.{is-yes, is-no, not-yes, not-no, not-of-false, not-of-true, row-yes, row-no, row-none}

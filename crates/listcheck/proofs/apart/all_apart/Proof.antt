@@ -1,3 +1,4 @@
+-- `listcheck::apart::all_apart` meets its contract.
 use Prim.Native.Nat.{_-_, _≤_, _<_}
 use mathlib.Core.Path.{_≡_}
 use mathlib.Core.Bool.{true, false}
@@ -62,7 +63,8 @@ all-apart-spec =
     -- loop2-less-2
     (λ c. search aparts)
     -- loop2-again-2
-    (λ c. let i = c .before .before .before .before .before .before .loop2 .inv in (i .0, i .1, search aparts, any-goes _ _ (i .3) (is-no _ _ (c .before .file-clash .ensures) (c .if3 .left))))
+    (λ c. let i = c .before .before .before .before .before .before .loop2 .inv in
+    (i .0, i .1, search aparts, any-goes _ _ (i .3) (is-no _ _ (c .before .file-clash .ensures) (c .if3 .left))))
     -- add-i-2
     (λ c. search aparts)
     -- loop-less-2

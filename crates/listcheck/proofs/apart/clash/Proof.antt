@@ -1,3 +1,4 @@
+-- `listcheck::apart::clash` meets its contract.
 use borrow.Author.Needs.{needs}
 use Rattle.words.proofs.Sets.{choices}
 use Rattle.rules.specs.Locks.{clash}

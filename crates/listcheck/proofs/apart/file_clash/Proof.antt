@@ -1,3 +1,4 @@
+-- `listcheck::apart::file_clash` meets its contract.
 use borrow.Author.Needs.{needs}
 use Rattle.listcheck.proofs.Checks.{clashing}
 use Rattle.listcheck.proofs.apart.file_clash.Statement.{statement}

@@ -1,3 +1,4 @@
+-- `listcheck::apart::locks_clash` meets its contract.
 use Rattle.words.proofs.Sets.{choices}
 use Rattle.listcheck.proofs.apart.locks_clash.Statement.{statement}
 use Rattle.listcheck.proofs.apart.locks_clash.Tie as tie

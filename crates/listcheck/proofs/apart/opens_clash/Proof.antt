@@ -1,3 +1,4 @@
+-- `listcheck::apart::opens_clash` meets its contract.
 use borrow.Author.Needs.{needs}
 use Rattle.words.proofs.Sets.{choices}
 use Rattle.listcheck.proofs.apart.opens_clash.Statement.{statement}

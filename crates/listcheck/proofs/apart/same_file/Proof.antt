@@ -1,3 +1,4 @@
+-- `listcheck::apart::same_file` meets its contract.
 use borrow.Author.Needs.{needs}
 use Rattle.words.proofs.Sets.{choices}
 use Rattle.rules.specs.Locks.{sameFile}

@@ -1,3 +1,4 @@
+-- `listcheck::apart::stand_beside` meets its contract.
 use Rattle.words.proofs.Sets.{choices}
 use Rattle.rules.specs.Locks.{standBeside}
 use Rattle.listcheck.proofs.apart.stand_beside.Statement.{statement}

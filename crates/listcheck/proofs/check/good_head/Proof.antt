@@ -1,3 +1,4 @@
+-- `listcheck::check::good_head` meets its contract.
 use borrow.Author.Needs.{needs}
 use Rattle.listcheck.specs.Check.{goodHead}
 use Rattle.listcheck.proofs.Checks.{sounds}

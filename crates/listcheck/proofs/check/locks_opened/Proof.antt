@@ -1,3 +1,4 @@
+-- `listcheck::check::locks_opened` meets its contract.
 use Prim.Native.Nat.{_-_, _≤_, _<_}
 use mathlib.Core.Path.{_≡_}
 use mathlib.Core.Bool.{true, false}

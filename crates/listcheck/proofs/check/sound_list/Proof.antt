@@ -1,3 +1,4 @@
+-- `listcheck::check::sound_list` meets its contract.
 use borrow.Author.Needs.{needs}
 use Rattle.words.proofs.Sets.{and-first, and-then, answers}
 use Rattle.listcheck.proofs.Checks.{sounds, sound-after}

@@ -1,3 +1,4 @@
+-- `listcheck::limits::all_keep` meets its contract.
 use Prim.Native.Nat.{_-_, _≤_}
 use borrow.Author.Needs.{needs}
 use Rattle.listcheck.specs.Check.{Tally}

@@ -1,3 +1,4 @@
+-- `listcheck::place::file_by` meets its contract.
 use borrow.Author.Needs.{needs}
 use Rattle.listcheck.proofs.place.file_by.Statement.{statement}
 use Rattle.listcheck.proofs.place.file_by.Tie as tie

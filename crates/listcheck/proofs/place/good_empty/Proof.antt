@@ -1,3 +1,4 @@
+-- `listcheck::place::good_empty` meets its contract.
 use borrow.Author.Needs.{needs}
 use Rattle.words.proofs.Sets.{choices}
 use Rattle.rules.specs.Locks.{goodEmpty}

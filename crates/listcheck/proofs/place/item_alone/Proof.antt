@@ -1,3 +1,4 @@
+-- `listcheck::place::item_alone` meets its contract.
 use borrow.Author.Needs.{needs}
 use Rattle.words.proofs.Sets.{choices}
 use Rattle.listcheck.specs.Check.{itemAlone}

@@ -1,3 +1,4 @@
+-- `listcheck::place::kind_alone` meets its contract.
 use borrow.Author.Needs.{needs}
 use Rattle.words.proofs.Sets.{choices}
 use Rattle.listcheck.proofs.place.kind_alone.Statement.{statement}

@@ -1,3 +1,4 @@
+-- `listcheck::place::lock_alone` meets its contract.
 use borrow.Author.Needs.{needs}
 use Rattle.listcheck.specs.Check.{lockAlone}
 use Rattle.listcheck.proofs.Checks.{found}

@@ -1,3 +1,4 @@
+-- `listcheck::place::open_alone` meets its contract.
 use borrow.Author.Needs.{needs}
 use Rattle.listcheck.specs.Check.{openAlone}
 use Rattle.listcheck.proofs.Checks.{found}

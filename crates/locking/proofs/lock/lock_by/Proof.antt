@@ -1,3 +1,4 @@
+-- `locking::lock::lock_by` meets its contract.
 use borrow.Author.Needs.{needs}
 use Rattle.locking.proofs.Locking.{lock-refused, lock-passed, lock-done}
 use Rattle.locking.proofs.lock.lock_by.Statement.{statement}

@@ -1,3 +1,4 @@
+-- `locking::lock::lock_records` meets its contract.
 use borrow.Author.Needs.{needs}
 use Rattle.locking.proofs.Locking.{capacity-fits, lock-called}
 use Rattle.locking.proofs.lock.lock_records.Statement.{statement}

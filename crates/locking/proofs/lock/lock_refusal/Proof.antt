@@ -1,3 +1,4 @@
+-- `locking::lock::lock_refusal` meets its contract.
 use borrow.Author.Needs.{needs}
 use Rattle.words.proofs.Sets.{codes}
 use Rattle.rules.specs.Codes.{rowsRun, rows42}

@@ -1,3 +1,4 @@
+-- `locking::lock::run_refusal` meets its contract.
 use borrow.Author.Needs.{needs}
 use Rattle.words.proofs.Sets.{part-first, part-then}
 use Rattle.locking.proofs.Locking.{nonzero-lacking}

@@ -1,3 +1,4 @@
+-- `locking::run::is_file_id` meets its contract.
 use borrow.Author.Needs.{needs}
 use Rattle.words.proofs.Sets.{choices}
 use Rattle.rules.specs.Codes.{isFileId}

@@ -1,3 +1,4 @@
+-- `locking::run::is_number` meets its contract.
 use borrow.Author.Needs.{needs}
 use Rattle.locking.proofs.run.is_number.Statement.{statement}
 use Rattle.locking.proofs.run.is_number.Tie as tie

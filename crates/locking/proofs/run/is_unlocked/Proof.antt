@@ -1,3 +1,4 @@
+-- `locking::run::is_unlocked` meets its contract.
 use borrow.Author.Needs.{needs}
 use Rattle.locking.proofs.run.is_unlocked.Statement.{statement}
 use Rattle.locking.proofs.run.is_unlocked.Tie as tie

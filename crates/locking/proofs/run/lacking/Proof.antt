@@ -1,3 +1,4 @@
+-- `locking::run::lacking` meets its contract.
 use borrow.Author.Needs.{needs}
 use Rattle.locking.proofs.run.lacking.Statement.{statement}
 use Rattle.locking.proofs.run.lacking.Tie as tie

@@ -1,3 +1,4 @@
+-- `locking::run::lacking_code` meets its contract.
 use borrow.Author.Needs.{needs}
 use Rattle.words.proofs.Sets.{and-left, and-right, and-both, codes}
 use Rattle.rules.specs.Codes.{rowsLacking}

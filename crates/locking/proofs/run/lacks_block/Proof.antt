@@ -1,3 +1,4 @@
+-- `locking::run::lacks_block` meets its contract.
 use borrow.Author.Needs.{needs}
 use Rattle.rules.specs.Codes.{lacks}
 use Rattle.locking.proofs.run.lacks_block.Statement.{statement}

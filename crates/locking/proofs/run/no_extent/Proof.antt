@@ -1,3 +1,4 @@
+-- `locking::run::no_extent` meets its contract.
 use borrow.Author.Needs.{needs}
 use Rattle.rules.specs.Codes.{noExtent}
 use Rattle.locking.proofs.run.no_extent.Statement.{statement}

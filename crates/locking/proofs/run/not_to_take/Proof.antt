@@ -1,3 +1,4 @@
+-- `locking::run::not_to_take` meets its contract.
 use borrow.Author.Needs.{needs}
 use Rattle.words.proofs.Sets.{codes}
 use Rattle.rules.specs.Codes.{rowsTake}

@@ -1,3 +1,4 @@
+-- `locking::run::over_limit` meets its contract.
 use borrow.Author.Needs.{needs}
 use Rattle.locking.proofs.run.over_limit.Statement.{statement}
 use Rattle.locking.proofs.run.over_limit.Tie as tie

@@ -1,3 +1,4 @@
+-- `locking::run::too_few_places` meets its contract.
 use borrow.Author.Needs.{needs}
 use Rattle.locking.proofs.run.too_few_places.Statement.{statement}
 use Rattle.locking.proofs.run.too_few_places.Tie as tie

@@ -1,3 +1,4 @@
+-- `locking::terminate::terminate` meets its contract.
 use borrow.Author.Needs.{needs}
 use Rattle.locking.proofs.Locking.{terminate-done}
 use Rattle.locking.proofs.terminate.terminate.Statement.{statement}

@@ -1,3 +1,4 @@
+-- `locking::unlock::unlock_by` meets its contract.
 use borrow.Author.Needs.{needs}
 use Rattle.locking.proofs.Locking.{unlock-refused, unlock-passed, unlock-done}
 use Rattle.locking.proofs.unlock.unlock_by.Statement.{statement}

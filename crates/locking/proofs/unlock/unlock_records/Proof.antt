@@ -1,3 +1,4 @@
+-- `locking::unlock::unlock_records` meets its contract.
 use borrow.Author.Needs.{needs}
 use Rattle.locking.proofs.Locking.{unlock-called}
 use Rattle.locking.proofs.unlock.unlock_records.Statement.{statement}

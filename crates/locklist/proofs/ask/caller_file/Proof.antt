@@ -1,3 +1,4 @@
+-- `locklist::ask::caller_file` meets its contract.
 use borrow.Author.Needs.{needs}
 use Rattle.rules.specs.Asks.{callerFile}
 use Rattle.locklist.proofs.ask.caller_file.Statement.{statement}

@@ -1,3 +1,4 @@
+-- `locklist::ask::new_file` meets its contract.
 use borrow.Author.Needs.{needs}
 use Rattle.rules.specs.Asks.{newFile}
 use Rattle.locklist.proofs.ask.new_file.Statement.{statement}

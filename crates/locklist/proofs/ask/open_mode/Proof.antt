@@ -1,3 +1,4 @@
+-- `locklist::ask::open_mode` meets its contract.
 use mathlib.Core.Path.{refl}
 use borrow.Author.Needs.{needs}
 use Rattle.words.proofs.Sets.{choices}

@@ -1,3 +1,4 @@
+-- `locklist::ask::record_of` meets its contract.
 use borrow.Author.Needs.{needs}
 use Rattle.rules.specs.Asks.{recordOf}
 use Rattle.locklist.proofs.ask.record_of.Statement.{statement}

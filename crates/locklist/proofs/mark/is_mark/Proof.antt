@@ -1,3 +1,4 @@
+-- `locklist::mark::is_mark` meets its contract.
 use Rattle.words.proofs.Sets.{choices}
 use Rattle.locklist.proofs.mark.is_mark.Statement.{statement}
 use Rattle.locklist.proofs.mark.is_mark.Tie as tie

@@ -1,3 +1,4 @@
+-- `locklist::mark::kind_of` meets its contract.
 use mathlib.Core.Path.{refl}
 use borrow.Author.Needs.{needs}
 use Rattle.words.proofs.Sets.{choices}

@@ -1,3 +1,4 @@
+-- `locklist::mark::second_mark` meets its contract.
 use mathlib.Core.Path.{refl}
 use Rattle.words.proofs.Sets.{choices}
 use Rattle.rules.specs.Locks.{secondMark}

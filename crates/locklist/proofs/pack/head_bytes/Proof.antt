@@ -1,3 +1,4 @@
+-- `locklist::pack::head_bytes` meets its contract.
 use mathlib.Core.Path.{refl}
 use borrow.Author.Needs.{needs}
 use Rattle.words.specs.Lists.{tab}

@@ -1,3 +1,4 @@
+-- `locklist::pack::item_bytes` meets its contract.
 use borrow.Author.Needs.{needs}
 use Rattle.words.specs.Bytes.{le}
 use Rattle.words.specs.Lists.{tab}

@@ -1,3 +1,4 @@
+-- `locklist::pack::pack` meets its contract.
 use Prim.Native.Nat.{_-_, _≤_}
 use Rattle.locklist.proofs.Packs.{Packed, packs}
 use Rattle.locklist.proofs.pack.pack.Statement.{statement}

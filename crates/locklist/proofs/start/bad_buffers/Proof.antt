@@ -1,3 +1,4 @@
+-- `locklist::start::bad_buffers` meets its contract.
 use borrow.Author.Needs.{needs}
 use Rattle.locklist.proofs.Starts.{bads}
 use Rattle.locklist.proofs.start.bad_buffers.Statement.{statement}

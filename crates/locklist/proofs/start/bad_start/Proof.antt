@@ -1,3 +1,4 @@
+-- `locklist::start::bad_start` meets its contract.
 use borrow.Author.Needs.{needs}
 use Rattle.rules.specs.Locks.{badStart}
 use Rattle.locklist.proofs.Starts.{bads}

@@ -1,3 +1,4 @@
+-- `locklist::start::begin` meets its contract.
 use borrow.Author.Needs.{needs}
 use Rattle.locklist.proofs.Starts.{fresh-packed}
 use Rattle.locklist.proofs.start.begin.Statement.{statement}

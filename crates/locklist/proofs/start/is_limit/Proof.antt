@@ -1,3 +1,4 @@
+-- `locklist::start::is_limit` meets its contract.
 use Rattle.words.proofs.Sets.{choices}
 use Rattle.rules.specs.Locks.{isLimit}
 use Rattle.locklist.proofs.start.is_limit.Statement.{statement}

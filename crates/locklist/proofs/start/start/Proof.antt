@@ -1,3 +1,4 @@
+-- `locklist::start::start` meets its contract.
 use borrow.Author.Needs.{needs}
 use Rattle.locklist.proofs.Starts.{starts}
 use Rattle.locklist.proofs.start.start.Statement.{statement}
@@ -9,10 +10,6 @@ start-spec =
     (tie.spec
     -- bad-start-requires
     (λ c κs. search needs)
-    -- mul-result
-    (λ c. search needs)
-    -- add-result
-    (λ c. search needs)
     -- same-length
     (λ c. search needs)
     -- returns

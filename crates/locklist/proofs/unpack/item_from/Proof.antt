@@ -1,3 +1,4 @@
+-- `locklist::unpack::item_from` meets its contract.
 use borrow.Author.Needs.{needs}
 use Rattle.rules.specs.Locks.{itemFrom}
 use Rattle.locklist.proofs.unpack.item_from.Statement.{statement}

@@ -1,3 +1,4 @@
+-- `locklist::unpack::unpack` meets its contract.
 use Prim.Native.Nat.{_-_, _≤_}
 use Rattle.locklist.proofs.Packs.{Placed, placing}
 use Rattle.locklist.proofs.unpack.unpack.Statement.{statement}

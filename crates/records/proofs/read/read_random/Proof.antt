@@ -1,3 +1,4 @@
+-- `records::read::read_random` meets its contract.
 use borrow.Author.Needs.{needs}
 use Rattle.records.proofs.Reading.{read-called}
 use Rattle.records.proofs.read.read_random.Statement.{statement}

@@ -1,3 +1,4 @@
+-- `records::space::three_bytes` meets its contract.
 use mathlib.Core.Path.{refl}
 use borrow.Author.Needs.{needs}
 use Rattle.words.specs.Bytes.{le}

@@ -1,3 +1,4 @@
+-- `records::test::test_by` meets its contract.
 use borrow.Author.Needs.{needs}
 use native.Mathlib.Omega.{arith}
 use Rattle.rules.specs.Drive.{highest}
@@ -31,9 +32,14 @@ test-by-spec =
     -- spot-at-requires
     (λ c κs. search needs)
     -- record-at-requires
-    (λ c κs. let h = there-within _ highest _ (c .before .before .before .before .before .before .before .before .before .before .before .before .before .before .before .before .before .pre .image-sound) _ _ _ _ _ (c .before .before .before .before .before .before .entry-of2 .ensures .0) (c .before .spot-at .ensures) (c .before .before .before .before .not-there .ensures) (c .before .before .before .if2 .left) in search needs)
+    (λ c κs. let h = there-within _ highest _ (c .before .before .before .before .before .before .before .before .before .before .before .before .before .before
+    .before .before .before .pre .image-sound) _ _ _ _ _ (c .before .before .before .before .before .before .entry-of2 .ensures .0)
+    (c .before .spot-at .ensures) (c .before .before .before .before .not-there .ensures) (c .before .before .before .if2 .left) in search needs)
     -- any-differs-requires
-    (λ c κs. let h = there-within _ highest _ (c .before .before .before .before .before .before .before .before .before .before .before .before .before .before .before .before .before .before .pre .image-sound) _ _ _ _ _ (c .before .before .before .before .before .before .before .entry-of2 .ensures .0) (c .before .before .spot-at .ensures) (c .before .before .before .before .before .not-there .ensures) (c .before .before .before .before .if2 .left) in search (needs, record-lies))
+    (λ c κs. let h = there-within _ highest _ (c .before .before .before .before .before .before .before .before .before .before .before .before .before .before
+    .before .before .before .before .pre .image-sound) _ _ _ _ _ (c .before .before .before .before .before .before .before .entry-of2 .ensures .0)
+    (c .before .before .spot-at .ensures) (c .before .before .before .before .before .not-there .ensures) (c .before .before .before .before .if2 .left) in
+    search (needs, record-lies))
     -- same-length-3
     (λ c. search needs)
     -- returns-3
@@ -43,14 +49,24 @@ test-by-spec =
     -- part-write-record-start
     (λ c. search needs)
     -- part-write-record-end
-    (λ c. let d = c .before .before .before .before .before .before .before .before .before .before .before .before .before .before .before .before .before .before .before .before .before .pre .dma-long in search needs)
+    (λ c. let d = c .before .before .before .before .before .before .before .before .before .before .before .before .before .before .before .before .before
+    .before .before .before .before .pre .dma-long in search needs)
     -- write-record-requires
     (λ c κs.
-    let h = there-within _ highest _ (c .before .before .before .before .before .before .before .before .before .before .before .before .before .before .before .before .before .before .before .before .before .before .pre .image-sound) _ _ _ _ _ (c .before .before .before .before .before .before .before .before .before .before .before .entry-of2 .ensures .0) (c .before .before .before .before .before .before .spot-at .ensures) (c .before .before .before .before .before .before .before .before .before .not-there .ensures) (c .before .before .before .before .before .before .before .before .if2 .left) in
-    let n = may-number _ _ _ _ _ _ _ _ (c .before .before .before .before .before .before .before .before .before .before .before .before .before .before .may-write .ensures) (c .before .before .before .before .before .before .before .before .before .before .before .before .before .if1 .left) in
-    let i = c .before .before .before .before .before .before .before .before .before .before .before .before .before .before .before .before .before .before .before .before .before .before .pre .image-long in
-    let d = c .before .before .before .before .before .before .before .before .before .before .before .before .before .before .before .before .before .before .before .before .before .before .pre .dma-long in
-    let a = c .before .before .before .before .before .before .before .before .before .before .before .before .before .before .before .before .entry-of .ensures .1 in
+    let h = there-within _ highest _ (c .before .before .before .before .before .before .before .before .before .before .before .before .before .before .before
+    .before .before .before .before .before .before .before .pre .image-sound) _ _ _ _ _
+    (c .before .before .before .before .before .before .before .before .before .before .before .entry-of2 .ensures .0)
+    (c .before .before .before .before .before .before .spot-at .ensures)
+    (c .before .before .before .before .before .before .before .before .before .not-there .ensures)
+    (c .before .before .before .before .before .before .before .before .if2 .left) in
+    let n = may-number _ _ _ _ _ _ _ _ (c .before .before .before .before .before .before .before .before .before .before .before .before .before .before
+    .may-write .ensures) (c .before .before .before .before .before .before .before .before .before .before .before .before .before .if1 .left) in
+    let i = c .before .before .before .before .before .before .before .before .before .before .before .before .before .before .before .before .before .before
+    .before .before .before .before .pre .image-long in
+    let d = c .before .before .before .before .before .before .before .before .before .before .before .before .before .before .before .before .before .before
+    .before .before .before .before .pre .dma-long in
+    let a = c .before .before .before .before .before .before .before .before .before .before .before .before .before .before .before .before .entry-of .ensures
+    .1 in
     let k = record-at-room _ _ _ _ n (h .block-inside) in
     omega arith)
     -- same-length-4

@@ -1,3 +1,4 @@
+-- `records::test::test_write` meets its contract.
 use borrow.Author.Needs.{needs}
 use Rattle.records.proofs.Testing.{test-called}
 use Rattle.records.proofs.test.test_write.Statement.{statement}

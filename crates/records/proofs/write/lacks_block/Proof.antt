@@ -1,3 +1,4 @@
+-- `records::write::lacks_block` meets its contract.
 use Rattle.words.proofs.Sets.{choices}
 use Rattle.records.proofs.write.lacks_block.Statement.{statement}
 use Rattle.records.proofs.write.lacks_block.Tie as tie

@@ -1,3 +1,4 @@
+-- `records::write::lacks_entry` meets its contract.
 use Rattle.words.proofs.Sets.{choices}
 use Rattle.records.proofs.write.lacks_entry.Statement.{statement}
 use Rattle.records.proofs.write.lacks_entry.Tie as tie

@@ -25,8 +25,11 @@ write-one-spec =
     (λ c. search write-full)
     -- write-record-requires
     (λ c κs.
-    let h = room-within _ highest _ (c .before .before .before .before .before .before .before .before .before .before .pre .5) _ _ _ _ _ (c .before .before .before .before .before .before .before .before .before .before .pre .6) (c .before .before .before .before .spot-at .ensures) (c .before .before .no-room .ensures) (c .before .if2 .left) in
-    let n = write-number _ _ _ _ _ (c .before .before .before .before .before .before .before .may-write-by .ensures) (c .before .before .before .before .before .before .if1 .left) in
+    let h = room-within _ highest _ (c .before .before .before .before .before .before .before .before .before .before .pre .5) _ _ _ _ _
+    (c .before .before .before .before .before .before .before .before .before .before .pre .6) (c .before .before .before .before .spot-at .ensures)
+    (c .before .before .no-room .ensures) (c .before .if2 .left) in
+    let n = write-number _ _ _ _ _ (c .before .before .before .before .before .before .before .may-write-by .ensures)
+    (c .before .before .before .before .before .before .if1 .left) in
     search (needs, record-room))
     -- same-length-2
     (λ c. search needs)

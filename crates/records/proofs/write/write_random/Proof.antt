@@ -1,3 +1,4 @@
+-- `records::write::write_random` meets its contract.
 use borrow.Author.Needs.{needs}
 use Rattle.records.proofs.Writing.{write-called}
 use Rattle.records.proofs.write.write_random.Statement.{statement}

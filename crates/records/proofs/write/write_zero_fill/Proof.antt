@@ -1,3 +1,4 @@
+-- `records::write::write_zero_fill` meets its contract.
 use borrow.Author.Needs.{needs}
 use Rattle.records.proofs.Writing.{zeros-called}
 use Rattle.records.proofs.write.write_zero_fill.Statement.{statement}

@@ -1,3 +1,4 @@
+-- `rules::answer::image_number` meets its contract.
 use mathlib.Core.Path.{refl}
 use borrow.Author.Needs.{needs}
 use Rattle.rules.specs.Drive.{imageNumber}

@@ -1,3 +1,4 @@
+-- `rules::bytes::put_bytes` meets its contract.
 use Prim.Native.Nat.{_-_, _≤_}
 use lib.ListN.{length}
 use Rattle.words.proofs.Items.{Pasted, pastes}

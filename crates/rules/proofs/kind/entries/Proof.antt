@@ -1,3 +1,4 @@
+-- `rules::kind::entries` meets its contract.
 use mathlib.Core.Path.{refl}
 use borrow.Author.Needs.{needs}
 use Rattle.rules.specs.Kinds.{entries}

@@ -1,3 +1,4 @@
+-- `rules::tests::one_if` meets its contract.
 use mathlib.Core.Path.{refl}
 use borrow.Author.Needs.{needs}
 use Rattle.words.proofs.Sets.{choices}

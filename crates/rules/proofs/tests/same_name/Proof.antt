@@ -1,3 +1,4 @@
+-- `rules::tests::same_name` meets its contract.
 use Prim.Native.Nat.{_-_, _≤_}
 use mathlib.Core.Path.{_≡_}
 use mathlib.Core.Bool.{true}

@@ -1,3 +1,4 @@
+-- `rules::tests::user_in` meets its contract.
 use borrow.Author.Needs.{needs}
 use Rattle.words.proofs.Bytes.{past-end}
 use Rattle.rules.proofs.tests.user_in.Statement.{statement}

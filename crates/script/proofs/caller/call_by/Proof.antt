@@ -1,3 +1,4 @@
+-- `script::caller::call_by` meets its contract.
 use borrow.Author.Needs.{needs}
 use Rattle.script.proofs.Callers.{did-call}
 use Rattle.script.proofs.caller.call_by.Statement.{statement}

@@ -1,3 +1,4 @@
+-- `script::caller::start_by` meets its contract.
 use borrow.Author.Needs.{needs}
 use Rattle.script.proofs.Callers.{did-start}
 use Rattle.script.proofs.caller.start_by.Statement.{statement}

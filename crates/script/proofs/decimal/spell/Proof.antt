@@ -1,3 +1,4 @@
+-- `script::decimal::spell` meets its contract.
 use Rattle.script.proofs.Digits.{Spelt, spells}
 use Rattle.script.proofs.decimal.spell.Statement.{statement}
 use Rattle.script.proofs.decimal.spell.Tie as tie

@@ -1,3 +1,4 @@
+-- `script::line::add_number` meets its contract.
 use borrow.Author.Needs.{needs}
 use Rattle.script.proofs.Lines.{number-added}
 use Rattle.script.proofs.line.add_number.Statement.{statement}
@@ -24,4 +25,5 @@ add-number-spec =
     -- add-requires-2
     (λ c κs. search needs)
     -- returns
-    (λ c. number-added _ _ _ _ _ _ _ _ _ _ (search needs) (c .before .before .before .before .before .before .before .before .spell .ensures) (c .before .before .before .add .ensures) (c .add2 .ensures)))
+    (λ c. number-added _ _ _ _ _ _ _ _ _ _ (search needs) (c .before .before .before .before .before .before .before .before .spell .ensures)
+    (c .before .before .before .add .ensures) (c .add2 .ensures)))

@@ -1,3 +1,4 @@
+-- `script::line::bad_call_line` meets its contract.
 use Prim.Native.Nat.{ℕ}
 use mathlib.Core.Path.{ap}
 use mathlib.Core.List.{List, _++_}

@@ -1,3 +1,4 @@
+-- `script::line::bad_start_line` meets its contract.
 use borrow.Author.Needs.{needs}
 use Rattle.script.specs.Lines.{badLine, badStartLine}
 use Rattle.script.specs.Text.{text}

@@ -1,3 +1,4 @@
+-- `script::line::call_line` meets its contract.
 use borrow.Author.Needs.{needs}
 use Rattle.script.proofs.Callers.{line-of}
 use Rattle.script.proofs.line.call_line.Statement.{statement}

@@ -1,3 +1,4 @@
+-- `script::line::end_line` meets its contract.
 use borrow.Author.Needs.{needs}
 use Rattle.script.specs.Lines.{endLine}
 use Rattle.script.specs.Text.{text}

@@ -1,3 +1,4 @@
+-- `script::line::header_line` meets its contract.
 use borrow.Author.Needs.{needs}
 use Rattle.script.specs.Lines.{headerLine}
 use Rattle.script.specs.Text.{text}

@@ -1,3 +1,4 @@
+-- `script::line::long_image_line` meets its contract.
 use borrow.Author.Needs.{needs}
 use Rattle.script.specs.Lines.{longImageLine}
 use Rattle.script.specs.Text.{text}

@@ -1,3 +1,4 @@
+-- `script::line::numbers_line` meets its contract.
 use borrow.Author.Needs.{needs}
 use Rattle.script.specs.Lines.{callLine}
 use Rattle.script.proofs.Lines.{starts, goes-on}

@@ -1,3 +1,4 @@
+-- `script::part::byte_at` meets its contract.
 use borrow.Author.Needs.{needs}
 use Rattle.words.proofs.Bytes.{past-end}
 use Rattle.script.proofs.part.byte_at.Statement.{statement}

@@ -1,3 +1,4 @@
+-- `script::part::dma_of` meets its contract.
 use borrow.Author.Needs.{needs}
 use native.Mathlib.Omega.{arith}
 use Rattle.script.proofs.Parts.{part-fits, part-copied}

@@ -1,3 +1,4 @@
+-- `script::part::part_of` meets its contract.
 use borrow.Author.Needs.{needs}
 use Rattle.script.proofs.Parts.{part-none, part-some, part-all}
 use Rattle.script.proofs.part.part_of.Statement.{statement}

@@ -1,3 +1,4 @@
+-- `script::record::is_record` meets its contract.
 use borrow.Author.Needs.{needs}
 use Rattle.words.proofs.Sets.{choices}
 use Rattle.script.specs.Records.{isRecord}

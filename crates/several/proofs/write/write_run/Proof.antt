@@ -9,7 +9,8 @@ use Rattle.several.proofs.write.write_run.Statement.{statement}
 use Rattle.several.proofs.write.write_run.Tie as tie
 
 abbrev Inv-loop : tie.InvT-loop
-Inv-loop kind zeros p o mode f r count locked fcb dma list image₀ first e₀ i₀ image e i = (i ≤ count) × Writing kind zeros p f first r locked (buffers fcb dma list image₀) i e image
+Inv-loop kind zeros p o mode f r count locked fcb dma list image₀ first e₀ i₀ image e i = (i ≤ count)
+    × Writing kind zeros p f first r locked (buffers fcb dma list image₀) i e image
 
 abbrev μ-loop : tie.MeasureT-loop
 μ-loop kind zeros p o mode f r count locked fcb dma list image₀ first e₀ i₀ image e i = count - i
@@ -47,12 +48,14 @@ write-run-spec =
     -- cast-after
     (λ c.
     let below = c .before .before .before .before .before .before .before .before .before .before .before .loop-test .taken in
-    let small = c .before .before .before .before .before .before .before .before .before .before .before .before .before .before .before .before .before .before .before .fits .count in
+    let small = c .before .before .before .before .before .before .before .before .before .before .before .before .before .before .before .before .before
+    .before .before .fits .count in
     omega arith)
     -- after-requires
     (λ c κs.
     let below = c .before .before .before .before .before .before .before .before .before .before .before .loop-test .taken in
-    let few = c .before .before .before .before .before .before .before .before .before .before .before .before .before .before .before .before .before .before .before .pre .2 .run-fits in
+    let few = c .before .before .before .before .before .before .before .before .before .before .before .before .before .before .before .before .before .before
+    .before .pre .2 .run-fits in
     (search below-34, omega arith))
     -- same-length
     (λ c. search needs)
@@ -61,15 +64,24 @@ write-run-spec =
     -- add-i
     (λ c.
     let below = c .before .before .before .before .before .before .before .before .before .before .before .loop-test .taken in
-    let small = c .before .before .before .before .before .before .before .before .before .before .before .before .before .before .before .before .before .before .before .fits .count in
+    let small = c .before .before .before .before .before .before .before .before .before .before .before .before .before .before .before .before .before
+    .before .before .fits .count in
     omega arith)
     -- loop-less
     (λ c. let below = c .before .before .before .before .before .before .before .before .before .before .before .loop-test .taken in omega arith)
     -- loop-again
     (λ c.
-    let pre = c .before .before .before .before .before .before .before .before .before .before .before .before .before .before .before .before .before .before .before .pre in
-    let below = c .before .before .before .before .before .before .before .before .before .before .before .loop-test .taken in
-    (omega arith, writing-more _ _ _ _ _ _ _ _ _ _ _ (pre .1) (pre .2) _ _ _ (c .before .before .before .before .before .before .before .before .before .before .before .before .loop .inv .1) (c .before .before .before .before .before .before .before .before .before .before .before .loop-test .taken) _ _ _ _ _ (c .before .before .before .before .before .before .before .before .before .entry-at .ensures .0) (c .before .before .before .before .before .before .before .write-stopped .ensures) (c .before .before .before .before .write-one .ensures) (c .if1 .left) (search needs)))
+    let pre = c .before .before .before .before .before .before .before .before .before .before .before .before .before .before .before .before .before .before
+    .before .pre in
+    let below = c .before .before .before .before .before .before .before .before .before .before .before .loop-test .taken in (
+      omega arith,
+      writing-more _ _ _ _ _ _ _ _ _ _ _ (pre .1) (pre .2) _ _ _
+          (c .before .before .before .before .before .before .before .before .before .before .before .before .loop .inv .1)
+          (c .before .before .before .before .before .before .before .before .before .before .before .loop-test .taken) _ _ _ _ _
+          (c .before .before .before .before .before .before .before .before .before .entry-at .ensures .0)
+          (c .before .before .before .before .before .before .before .write-stopped .ensures) (c .before .before .before .before .write-one .ensures)
+          (c .if1 .left) (search needs),
+    ))
     -- same-length-2
     (λ c. search needs)
     -- returns-2

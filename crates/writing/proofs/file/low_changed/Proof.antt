@@ -1,3 +1,4 @@
+-- `writing::file::low_changed` meets its contract.
 use Prim.Native.Nat.{_-_, _≤_}
 use mathlib.Core.Path.{_≡_}
 use Rattle.words.proofs.Lists.{filled}

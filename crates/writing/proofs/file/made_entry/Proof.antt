@@ -1,3 +1,4 @@
+-- `writing::file::made_entry` meets its contract.
 use borrow.Author.Needs.{needs}
 use Rattle.writing.proofs.Entries.{made-is}
 use Rattle.writing.proofs.file.made_entry.Statement.{statement}

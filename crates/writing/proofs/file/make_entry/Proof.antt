@@ -1,3 +1,4 @@
+-- `writing::file::make_entry` meets its contract.
 use borrow.Author.Needs.{needs}
 use Rattle.words.proofs.Bytes.{put-as}
 use Rattle.rules.specs.Effects.{made}

@@ -1,3 +1,4 @@
+-- `writing::file::rename_at` meets its contract.
 use mathlib.Core.Path.{refl}
 use borrow.Author.Needs.{needs}
 use Rattle.words.proofs.Bytes.{put-as}

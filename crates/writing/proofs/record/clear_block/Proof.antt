@@ -1,3 +1,4 @@
+-- `writing::record::clear_block` meets its contract.
 use Rattle.writing.proofs.Entries.{cleared-on, cleared-no, cleared-off}
 use borrow.Author.Needs.{needs}
 use Rattle.writing.proofs.record.clear_block.Statement.{statement}

@@ -1,3 +1,4 @@
+-- `writing::record::map_block` meets its contract.
 use Rattle.writing.proofs.Entries.{mapped-on, mapped-off}
 use borrow.Author.Needs.{needs}
 use Rattle.writing.proofs.record.map_block.Statement.{statement}

@@ -1,3 +1,4 @@
+-- `writing::record::new_entry` meets its contract.
 use borrow.Author.Needs.{needs}
 use Rattle.words.specs.Lists.{tab}
 use Rattle.rules.specs.Effects.{newEntry}

@@ -1,3 +1,4 @@
+-- `writing::record::put_large` meets its contract.
 use Rattle.writing.proofs.Entries.{large-put}
 use borrow.Author.Needs.{needs}
 use Rattle.writing.proofs.record.put_large.Statement.{statement}

@@ -1,3 +1,4 @@
+-- `writing::record::put_number` meets its contract.
 use Rattle.writing.proofs.Entries.{number-put}
 use Rattle.directory.proofs.Arms.{small-places, large-places}
 use borrow.Author.Needs.{needs}

@@ -1,3 +1,4 @@
+-- `writing::record::put_small` meets its contract.
 use borrow.Author.Needs.{needs}
 use Rattle.writing.proofs.Entries.{small-put}
 use Rattle.writing.proofs.record.put_small.Statement.{statement}

@@ -1,3 +1,4 @@
+-- `writing::record::raise_count` meets its contract.
 use mathlib.Core.Path.{refl}
 use borrow.Author.Needs.{needs}
 use Rattle.words.proofs.Sets.{choices}

@@ -1,3 +1,4 @@
+-- `writing::record::store_record` meets its contract.
 use Rattle.writing.proofs.Entries.{stored-as}
 use mathlib.Core.Path.{refl}
 use native.Mathlib.Omega.{arith}

@@ -1,3 +1,4 @@
+-- `writing::record::write_record` meets its contract.
 use Rattle.writing.proofs.Entries.{written-as}
 use borrow.Author.Needs.{needs}
 use Rattle.rules.specs.Effects.{written}

@@ -1,3 +1,4 @@
+-- `writing::spot::spot_at` meets its contract.
 use Rattle.writing.proofs.Entries.{spot-is}
 use mathlib.Core.Path.{refl}
 use Rattle.words.proofs.Sets.{choices, leb-yes-as, leb-no-as}

@@ -1,3 +1,4 @@
+-- `rules::item::Item::is_in_run` meets its contract.
 use borrow.Author.Needs.{needs}
 use Rattle.rules.specs.Effects.{isInRun}
 use Rattle.rules.proofs.Lists.{runs}

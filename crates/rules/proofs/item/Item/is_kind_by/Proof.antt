@@ -1,3 +1,4 @@
+-- `rules::item::Item::is_kind_by` meets its contract.
 use Rattle.words.proofs.Sets.{choices}
 use Rattle.rules.specs.Locks.{isKindBy}
 use Rattle.rules.proofs.item.Item.is_kind_by.Statement.{statement}

@@ -1,3 +1,4 @@
+-- `rules::item::Item::is_of_file` meets its contract.
 use borrow.Author.Needs.{needs}
 use Rattle.words.proofs.Sets.{choices}
 use Rattle.rules.specs.Effects.{isOfFile}

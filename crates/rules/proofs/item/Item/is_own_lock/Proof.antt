@@ -1,3 +1,4 @@
+-- `rules::item::Item::is_own_lock` meets its contract.
 use borrow.Author.Needs.{needs}
 use Rattle.words.proofs.Sets.{choices}
 use Rattle.rules.proofs.item.Item.is_own_lock.Statement.{statement}

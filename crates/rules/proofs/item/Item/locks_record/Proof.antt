@@ -1,3 +1,4 @@
+-- `rules::item::Item::locks_record` meets its contract.
 use borrow.Author.Needs.{needs}
 use Rattle.words.proofs.Sets.{choices}
 use Rattle.rules.specs.Locks.{locksRecord}

@@ -1,3 +1,4 @@
+-- `rules::item::Item::opens_against` meets its contract.
 use borrow.Author.Needs.{needs}
 use Rattle.words.proofs.Sets.{choices}
 use Rattle.rules.proofs.item.Item.opens_against.Statement.{statement}

@@ -1,3 +1,4 @@
+-- `rules::item::Item::stands_against` meets its contract.
 use Rattle.words.proofs.Sets.{choices}
 use Rattle.rules.specs.Codes.{standsAgainst}
 use Rattle.rules.proofs.item.Item.stands_against.Statement.{statement}

@@ -1,3 +1,4 @@
+-- `rules::item::Item::unless_in_run` meets its contract.
 use mathlib.Core.Path.{refl}
 use borrow.Author.Needs.{needs}
 use Rattle.words.proofs.Sets.{choices}

@@ -1,3 +1,4 @@
+-- `rules::item::Item::unless_of_file` meets its contract.
 use mathlib.Core.Path.{refl}
 use borrow.Author.Needs.{needs}
 use Rattle.words.proofs.Sets.{choices}

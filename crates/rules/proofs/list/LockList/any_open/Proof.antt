@@ -1,3 +1,4 @@
+-- `rules::list::LockList::any_open` meets its contract.
 use Prim.Native.Nat.{_-_, _≤_}
 use mathlib.Core.Path.{_≡_}
 use mathlib.Core.Bool.{false}

@@ -1,3 +1,4 @@
+-- `rules::list::LockList::kinds_by` meets its contract.
 use Prim.Native.Nat.{_-_, _≤_}
 use mathlib.Core.Path.{_≡_}
 use Rattle.words.specs.Tests.{count}

@@ -1,3 +1,4 @@
+-- `rules::list::LockList::locks_by` meets its contract.
 use borrow.Author.Needs.{needs}
 use Rattle.rules.specs.Locks.{locksBy}
 use Rattle.rules.proofs.list.LockList.locks_by.Statement.{statement}

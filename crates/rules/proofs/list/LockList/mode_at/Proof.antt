@@ -1,3 +1,4 @@
+-- `rules::list::LockList::mode_at` meets its contract.
 use borrow.Author.Needs.{needs}
 use Rattle.words.proofs.Lists.{length-mapped}
 use Rattle.rules.proofs.Lists.{past-mode}

@@ -1,3 +1,4 @@
+-- `rules::list::LockList::open` meets its contract.
 use borrow.Author.Needs.{needs}
 use Rattle.rules.specs.Effects.{opened}
 use Rattle.rules.proofs.list.LockList.open.Statement.{statement}

@@ -1,3 +1,4 @@
+-- `rules::list::LockList::opens_by` meets its contract.
 use borrow.Author.Needs.{needs}
 use Rattle.rules.specs.Locks.{opensBy}
 use Rattle.rules.proofs.list.LockList.opens_by.Statement.{statement}

@@ -1,3 +1,4 @@
+-- `rules::list::LockList::place` meets its contract.
 use borrow.Author.Needs.{needs}
 use Rattle.rules.proofs.Lists.{placings}
 use Rattle.rules.proofs.list.LockList.place.Statement.{statement}

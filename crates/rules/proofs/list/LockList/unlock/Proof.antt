@@ -1,3 +1,4 @@
+-- `rules::list::LockList::unlock` meets its contract.
 use Prim.Native.Nat.{_-_, _≤_}
 use Rattle.rules.specs.Effects.{unlessInRun, unlockedRun}
 use Rattle.rules.proofs.Lists.{Gone, gones}

@@ -1,0 +1,412 @@
+//! Which rules of "Sound image" and "Sound list" a buffer breaks, found by walking the bytes.
+//! Written apart from the decoders, as a check on them and to see that a rule is broken alone.
+
+use reference::kind::Kind;
+use std::collections::BTreeSet;
+
+#[derive(Clone, Copy, Debug, PartialEq, Eq, PartialOrd, Ord)]
+pub enum ImageRule {
+    Length,
+    User,
+    Name,
+    Ex,
+    Module,
+    Count,
+    MapRange,
+    BlockTwice,
+    ExtentTwice,
+    ExtentZero,
+}
+
+impl ImageRule {
+    pub const ALL: [ImageRule; 10] = [
+        ImageRule::Length,
+        ImageRule::User,
+        ImageRule::Name,
+        ImageRule::Ex,
+        ImageRule::Module,
+        ImageRule::Count,
+        ImageRule::MapRange,
+        ImageRule::BlockTwice,
+        ImageRule::ExtentTwice,
+        ImageRule::ExtentZero,
+    ];
+}
+
+#[derive(Clone, Copy, Debug, PartialEq, Eq, PartialOrd, Ord)]
+pub enum ListRule {
+    CapacityRange,
+    OpenLimitRange,
+    LockLimitRange,
+    User,
+    Mark,
+    NameHighBit,
+    OpenMode,
+    LockMode,
+    ZeroByte,
+    OpenRecord,
+    BeyondCapacity,
+    Process,
+    NameIllegal,
+    RecordRange,
+    OneOpenPerFile,
+    OpenLimit,
+    LockLimit,
+    ModesBeside,
+    OpenOnImage,
+    LockHasOpen,
+    LockHasBlock,
+    LockTwice,
+}
+
+impl ListRule {
+    pub const ALL: [ListRule; 22] = [
+        ListRule::CapacityRange,
+        ListRule::OpenLimitRange,
+        ListRule::LockLimitRange,
+        ListRule::User,
+        ListRule::Mark,
+        ListRule::NameHighBit,
+        ListRule::OpenMode,
+        ListRule::LockMode,
+        ListRule::ZeroByte,
+        ListRule::OpenRecord,
+        ListRule::BeyondCapacity,
+        ListRule::Process,
+        ListRule::NameIllegal,
+        ListRule::RecordRange,
+        ListRule::OneOpenPerFile,
+        ListRule::OpenLimit,
+        ListRule::LockLimit,
+        ListRule::ModesBeside,
+        ListRule::OpenOnImage,
+        ListRule::LockHasOpen,
+        ListRule::LockHasBlock,
+        ListRule::LockTwice,
+    ];
+
+    /// A process over 15 or an illegal name leaves an open without a file on the image and a lock
+    /// without an open; a record too high is not 0 for an open and has no block for a lock.
+    pub fn can_be_broken_alone(self) -> bool {
+        !matches!(
+            self,
+            ListRule::Process | ListRule::NameIllegal | ListRule::RecordRange
+        )
+    }
+}
+
+pub fn is_legal_name(name: &[u8]) -> bool {
+    let first_is_blank = name[0] & 127 == 32;
+    !first_is_blank
+        && name.iter().all(|byte| {
+            let low = byte & 127;
+            low >= 32 && low != 127 && low != b'?'
+        })
+}
+
+fn same_name(one: &[u8], other: &[u8]) -> bool {
+    one.iter().zip(other).all(|(a, b)| a & 127 == b & 127)
+}
+
+fn directory_length(kind: Kind) -> usize {
+    match kind {
+        Kind::First => 64 * 32,
+        Kind::Second => 128 * 32,
+    }
+}
+
+pub fn used_entries(kind: Kind, image: &[u8]) -> impl Iterator<Item = &[u8]> + Clone {
+    image[..directory_length(kind)]
+        .chunks(32)
+        .filter(|entry| entry[0] != 0xE5)
+}
+
+/// The block numbers of an entry, 0 meaning none.
+pub fn block_numbers(kind: Kind, entry: &[u8]) -> Vec<u16> {
+    let map = entry[16..32].iter().map(|&byte| u16::from(byte));
+    match kind {
+        Kind::First => map.collect(),
+        Kind::Second => {
+            let (low, high) = (map.clone().step_by(2), map.skip(1).step_by(2));
+            low.zip(high).map(|(low, high)| low + 256 * high).collect()
+        }
+    }
+}
+
+fn is_same_file(one: &[u8], other: &[u8]) -> bool {
+    one[0] == other[0] && same_name(&one[1..12], &other[1..12])
+}
+
+pub fn extent_number(entry: &[u8]) -> usize {
+    usize::from(entry[12]) + 32 * usize::from(entry[14])
+}
+
+fn entry_faults(kind: Kind, entry: &[u8], blocks: usize) -> Vec<ImageRule> {
+    let mut faults = Vec::new();
+    let mut note = |broken: bool, rule: ImageRule| {
+        if broken {
+            faults.push(rule);
+        }
+    };
+    note(entry[0] > 15, ImageRule::User);
+    note(!is_legal_name(&entry[1..12]), ImageRule::Name);
+    note(entry[12] > 31, ImageRule::Ex);
+    note(entry[14] > 63, ImageRule::Module);
+    note(entry[15] > 128, ImageRule::Count);
+    let wild = |&block: &u16| block == 1 || usize::from(block) >= blocks;
+    note(block_numbers(kind, entry).iter().any(wild), ImageRule::MapRange);
+    faults
+}
+
+fn has_double_block(kind: Kind, image: &[u8]) -> bool {
+    let mut seen = BTreeSet::new();
+    used_entries(kind, image)
+        .flat_map(|entry| block_numbers(kind, entry))
+        .any(|block| block != 0 && !seen.insert(block))
+}
+
+fn has_twins(kind: Kind, image: &[u8]) -> bool {
+    let twins =
+        |one: &[u8], other: &[u8]| is_same_file(one, other) && extent_number(one) == extent_number(other);
+    let entries: Vec<&[u8]> = used_entries(kind, image).collect();
+    (1..entries.len()).any(|i| entries[i..].iter().any(|other| twins(entries[i - 1], other)))
+}
+
+fn lacks_extent_zero(kind: Kind, image: &[u8]) -> bool {
+    let begins = |one: &[u8], other: &[u8]| is_same_file(one, other) && extent_number(other) == 0;
+    let entries: Vec<&[u8]> = used_entries(kind, image).collect();
+    !entries
+        .iter()
+        .all(|one| entries.iter().any(|other| begins(one, other)))
+}
+
+/// How many blocks an image of this length has, if this kind has such images.
+fn blocks_of(kind: Kind, length: usize) -> Option<usize> {
+    let (block, range) = match kind {
+        Kind::First => (1_024, 3..=256),
+        Kind::Second => (2_048, 257..=4_096),
+    };
+    range.into_iter().find(|blocks| block * blocks == length)
+}
+
+pub fn image_faults(kind: Kind, image: &[u8]) -> BTreeSet<ImageRule> {
+    match blocks_of(kind, image.len()) {
+        None => BTreeSet::from([ImageRule::Length]),
+        Some(blocks) => directory_faults(kind, image, blocks),
+    }
+}
+
+/// The faults of a directory, which may be the beginning of an image, on a drive of so many blocks.
+pub fn directory_faults(kind: Kind, directory: &[u8], blocks: usize) -> BTreeSet<ImageRule> {
+    let mut faults: BTreeSet<ImageRule> = used_entries(kind, directory)
+        .flat_map(|entry| entry_faults(kind, entry, blocks))
+        .collect();
+    let whole = [
+        (has_double_block(kind, directory), ImageRule::BlockTwice),
+        (has_twins(kind, directory), ImageRule::ExtentTwice),
+        (lacks_extent_zero(kind, directory), ImageRule::ExtentZero),
+    ];
+    faults.extend(whole.iter().filter(|(broken, _)| *broken).map(|(_, rule)| *rule));
+    faults
+}
+
+/// The block number of the record, 0 if it has no extent or no block.
+pub fn block_of(kind: Kind, user: u8, name: &[u8], record: u32, image: &[u8]) -> u16 {
+    let extent = (record / 128) as usize;
+    let in_extent = (record % 128) as usize;
+    let index = match kind {
+        Kind::First => in_extent / 8,
+        Kind::Second => in_extent / 16,
+    };
+    used_entries(kind, image)
+        .find(|entry| entry[0] == user && same_name(&entry[1..12], name) && extent_number(entry) == extent)
+        .map_or(0, |entry| block_numbers(kind, entry)[index])
+}
+
+/// Where the record lies, if it is in this block.
+pub fn record_at(kind: Kind, block: u16, record: u32) -> usize {
+    let (block, record) = (usize::from(block), record as usize);
+    match kind {
+        Kind::First => 1_024 * block + 128 * (record % 8),
+        Kind::Second => 2_048 * block + 128 * (record % 16),
+    }
+}
+
+fn has_file(kind: Kind, user: u8, name: &[u8], image: &[u8]) -> bool {
+    used_entries(kind, image).any(|entry| entry[0] == user && same_name(&entry[1..12], name))
+}
+
+/// An item of the list by its bytes.
+#[derive(Clone, Copy)]
+pub struct Item<'a>(pub &'a [u8]);
+
+impl Item<'_> {
+    pub fn is_open(&self) -> bool {
+        self.0[..2] == *b"OF"
+    }
+
+    pub fn is_lock(&self) -> bool {
+        self.0[..2] == *b"LR"
+    }
+
+    pub fn process(&self) -> u8 {
+        self.0[2]
+    }
+
+    pub fn name(&self) -> &[u8] {
+        &self.0[3..14]
+    }
+
+    pub fn mode(&self) -> u8 {
+        self.0[14]
+    }
+
+    pub fn record(&self) -> u32 {
+        u32::from_le_bytes([self.0[16], self.0[17], self.0[18], self.0[19]])
+    }
+
+    pub fn user(&self, list: &[u8]) -> Option<u8> {
+        (self.process() < 16).then(|| list[3 + usize::from(self.process())])
+    }
+
+    fn is_same_file(&self, other: &Item, list: &[u8]) -> bool {
+        self.user(list).is_some()
+            && self.user(list) == other.user(list)
+            && same_name(self.name(), other.name())
+    }
+}
+
+/// Place numbers and items of the places that are not empty.
+pub fn items(list: &[u8]) -> Vec<(usize, Item<'_>)> {
+    list[19..]
+        .chunks(20)
+        .map(Item)
+        .enumerate()
+        .filter(|(_, item)| item.0.iter().any(|&byte| byte != 0))
+        .collect()
+}
+
+fn header_faults(list: &[u8]) -> Vec<ListRule> {
+    let out_of_range = |at: usize| list[at] == 0 || list[at] > 64;
+    let rules = [
+        (out_of_range(0), ListRule::CapacityRange),
+        (out_of_range(1), ListRule::OpenLimitRange),
+        (out_of_range(2), ListRule::LockLimitRange),
+        (list[3..19].iter().any(|&user| user > 15), ListRule::User),
+    ];
+    broken(&rules)
+}
+
+fn broken(rules: &[(bool, ListRule)]) -> Vec<ListRule> {
+    rules
+        .iter()
+        .filter(|(broken, _)| *broken)
+        .map(|(_, rule)| *rule)
+        .collect()
+}
+
+fn form_faults(place: usize, item: Item, capacity: u8) -> Vec<ListRule> {
+    broken(&[
+        (place >= usize::from(capacity), ListRule::BeyondCapacity),
+        (!item.is_open() && !item.is_lock(), ListRule::Mark),
+    ])
+}
+
+fn item_faults(item: Item) -> Vec<ListRule> {
+    broken(&[
+        (item.process() > 15, ListRule::Process),
+        (item.name().iter().any(|&byte| byte > 127), ListRule::NameHighBit),
+        (!is_legal_name(item.name()), ListRule::NameIllegal),
+        (item.is_open() && item.mode() > 2, ListRule::OpenMode),
+        (item.is_lock() && item.mode() != 1, ListRule::LockMode),
+        (item.0[15] != 0, ListRule::ZeroByte),
+        (item.is_open() && item.record() != 0, ListRule::OpenRecord),
+        (item.record() > 262_143, ListRule::RecordRange),
+    ])
+}
+
+fn open_faults(kind: Kind, open: Item, opens: &[Item], list: &[u8], image: &[u8]) -> Vec<ListRule> {
+    let own = |other: &&Item| other.process() == open.process();
+    let twins = opens
+        .iter()
+        .filter(own)
+        .filter(|other| same_name(other.name(), open.name()))
+        .count();
+    let clash = opens.iter().any(|other| {
+        other.process() != open.process()
+            && open.is_same_file(other, list)
+            && (other.mode() != open.mode() || open.mode() == 0)
+    });
+    let on_image = open
+        .user(list)
+        .is_some_and(|user| has_file(kind, user, open.name(), image));
+    broken(&[
+        (twins > 1, ListRule::OneOpenPerFile),
+        (
+            opens.iter().filter(own).count() > usize::from(list[1]),
+            ListRule::OpenLimit,
+        ),
+        (clash, ListRule::ModesBeside),
+        (!on_image, ListRule::OpenOnImage),
+    ])
+}
+
+fn lock_faults(
+    kind: Kind,
+    lock: Item,
+    opens: &[Item],
+    locks: &[Item],
+    list: &[u8],
+    image: &[u8],
+) -> Vec<ListRule> {
+    let own = |other: &&Item| other.process() == lock.process();
+    let has_open = opens
+        .iter()
+        .filter(own)
+        .any(|open| open.is_same_file(&lock, list) && open.mode() == 1);
+    let has_block = lock
+        .user(list)
+        .is_some_and(|user| block_of(kind, user, lock.name(), lock.record(), image) != 0);
+    let twins = locks
+        .iter()
+        .filter(|other| lock.is_same_file(other, list) && lock.record() == other.record())
+        .count();
+    broken(&[
+        (
+            locks.iter().filter(own).count() > usize::from(list[2]),
+            ListRule::LockLimit,
+        ),
+        (!has_open, ListRule::LockHasOpen),
+        (!has_block, ListRule::LockHasBlock),
+        (twins > 1, ListRule::LockTwice),
+    ])
+}
+
+/// The list must have its length and the image must be sound.
+pub fn list_faults(kind: Kind, list: &[u8], image: &[u8]) -> BTreeSet<ListRule> {
+    let mut faults: BTreeSet<ListRule> = header_faults(list).into_iter().collect();
+    let items = items(list);
+    let opens: Vec<Item> = items
+        .iter()
+        .map(|(_, item)| *item)
+        .filter(Item::is_open)
+        .collect();
+    let locks: Vec<Item> = items
+        .iter()
+        .map(|(_, item)| *item)
+        .filter(Item::is_lock)
+        .collect();
+    for (place, item) in &items {
+        faults.extend(form_faults(*place, *item, list[0]));
+    }
+    for item in opens.iter().chain(&locks) {
+        faults.extend(item_faults(*item));
+    }
+    for open in &opens {
+        faults.extend(open_faults(kind, *open, &opens, list, image));
+    }
+    for lock in &locks {
+        faults.extend(lock_faults(kind, *lock, &opens, &locks, list, image));
+    }
+    faults
+}

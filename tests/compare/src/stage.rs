@@ -1,0 +1,395 @@
+//! Runs steps on the reference, keeps them with their replies, and watches over every one:
+//! coverage, the history, buffers that may not change, runs made once more as single calls, and
+//! the second reading of soundness.
+
+use crate::comparison::describe_step;
+use crate::coverage::{Coverage, Last};
+use crate::engine::Reference;
+use crate::faults::{block_of, image_faults, is_legal_name, list_faults, record_at, ImageRule};
+use crate::history::{groups_with_block, History, Kept, Noted};
+use crate::parts::SHORT_IMAGE;
+use crate::step::{set_image, set_list, Reply, Step};
+use crate::table::Table;
+use reference::calls::Numbers;
+use reference::kind::Kind;
+use reference::singly::is_run_function;
+
+const WRONG_NUMBERS: u32 = 255 + 256 * 13;
+const UNSOUND_IMAGE: u32 = 255 + 256;
+const UNSOUND_LIST: u32 = 255 + 256 * 12;
+
+/// The second reading of soundness is slow; it is taken of one call in so many.
+const SOUNDNESS_INTERVAL: u64 = 16;
+
+/// How much of a long image may be compared for a step, taken over many steps.
+const WHOLE_PART: usize = 16 * 1024;
+
+/// The entries of a drive of the second kind can name so many blocks; with more there is always
+/// one free.
+const NAMEABLE_BLOCKS: usize = 128 * 8;
+
+/// A step and what the reference replied.
+#[derive(Clone, Debug)]
+pub struct Made {
+    pub step: Step,
+    pub reply: Option<Reply>,
+}
+
+#[derive(Default)]
+pub struct Stage {
+    table: Table,
+    reference: Reference,
+    history: Option<History>,
+    /// While the image or the list is damaged on purpose.
+    damaged: bool,
+    served: u64,
+    /// Steps that were answered since a long image was last compared whole.
+    since_whole: usize,
+    pub coverage: Coverage,
+    faults: Vec<String>,
+    made: Vec<Made>,
+}
+
+impl Stage {
+    pub fn image(&self) -> &[u8] {
+        self.table.image()
+    }
+
+    pub fn list(&self) -> &[u8] {
+        self.table.list()
+    }
+
+    pub fn faults(&self) -> &[String] {
+        &self.faults
+    }
+
+    pub fn complain(&mut self, fault: String) {
+        self.faults.push(fault);
+    }
+
+    /// Forgets the history; the next Start begins another.
+    pub fn begin(&mut self) {
+        self.history = None;
+        self.damaged = false;
+    }
+
+    /// The steps since the last time; where the image is long, it is compared whole behind them.
+    pub fn take_made(&mut self) -> Vec<Made> {
+        if self.since_whole > 0 {
+            self.compare_whole();
+        }
+        std::mem::take(&mut self.made)
+    }
+
+    fn compare_whole(&mut self) {
+        self.since_whole = 0;
+        self.serve_one(Step::Whole);
+    }
+
+    /// A long image is compared whole once in as many steps as it has parts of 16 KB, so that it
+    /// costs no more than a short one does.
+    fn compare_whole_now_and_then(&mut self) {
+        let length = self.image().len();
+        if length <= SHORT_IMAGE {
+            self.since_whole = 0;
+            return;
+        }
+        self.since_whole += 1;
+        if self.since_whole * WHOLE_PART >= length {
+            self.compare_whole();
+        }
+    }
+
+    pub fn set_image(&mut self, image: &[u8], fill: u8) {
+        self.serve_all(set_image(image, fill));
+    }
+
+    pub fn set_list(&mut self, list: &[u8]) {
+        self.serve_all(set_list(list));
+    }
+
+    pub fn serve_all(&mut self, steps: Vec<Step>) {
+        for step in steps {
+            self.serve(step);
+        }
+    }
+
+    /// From here until `repaired` the buffers do not follow the history.
+    pub fn damaged(&mut self) {
+        self.damaged = true;
+    }
+
+    pub fn repaired(&mut self) {
+        self.damaged = false;
+    }
+
+    pub fn serve(&mut self, step: Step) -> Option<Reply> {
+        if matches!(step, Step::Image { .. }) && self.since_whole > 0 {
+            self.compare_whole();
+        }
+        let reply = self.serve_one(step);
+        if reply.is_some() {
+            self.compare_whole_now_and_then();
+        }
+        reply
+    }
+
+    fn serve_one(&mut self, step: Step) -> Option<Reply> {
+        let kept = self.kept(&step);
+        let reply = self.table.serve(&mut self.reference, &step);
+        if let Some(reply) = &reply {
+            self.watch(&step, reply, &kept);
+        }
+        self.made.push(Made {
+            step,
+            reply: reply.clone(),
+        });
+        reply
+    }
+
+    fn kept(&self, step: &Step) -> Vec<Kept> {
+        match (step, &self.history) {
+            (Step::Call { numbers, .. }, Some(history)) if !self.damaged => {
+                history.locked_by_others(numbers.process, self.table.image())
+            }
+            _ => Vec::new(),
+        }
+    }
+
+    fn watch(&mut self, step: &Step, reply: &Reply, kept: &[Kept]) {
+        self.served += 1;
+        let faults_before = self.faults.len();
+        match step {
+            Step::Start { kind, numbers, users } => self.watch_start(*kind, *numbers, users, reply),
+            Step::Call { .. } => self.watch_call(step, reply, kept),
+            Step::Check { kind } => self.watch_check(*kind, reply),
+            Step::Look { .. } => self.watch_look(step, reply),
+            _ => {}
+        }
+        let may_change = buffers_that_may_change(step, reply.answer);
+        for (changes, may_change) in reply.changes.iter().zip(may_change) {
+            if !may_change && *changes != Some(Vec::new()) {
+                self.complain("a buffer changed that may not".to_string());
+            }
+        }
+        if reply.apart.is_some() {
+            self.complain("a run and its single calls differ".to_string());
+        }
+        if self.faults.len() > faults_before {
+            self.complain(format!("  at {}", describe_step(step)));
+        }
+    }
+
+    fn watch_start(&mut self, told: u32, numbers: [u32; 3], users: &[u8], reply: &Reply) {
+        self.coverage.note_start(told, reply.answer);
+        let (0, Some(kind)) = (reply.answer, Kind::told(told)) else {
+            return;
+        };
+        let users: Option<[u8; 16]> = users.try_into().ok();
+        let image = self.table.image();
+        self.history = users
+            .filter(|_| image_faults(kind, image).is_empty())
+            .map(|users| History::new(kind, numbers, users, groups_with_block(kind, image)));
+    }
+
+    fn watch_check(&mut self, told: u32, reply: &Reply) {
+        self.coverage.note_check(told, reply.answer);
+        let faults = Kind::told(told).map(|kind| image_faults(kind, self.table.image()));
+        let wanted = match faults.as_ref().map(|faults| faults.first()) {
+            None | Some(Some(ImageRule::Length)) => 1,
+            Some(None) => 0,
+            Some(Some(_)) => 2,
+        };
+        if reply.answer != wanted {
+            self.complain(format!("check says {}, the faults are {faults:?}", reply.answer));
+        }
+    }
+
+    fn watch_look(&mut self, step: &Step, reply: &Reply) {
+        let Step::Look {
+            kind: told,
+            user,
+            name,
+            record,
+        } = step
+        else {
+            return;
+        };
+        self.coverage.note_look(*told, reply.answer);
+        let image = self.table.image();
+        let asked_well = *user < 16 && name.len() == 11 && is_legal_name(name) && *record < 262_144;
+        let kind = Kind::told(*told).filter(|kind| asked_well && image_faults(*kind, image).is_empty());
+        let found = kind.map(|kind| (kind, block_of(kind, *user as u8, name, *record, image)));
+        let wanted = match found {
+            None | Some((_, 0)) => 0,
+            Some((kind, block)) => record_at(kind, block, *record) as u32,
+        };
+        if reply.answer != wanted {
+            self.complain(format!("look says {}, the bytes {wanted}", reply.answer));
+        }
+    }
+
+    fn watch_call(&mut self, step: &Step, reply: &Reply, kept: &[Kept]) {
+        let Step::Call { numbers, fcb, dma } = step else {
+            return;
+        };
+        self.coverage
+            .note_call(numbers.kind, numbers.function, reply.answer, self.reference.why);
+        if let Some(kind) = Kind::told(numbers.kind) {
+            self.watch_drive(kind, *numbers, fcb, reply);
+            if self.damaged || self.served.is_multiple_of(SOUNDNESS_INTERVAL) {
+                self.compare_soundness(kind, reply.answer);
+            }
+        }
+        if self.damaged {
+            return;
+        }
+        let Some(history) = &mut self.history else {
+            return;
+        };
+        history.note(&Noted {
+            function: numbers.function,
+            process: numbers.process,
+            count: numbers.count,
+            fcb,
+            answer: reply.answer,
+        });
+        let may_change_groups = match numbers.function {
+            19 | 23 => reply.answer == 0,
+            _ => records_done(*numbers, reply.answer) > 0,
+        };
+        let mut verdict = match may_change_groups || reply.changes[3] != Some(Vec::new()) {
+            true => history.check(kept, self.table.list(), self.table.image()),
+            false => history.check_holdings(kept, self.table.list(), self.table.image()),
+        };
+        if verdict.is_ok() && numbers.function == 46 && reply.answer == 0 {
+            let dma = changed_dma(dma, reply);
+            verdict = history.check_free_space(&dma, self.table.image());
+        }
+        if let Err(fault) = verdict {
+            self.complain(fault);
+        }
+    }
+
+    fn watch_drive(&mut self, kind: Kind, numbers: Numbers, fcb: &[u8], reply: &Reply) {
+        let blocks = self.table.image().len() / kind.block();
+        let is_large = kind == Kind::Second && blocks > 2 + NAMEABLE_BLOCKS;
+        if is_large && matches!(numbers.function, 34 | 40) && reply.answer % 256 == 2 {
+            self.complain(format!("no free block, of {blocks}"));
+        }
+        if reply.answer == 0 {
+            self.coverage.note_size(kind, blocks);
+        }
+        self.watch_run(kind, numbers, fcb, reply);
+        if kind == Kind::Second {
+            self.watch_blocks(numbers, fcb, reply);
+        }
+    }
+
+    /// Notes where the first record of a call lies that was done.
+    fn watch_blocks(&mut self, numbers: Numbers, fcb: &[u8], reply: &Reply) {
+        let of_records = is_run_function(numbers.function) || numbers.function == 41;
+        let is_done = reply.answer == 0 || records_done(numbers, reply.answer) > 0;
+        if !of_records || !is_done {
+            return;
+        }
+        let user = self.table.list()[3 + numbers.process as usize];
+        let record = u32::from_le_bytes([fcb[33], fcb[34], fcb[35], 0]);
+        let block = block_of(Kind::Second, user, &fcb[1..12], record, self.table.image());
+        self.coverage.note_block(numbers.function, block);
+    }
+
+    fn watch_run(&mut self, kind: Kind, numbers: Numbers, fcb: &[u8], reply: &Reply) {
+        let done = records_done(numbers, reply.answer);
+        if done == 0 {
+            return;
+        }
+        let first = u32::from_le_bytes([fcb[33], fcb[34], fcb[35], 0]);
+        self.coverage
+            .note_run(kind, numbers.function, first, done, reply.answer != 0);
+        if let Some(last) = last_taken(kind, reply) {
+            self.coverage.note_last(kind, numbers.function, last);
+        }
+        let past_them = |at: usize, length: usize| at + length > 128 * done as usize;
+        let dma_changes = reply.changes[1].iter().flatten();
+        for change in dma_changes {
+            if past_them(change.at, change.bytes.len()) {
+                self.complain("the DMA changed past the records done".to_string());
+            }
+        }
+    }
+
+    fn compare_soundness(&mut self, kind: Kind, answer: u32) {
+        if answer == WRONG_NUMBERS {
+            return;
+        }
+        let image_is_sound = image_faults(kind, self.table.image()).is_empty();
+        if image_is_sound == (answer == UNSOUND_IMAGE) {
+            self.complain(format!("image sound: {image_is_sound}, answer {answer}"));
+            return;
+        }
+        if !image_is_sound {
+            return;
+        }
+        let list_is_sound = list_faults(kind, self.table.list(), self.table.image()).is_empty();
+        if list_is_sound == (answer == UNSOUND_LIST) {
+            self.complain(format!("list sound: {list_is_sound}, answer {answer}"));
+        }
+    }
+}
+
+/// How many records a 33, 34 or 40 has done; 0 for the others.
+fn records_done(numbers: Numbers, answer: u32) -> u32 {
+    match (is_run_function(numbers.function), answer) {
+        (false, _) => 0,
+        (true, 0) => numbers.count,
+        (true, refusal) => refusal >> 12,
+    }
+}
+
+/// What a run has used up itself, if it stopped because there was no more of it.
+fn last_taken(kind: Kind, reply: &Reply) -> Option<Last> {
+    let is_user_byte = |at: &usize| at.is_multiple_of(32);
+    let is_block_number = |at: &usize| at % 32 >= 16;
+    let mut changed = reply.changes[3]
+        .iter()
+        .flatten()
+        .flat_map(|change| change.at..change.at + change.bytes.len())
+        .filter(|at| *at < kind.directory());
+    match reply.answer % 256 {
+        2 => changed.find(is_block_number).map(|_| Last::Block),
+        5 => changed.find(is_user_byte).map(|_| Last::Entry),
+        _ => None,
+    }
+}
+
+/// FCB, DMA, list and image: which of them a step may change that was answered so.
+fn buffers_that_may_change(step: &Step, answer: u32) -> [bool; 4] {
+    const NONE: [bool; 4] = [false; 4];
+    let accepted = answer == 0;
+    let numbers = match step {
+        Step::Start { .. } => return [false, false, accepted, false],
+        Step::Call { numbers, .. } => *numbers,
+        _ => return NONE,
+    };
+    if !accepted && records_done(numbers, answer) == 0 {
+        return NONE;
+    }
+    match numbers.function {
+        15 => [true, false, true, false],
+        22 => [true, false, true, true],
+        33 | 46 => [false, true, false, false],
+        19 | 23 | 34 | 40 | 41 => [false, false, false, true],
+        16 | 42 | 43 | 143 => [false, false, true, false],
+        _ => NONE,
+    }
+}
+
+/// The DMA after the call.
+pub fn changed_dma(dma: &[u8], reply: &Reply) -> Vec<u8> {
+    let mut dma = dma.to_vec();
+    for change in reply.changes[1].iter().flatten() {
+        dma[change.at..change.at + change.bytes.len()].copy_from_slice(&change.bytes);
+    }
+    dma
+}

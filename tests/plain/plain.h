@@ -1,0 +1,21 @@
+/* The engine's work in plain C, unproved: what the engine is compared with, and its speed measured against. */
+#ifndef PLAIN_H
+#define PLAIN_H
+
+#include <stddef.h>
+#include <stdint.h>
+
+/* As mpm_call. */
+uint32_t plain_call(uint32_t kind, uint32_t function, uint32_t process, uint32_t count,
+                    uint8_t *fcb, size_t fcb_len, uint8_t *dma, size_t dma_len,
+                    uint8_t *list, size_t list_len, uint8_t *image, size_t image_len);
+
+/* The same on a drive of the one kind. */
+uint32_t plain_call_SMALL(uint32_t function, uint32_t process, uint32_t count,
+                          uint8_t *fcb, size_t fcb_len, uint8_t *dma, size_t dma_len,
+                          uint8_t *list, size_t list_len, uint8_t *image, size_t image_len);
+uint32_t plain_call_LARGE(uint32_t function, uint32_t process, uint32_t count,
+                          uint8_t *fcb, size_t fcb_len, uint8_t *dma, size_t dma_len,
+                          uint8_t *list, size_t list_len, uint8_t *image, size_t image_len);
+
+#endif
