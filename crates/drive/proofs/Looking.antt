@@ -43,13 +43,13 @@ pub blocks-few : (kind : Kind) (r : Bool) (s : List ℕ) → r ≡ goodLength ki
 blocks-few kind r s e n = length-few kind s (sym e ∙ not-false r n)
 
 -- after `if !may_look(..) { return .. }`
-module _ (kind : Kind) (r : Bool) (top u : ℕ) (name s : List ℕ) (e : r ≡ mayLook kind top u name s) (n : not r ≡ false) where
-  may : mayLook kind top u name s ≡ true
+module _ (kind : Kind) (r : Bool) (u : ℕ) (name s : List ℕ) (e : r ≡ mayLook kind u name s) (n : not r ≡ false) where
+  may : mayLook kind u name s ≡ true
   may = sym e ∙ not-false r n
 
   pub looked-image : 32 * entries kind ≤ length s
   unfolding mayLook
-  looked-image = let k = length-long kind s (sound-length kind top s (and-fst _ _ may)) in omega arith
+  looked-image = let k = length-long kind s (sound-length kind s (and-fst _ _ may)) in omega arith
 
   pub looked-user : u ≤ 15
   unfolding mayLook
@@ -63,31 +63,31 @@ module _ (kind : Kind) (r : Bool) (top u : ℕ) (name s : List ℕ) (e : r ≡ m
   looked-long = let k = looked-name in omega arith
 
   -- the block that was found
-  pub looked-block : (f : File) (b q : ℕ) → f ≡ fileFrom u name 0 → b ≡ blockOf kind s f q → b ≡ lookBlock kind top u name q s
+  pub looked-block : (f : File) (b q : ℕ) → f ≡ fileFrom u name 0 → b ≡ blockOf kind s f q → b ≡ lookBlock kind u name q s
   unfolding lookBlock _if_else_
   looked-block f b q h g = rw may (g ∙ ap (λ (x : File). blockOf kind s x q) h)
 
-pub looked-not : (kind : Kind) (r : Bool) (top u : ℕ) (name s : List ℕ) (q : ℕ) → r ≡ mayLook kind top u name s → not r ≡ true
-    → 0 ≡ lookBlock kind top u name q s
+pub looked-not : (kind : Kind) (r : Bool) (u : ℕ) (name s : List ℕ) (q : ℕ) → r ≡ mayLook kind u name s → not r ≡ true
+    → 0 ≡ lookBlock kind u name q s
 unfolding lookBlock _if_else_
-looked-not kind r top u name s q e n = let k : mayLook kind top u name s ≡ false = sym e ∙ not-true r n in rw k
+looked-not kind r u name s q e n = let k : mayLook kind u name s ≡ false = sym e ∙ not-true r n in rw k
 
 -- where its part begins
-pub look-begins : (kind : Kind) (r b top u : ℕ) (name : List ℕ) (q : ℕ) (s : List ℕ) → b ≡ lookBlock kind top u name q s → r ≡ partAt kind b q
-    → r ≡ lookAt kind top u name q s
+pub look-begins : (kind : Kind) (r b u : ℕ) (name : List ℕ) (q : ℕ) (s : List ℕ) → b ≡ lookBlock kind u name q s → r ≡ partAt kind b q
+    → r ≡ lookAt kind u name q s
 unfolding lookAt
-look-begins kind r b top u name q s h e = e ∙ ap (λ (x : ℕ). partAt kind x q) h
+look-begins kind r b u name q s h e = e ∙ ap (λ (x : ℕ). partAt kind x q) h
 
 -- the part that was found
-module _ (kind : Kind) (at top u : ℕ) (name : List ℕ) (q : ℕ) (s : List ℕ) (e : at ≡ lookAt kind top u name q s) where
+module _ (kind : Kind) (at u : ℕ) (name : List ℕ) (q : ℕ) (s : List ℕ) (e : at ≡ lookAt kind u name q s) where
   pub look-room : (at ≡ 0 → ⊥) → at + 128 ≤ length s
-  look-room n = rw (sym e) at (look-inside kind top u name q s (λ z. n (e ∙ z)) .1)
+  look-room n = rw (sym e) at (look-inside kind u name q s (λ z. n (e ∙ z)) .1)
 
-  pub look-none : at ≡ 0 → [] ≡ look kind top u name q s
+  pub look-none : at ≡ 0 → [] ≡ look kind u name q s
   unfolding look partFrom _if_else_
   look-none z = rw (← e, z)
 
-  pub look-some : (at ≡ 0 → ⊥) → (end : ℕ) → end ≡ at + 128 → take (end - at) (drop at s) ≡ look kind top u name q s
+  pub look-some : (at ≡ 0 → ⊥) → (end : ℕ) → end ≡ at + 128 → take (end - at) (drop at s) ≡ look kind u name q s
   unfolding look partFrom _if_else_
   look-some n end h = let k : end - at ≡ 128 = omega arith in rw (← e, ne-eqb _ _ n, k)
 

@@ -163,19 +163,19 @@ marks-used kind low s e k seen m q u = record {
 
 -- ---- the ends of judging an entry
 
-module _ (kind : Kind) (top : ℕ) (s : List ℕ) (e : ℕ) (seen : List ℕ) where
-  pub judged-empty : (r : Bool) → Marks kind 1 s e 0 seen → r ≡ isEmpty s e → r ≡ true → Judged kind top s e true seen
+module _ (kind : Kind) (s : List ℕ) (e : ℕ) (seen : List ℕ) where
+  pub judged-empty : (r : Bool) → Marks kind 1 s e 0 seen → r ≡ isEmpty s e → r ≡ true → Judged kind s e true seen
   unfolding goodEntry
   judged-empty r m h t = record { good = or-first _ _ (sym h ∙ t); marks = λ q. marks-empty kind 1 s e seen r m h t }
 
-  pub judged-bad : false ≡ goodEntry kind top s e → Judged kind top s e false seen
+  pub judged-bad : false ≡ goodEntry kind s e → Judged kind s e false seen
   judged-bad h = record { good = h; marks = λ q. absurd (true≢false (sym q)) }
 
-  pub judged-last : (r m t : Bool) → r ≡ isEmpty s e → r ≡ false → Marked kind s e m seen → not m ≡ false → not t ≡ goodEntry kind top s e
-      → Judged kind top s e (not t) seen
+  pub judged-last : (r m t : Bool) → r ≡ isEmpty s e → r ≡ false → Marked kind s e m seen → not m ≡ false → not t ≡ goodEntry kind s e
+      → Judged kind s e (not t) seen
   judged-last r m t h u k n g = record { good = g; marks = λ q. marks-used kind 1 s e (numbers kind) seen (k .marks (not-false m n)) refl (sym h ∙ u) }
 
-  pub judged-marks : (r : Bool) → Judged kind top s e r seen → not r ≡ false → Marks kind 1 s (e + 1) 0 seen
+  pub judged-marks : (r : Bool) → Judged kind s e r seen → not r ≡ false → Marks kind 1 s (e + 1) 0 seen
   judged-marks r j n = j .marks (not-false r n)
 
 -- ---- the blocks in use
@@ -283,8 +283,8 @@ module _ (kind one : Kind) (s : List ℕ) (q : kind ≡ one) where
   pub one-marked : (e : ℕ) (r : Bool) (seen : List ℕ) → Marked one s e r seen → Marked kind s e r seen
   one-marked e r seen m = rw q m
 
-  pub one-good : (r : Bool) (top : ℕ) → r ≡ all (goodEntry one top s) (entries one) → r ≡ all (goodEntry kind top s) (entries kind)
-  one-good r top h = rw q h
+  pub one-good : (r : Bool) → r ≡ all (goodEntry one s) (entries one) → r ≡ all (goodEntry kind s) (entries kind)
+  one-good r h = rw q h
 
   pub one-lowest : (r : ℕ) → r ≡ freeBlock one s → r ≡ freeBlock kind s
   one-lowest r h = rw q h

@@ -22,8 +22,8 @@ pub record Marked (kind : Kind) (s : List ℕ) (e : ℕ) (r : Bool) (seen : List
   pub marks : r ≡ true → Marks kind 1 s e (numbers kind) seen
 
 -- what judging entry e answers and leaves
-pub record Judged (kind : Kind) (top : ℕ) (s : List ℕ) (e : ℕ) (r : Bool) (seen : List ℕ) : Type 0 where
-  pub good : r ≡ goodEntry kind top s e
+pub record Judged (kind : Kind) (s : List ℕ) (e : ℕ) (r : Bool) (seen : List ℕ) : Type 0 where
+  pub good : r ≡ goodEntry kind s e
   pub marks : r ≡ true → Marks kind 1 s (e + 1) 0 seen
 
 -- the blocks in use: 0 and 1 are the directory, the others are marked as they are named

@@ -1,4 +1,3 @@
-use directory::byte::wide;
 use directory::entry::extent_at;
 use directory::entry::file_at;
 use directory::entry::is_empty;
@@ -11,6 +10,7 @@ use rules::kind::Kind;
 use rules::kind::block_size;
 use rules::kind::entries;
 use rules::kind::fewest;
+use rules::kind::last_module;
 use rules::kind::most;
 use rules::kind::numbers;
 use words::bits::is_set;
@@ -22,7 +22,7 @@ ghost use lib.ListN.{length};
 ghost use lib.Dec.{leb, ltb, eqb};
 ghost use Rattle.words.specs.Tests.{_and_, _or_, all, any};
 ghost use Rattle.rules.specs.declared.kind.Kind.the-variants.{Small, Large};
-ghost use Rattle.rules.specs.Kinds.{entries, numbers, most};
+ghost use Rattle.rules.specs.Kinds.{entries, numbers, most, lastModule};
 ghost use Rattle.rules.specs.Drive.{goodLength, blocks, goodNumbers, goodFields, inRange, isRepeat, fileAt, isEntry, goodEntry, hasFirst, soundDirectory, soundImage, imageCheck};
 ghost use Rattle.drive.specs.Marks.{Marks, Marked, Judged};
 
@@ -41,30 +41,30 @@ fn good_length(kind: Kind, image: &[u8]) -> bool
 }
 
 // A module is at most that of the highest record.
-fn module_fits(number: u8, top: usize) -> bool
-    ensures { λ r. ⌜ r ≡ leb number (top / 4096) ⌝ }
+fn module_fits(kind: Kind, number: u8) -> bool
+    ensures { λ r. ⌜ r ≡ leb number (lastModule kind) ⌝ }
 {
-    wide(number) <= top / 4096
+    number <= last_module(kind)
 }
 
 // Ex to 31, the module to that of the highest record, the record count to 128.
-fn good_numbers(image: &[u8], e: usize, top: usize) -> bool
+fn good_numbers(kind: Kind, image: &[u8], e: usize) -> bool
     requires { ⌜ 32 * e + 32 ≤ length (now image) ⌝ }
-    ensures { λ r. ⌜ r ≡ goodNumbers top (now (image .entry)) e ⌝ }
+    ensures { λ r. ⌜ r ≡ goodNumbers kind (now (image .entry)) e ⌝ }
 {
     if 31 < image[32 * e + 12] {
         return false;
     }
-    if !module_fits(image[32 * e + 14], top) {
+    if !module_fits(kind, image[32 * e + 14]) {
         return false;
     }
     image[32 * e + 15] <= 128
 }
 
 // The user, the name, then ex, module and count of entry `e`.
-fn good_fields(image: &[u8], e: usize, top: usize) -> bool
+fn good_fields(kind: Kind, image: &[u8], e: usize) -> bool
     requires { ⌜ 32 * e + 32 ≤ length (now image) ⌝ }
-    ensures { λ r. ⌜ r ≡ goodFields top (now (image .entry)) e ⌝ }
+    ensures { λ r. ⌜ r ≡ goodFields kind (now (image .entry)) e ⌝ }
 {
     if 15 < image[32 * e] {
         return false;
@@ -72,7 +72,7 @@ fn good_fields(image: &[u8], e: usize, top: usize) -> bool
     if !legal_name(image, 32 * e + 1) {
         return false;
     }
-    good_numbers(image, e, top)
+    good_numbers(kind, image, e)
 }
 
 // A block number is 0 or 2 to n - 1.
@@ -192,14 +192,14 @@ fn is_repeat(image: &[u8], e: usize) -> bool
 }
 
 // Entry `e` is empty or as it should be, the blocks seen before it being marked.
-fn good_entry(kind: Kind, image: &[u8], e: usize, top: usize, seen: &mut [u8]) -> bool
+fn good_entry(kind: Kind, image: &[u8], e: usize, seen: &mut [u8]) -> bool
     requires { ⌜ (32 * e + 32 ≤ length (now image)) × (blocks kind (now image) ≤ most kind) × Marks kind 1 (now image) e 0 (now seen) ⌝ }
-    ensures { λ r. ⌜ Judged kind top (now (image .entry)) e r (now (seen .exit)) ⌝ }
+    ensures { λ r. ⌜ Judged kind (now (image .entry)) e r (now (seen .exit)) ⌝ }
 {
     if is_empty(image, e) {
         return true;
     }
-    if !good_fields(image, e, top) {
+    if !good_fields(kind, image, e) {
         return false;
     }
     if !all_in_range(kind, image, e) {
@@ -212,14 +212,14 @@ fn good_entry(kind: Kind, image: &[u8], e: usize, top: usize, seen: &mut [u8]) -
 }
 
 // Every entry is, no block having a mark yet.
-fn judge_all(kind: Kind, image: &[u8], top: usize, seen: &mut [u8]) -> bool
+fn judge_all(kind: Kind, image: &[u8], seen: &mut [u8]) -> bool
     requires { ⌜ (32 * entries kind ≤ length (now image)) × (blocks kind (now image) ≤ most kind) × Marks kind 1 (now image) 0 0 (now seen) ⌝ }
-    ensures { λ r. ⌜ r ≡ all (goodEntry kind top (now (image .entry))) (entries kind) ⌝ }
+    ensures { λ r. ⌜ r ≡ all (goodEntry kind (now (image .entry))) (entries kind) ⌝ }
 {
     let n = entries(kind);
     let mut e = 0;
     while e < n {
-        if !good_entry(kind, image, e, top, &mut *seen) {
+        if !good_entry(kind, image, e, &mut *seen) {
             return false;
         }
         e += 1;
@@ -228,29 +228,29 @@ fn judge_all(kind: Kind, image: &[u8], top: usize, seen: &mut [u8]) -> bool
 }
 
 // The marks are 32 bytes on a drive of the first kind, 512 on one of the second.
-fn small_entries(image: &[u8], top: usize) -> bool
+fn small_entries(image: &[u8]) -> bool
     requires { ⌜ (32 * entries Small ≤ length (now image)) × (blocks Small (now image) ≤ most Small) ⌝ }
-    ensures { λ r. ⌜ r ≡ all (goodEntry Small top (now (image .entry))) (entries Small) ⌝ }
+    ensures { λ r. ⌜ r ≡ all (goodEntry Small (now (image .entry))) (entries Small) ⌝ }
 {
     let mut seen = [0u8; 32];
-    judge_all(Kind::Small, image, top, &mut seen)
+    judge_all(Kind::Small, image, &mut seen)
 }
 
-fn large_entries(image: &[u8], top: usize) -> bool
+fn large_entries(image: &[u8]) -> bool
     requires { ⌜ (32 * entries Large ≤ length (now image)) × (blocks Large (now image) ≤ most Large) ⌝ }
-    ensures { λ r. ⌜ r ≡ all (goodEntry Large top (now (image .entry))) (entries Large) ⌝ }
+    ensures { λ r. ⌜ r ≡ all (goodEntry Large (now (image .entry))) (entries Large) ⌝ }
 {
     let mut seen = [0u8; 512];
-    judge_all(Kind::Large, image, top, &mut seen)
+    judge_all(Kind::Large, image, &mut seen)
 }
 
-fn good_entries(kind: Kind, image: &[u8], top: usize) -> bool
+fn good_entries(kind: Kind, image: &[u8]) -> bool
     requires { ⌜ (32 * entries kind ≤ length (now image)) × (blocks kind (now image) ≤ most kind) ⌝ }
-    ensures { λ r. ⌜ r ≡ all (goodEntry kind top (now (image .entry))) (entries kind) ⌝ }
+    ensures { λ r. ⌜ r ≡ all (goodEntry kind (now (image .entry))) (entries kind) ⌝ }
 {
     match kind {
-        Kind::Small => small_entries(image, top),
-        Kind::Large => large_entries(image, top),
+        Kind::Small => small_entries(image),
+        Kind::Large => large_entries(image),
     }
 }
 
@@ -292,35 +292,35 @@ fn all_begun(kind: Kind, image: &[u8]) -> bool
     true
 }
 
-fn sound_directory(kind: Kind, image: &[u8], top: usize) -> bool
+fn sound_directory(kind: Kind, image: &[u8]) -> bool
     requires { ⌜ (32 * entries kind ≤ length (now image)) × (blocks kind (now image) ≤ most kind) ⌝ }
-    ensures { λ r. ⌜ r ≡ soundDirectory kind top (now (image .entry)) ⌝ }
+    ensures { λ r. ⌜ r ≡ soundDirectory kind (now (image .entry)) ⌝ }
 {
-    if !good_entries(kind, image, top) {
+    if !good_entries(kind, image) {
         return false;
     }
     all_begun(kind, image)
 }
 
-// The image check, to a highest record.
-pub fn image_check(kind: Kind, image: &[u8], top: usize) -> ImageAnswer
-    ensures { λ r. ⌜ r ≡ imageCheck kind top (now (image .entry)) ⌝ }
+// The image check.
+pub fn image_check(kind: Kind, image: &[u8]) -> ImageAnswer
+    ensures { λ r. ⌜ r ≡ imageCheck kind (now (image .entry)) ⌝ }
 {
     if !good_length(kind, image) {
         return ImageAnswer::WrongLength;
     }
-    if !sound_directory(kind, image, top) {
+    if !sound_directory(kind, image) {
         return ImageAnswer::UnsoundDirectory;
     }
     ImageAnswer::Sound
 }
 
 // The image is sound.
-pub fn sound_image(kind: Kind, image: &[u8], top: usize) -> bool
-    ensures { λ r. ⌜ r ≡ soundImage kind top (now (image .entry)) ⌝ }
+pub fn sound_image(kind: Kind, image: &[u8]) -> bool
+    ensures { λ r. ⌜ r ≡ soundImage kind (now (image .entry)) ⌝ }
 {
     if !good_length(kind, image) {
         return false;
     }
-    sound_directory(kind, image, top)
+    sound_directory(kind, image)
 }

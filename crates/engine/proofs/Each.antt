@@ -20,11 +20,13 @@ use Rattle.rules.specs.Call.{rowsCall, call}
 use Rattle.rules.specs.Several.{servesRun, threeOf, fcbAt, dmaAt, single, backAt, run, several, singly, callSingly}
 use Rattle.rules.proofs.Tables.{nonzero-all, refused, accepted-zero, answer-is}
 use Rattle.rules.proofs.Passed.{Passed, passed}
-use Rattle.rules.proofs.Ends.{did-as, did-none}
+use Rattle.rules.proofs.Ends.{did-as, did-left, did-none}
 use Rattle.rules.proofs.Singles.{run-chosen, done-within}
 use Rattle.rules.proofs.Several.{codeAt, several-none, several-more, several-stops, several-stays, singly-plain, singly-refused, singly-told}
-use Rattle.engine.specs.Calls.{callBy, DidSingle}
+use Rattle.calls.specs.Calls.{callBy}
+use Rattle.engine.specs.Single.{DidSingle}
 use Rattle.rules.specs.declared.kind.Kind.{Kind}
+use Rattle.rules.proofs.Sizes.{top-fits}
 
 -- ---- its FCB and its DMA
 
@@ -45,10 +47,11 @@ dma-made dma zero a own i n m ha h =
 -- ---- the single call
 
 module _ (kind : Kind) (n p i : ℕ) (b : Buffers) (fcb dma : List ℕ) (hf : fcb ≡ fcbAt i (b .fcb)) (hd : dma ≡ dmaAt i (b .dma)) (code : ℕ)
-    (fcb′ dma′ list′ image′ : List ℕ) (d : Did (callBy kind false n p 1 (buffers fcb dma (b .list) (b .image))) code fcb′ dma′ list′ image′) where
-  as-single : Did (call kind n p 1 (single i b)) code fcb′ dma′ list′ image′
+    (fcb′ dma′ list′ image′ : List ℕ)
+    (d : Did (callBy kind false n p 1 (buffers fcb dma (b .list) (b .image))) code (buffers fcb′ dma′ list′ image′)) where
+  as-single : Did (call kind n p 1 (single i b)) code (buffers fcb′ dma′ list′ image′)
   unfolding callBy single
-  as-single = did-as _ _ code fcb′ dma′ list′ image′ (ap (λ (x : List ℕ). call kind n p 1 (buffers x dma (b .list) (b .image))) hf
+  as-single = did-as _ _ code _ (ap (λ (x : List ℕ). call kind n p 1 (buffers x dma (b .list) (b .image))) hf
       ∙ ap (λ (x : List ℕ). call kind n p 1 (buffers (fcbAt i (b .fcb)) x (b .list) (b .image))) hd) d
 
   still : (code ≡ 0 → ⊥) → call kind n p 1 (single i b) .left ≡ single i b
@@ -66,8 +69,8 @@ module _ (kind : Kind) (n p i : ℕ) (b : Buffers) (fcb dma : List ℕ) (hf : fc
     kept = λ y. λ j. record {
       fcb = b .fcb;
       dma = b .dma;
-      list = (as-single .leaves-list ∙ ap (λ (x : Buffers). x .list) (still z)) j;
-      image = (as-single .leaves-image ∙ ap (λ (x : Buffers). x .image) (still z)) j;
+      list = (ap (λ (x : Buffers). x .list) (as-single .leaves ∙ still z)) j;
+      image = (ap (λ (x : Buffers). x .image) (as-single .leaves ∙ still z)) j;
     };
   }
 
@@ -78,9 +81,9 @@ module _ (kind : Kind) (n p i : ℕ) (b : Buffers) (fcb dma : List ℕ) (hf : fc
     gives = sym z ∙ as-single .gives;
     done = λ y. λ j. record {
       fcb = b .fcb;
-      dma = (h ∙ ap (λ (x : List ℕ). put (128 * i) (take 128 x) (b .dma)) (as-single .leaves-dma)) j;
-      list = as-single .leaves-list j;
-      image = as-single .leaves-image j;
+      dma = (h ∙ ap (λ (x : List ℕ). put (128 * i) (take 128 x) (b .dma)) (ap (λ (x : Buffers). x .dma) (as-single .leaves))) j;
+      list = as-single .leaves j .list;
+      image = as-single .leaves j .image;
     };
     kept = λ y. absurd (y refl);
   }
@@ -103,23 +106,17 @@ module _ (kind : Kind) (n p c i : ℕ) (b : Buffers) (fcb₁ dma₁ list₁ imag
 
     -- the next record's number still has three bytes
     pub each-number : (r : ℕ) → servesRun n ≡ true → length fcb₁ ≡ 36 → r ≡ recordOf fcb₁ → code ≡ 0 → r + (i + 1) < 16777216
-    each-number r s long e z = let k = done-within kind n p i b′ (run-chosen n s) long (sym code-told ∙ z) in omega arith
+    each-number r s long e z = let t = top-fits kind in let k = done-within kind n p i b′ (run-chosen n s) long (sym code-told ∙ z) in omega arith
 
-    pub each-stops : (code ≡ 0 → ⊥) → i < c → Did (singly (several kind n p c b)) code fcb₁ dma list image
+    pub each-stops : (code ≡ 0 → ⊥) → i < c → Did (singly (several kind n p c b)) code (buffers fcb₁ dma list image)
     unfolding singly
     each-stops z l =
         let y : codeAt kind n p i b′ ≡ 0 → ⊥ = λ q. z (code-told ∙ q) in
         let g = several-stays kind n p (suc i) c b (run (codeAt kind n p i b′) i b′) (several-stops kind n p i b b′ h y) y (omega arith) in
         let k = d .kept z in
-        rw g (record {
-          gives = code-told;
-          leaves-fcb = refl;
-          leaves-dma = ap (λ (x : Buffers). x .dma) k;
-          leaves-list = ap (λ (x : Buffers). x .list) k;
-          leaves-image = ap (λ (x : Buffers). x .image) k;
-        })
+        rw g (did-left code-told refl (ap (λ (x : Buffers). x .dma) k) (ap (λ (x : Buffers). x .list) k) (ap (λ (x : Buffers). x .image) k))
 
-  pub each-ends : c ≤ i → i ≤ c → Did (singly (several kind n p c b)) 0 fcb₁ dma₁ list₁ image₁
+  pub each-ends : c ≤ i → i ≤ c → Did (singly (several kind n p c b)) 0 (buffers fcb₁ dma₁ list₁ image₁)
   unfolding singly
   each-ends l m = let q : c ≡ i = omega arith in rw (q, h) (did-none 0 b′)
 
@@ -127,20 +124,20 @@ module _ (kind : Kind) (n p c i : ℕ) (b : Buffers) (fcb₁ dma₁ list₁ imag
 
 module _ (kind : Kind) (n p c : ℕ) (b : Buffers) (r : Bool) (e : r ≡ servesRun n) where
   -- one that takes no run of records
-  pub singly-other : (a : ℕ) (fcb dma list image : List ℕ) → not r ≡ true → Did (callBy kind false n p c b) a fcb dma list image
-      → Did (callSingly kind n p c b) a fcb dma list image
+  pub singly-other : (a : ℕ) (left : Buffers) → not r ≡ true → Did (callBy kind false n p c b) a left
+      → Did (callSingly kind n p c b) a left
   unfolding callBy
-  singly-other a fcb dma list image h d = did-as _ _ a fcb dma list image (sym (singly-plain kind n p c b (not-no r _ e h))) d
+  singly-other a left h d = did-as _ _ a left (sym (singly-plain kind n p c b (not-no r _ e h))) d
 
   module _ (h : not r ≡ false) (code : ℕ) (k : code ≡ firstOf (rowsAll kind n p c b)) where
     -- a general refusal
-    pub singly-stopped : (code ≡ 0 → ⊥) → Did (callSingly kind n p c b) code (b .fcb) (b .dma) (b .list) (b .image)
+    pub singly-stopped : (code ≡ 0 → ⊥) → Did (callSingly kind n p c b) code b
     singly-stopped z =
-        did-as _ _ _ _ _ _ _ (ap (λ (a : ℕ). outcome a b) k ∙ sym (singly-refused kind n p c b (not-yes r _ e h) (λ q. z (k ∙ q)))) (did-none code b)
+        did-as _ _ _ _ (ap (λ (a : ℕ). outcome a b) k ∙ sym (singly-refused kind n p c b (not-yes r _ e h) (λ q. z (k ∙ q)))) (did-none code b)
 
-    pub singly-went : (a : ℕ) (fcb dma list image : List ℕ) → code ≡ 0 → Did (singly (several kind n p c b)) a fcb dma list image
-        → Did (callSingly kind n p c b) a fcb dma list image
-    singly-went a fcb dma list image z d = did-as _ _ a fcb dma list image (sym (singly-told kind n p c b (not-yes r _ e h) (sym k ∙ z))) d
+    pub singly-went : (a : ℕ) (left : Buffers) → code ≡ 0 → Did (singly (several kind n p c b)) a left
+        → Did (callSingly kind n p c b) a left
+    singly-went a left z d = did-as _ _ a left (sym (singly-told kind n p c b (not-yes r _ e h) (sym k ∙ z))) d
 
 -- what the general table leaves to the single calls
 module _ (kind : Kind) (n p c : ℕ) (fcb dma list image : List ℕ) (code : ℕ) (k : code ≡ firstOf (rowsAll kind n p c (buffers fcb dma list image)))

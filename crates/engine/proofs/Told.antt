@@ -1,22 +1,28 @@
 -- The outcome at each end of a function that is told the kind of drive by a number. Assumes nothing.
-use Prim.Native.Nat.{ℕ}
+use Prim.Native.Nat.{ℕ, _<_}
 use mathlib.Core.Path.{_≡_, sym, ap, _∙_}
 use mathlib.Core.Bool.{true}
 use mathlib.Core.List.{List}
+use mathlib.Core.Logic.{⊎-elim}
+use native.Mathlib.Omega.{arith}
+use Rattle.words.proofs.Tests.{equal?}
 use Rattle.rules.specs.declared.kind.Kind.{Kind}
 use Rattle.rules.specs.declared.kind.Told.{Told}
 use Rattle.rules.specs.declared.kind.Told.the-variants.{Known, Other}
 use Rattle.rules.specs.declared.answer.ImageAnswer.{ImageAnswer}
 use Rattle.rules.specs.Kinds.{toldKind}
 use Rattle.rules.specs.Serves.{Buffers, Outcome, Did}
-use Rattle.rules.specs.Drive.{highest, imageCheck, imageNumber}
+use Rattle.rules.specs.Drive.{blocks, imageCheck, imageNumber}
 use Rattle.rules.specs.Locks.{Started, start}
 use Rattle.rules.specs.Look.{lookAt}
 use Rattle.rules.specs.Several.{callRun, callSingly}
 use Rattle.rules.specs.Told.{callTold, singlyTold, startTold, checkTold, lookTold}
 use Rattle.rules.proofs.Ends.{did-as, did-none}
+use Rattle.rules.proofs.Sizes.{most-fits, begins-below}
+use Rattle.rules.proofs.Sound.{sound-length, length-whole, length-few}
+use Rattle.rules.proofs.Look.{look-inside, look-sound}
 use Rattle.locklist.specs.Start.{DidStart}
-use Rattle.engine.specs.Calls.{callBy}
+use Rattle.calls.specs.Calls.{callBy}
 
 -- after `let Told::Known(known) = told_kind(kind) else { return .. }`
 module _ (n : ℕ) (t : Told) (is : t ≡ toldKind n) where
@@ -24,15 +30,15 @@ module _ (n : ℕ) (t : Told) (is : t ≡ toldKind n) where
     kind-is : Known kind ≡ toldKind n
     kind-is = sym known ∙ is
 
-    pub call-known : (f p c : ℕ) (b : Buffers) (a : ℕ) (fcb dma list image : List ℕ) → Did (callBy kind true f p c b) a fcb dma list image
-        → Did (callTold (toldKind n) f p c b) a fcb dma list image
+    pub call-known : (f p c : ℕ) (b : Buffers) (a : ℕ) (left : Buffers) → Did (callBy kind true f p c b) a left
+        → Did (callTold (toldKind n) f p c b) a left
     unfolding callTold callBy
-    call-known f p c b a fcb dma list image d = did-as _ _ a fcb dma list image (ap (λ (x : Told). callTold x f p c b) kind-is) d
+    call-known f p c b a left d = did-as _ _ a left (ap (λ (x : Told). callTold x f p c b) kind-is) d
 
-    pub singly-known : (f p c : ℕ) (b : Buffers) (a : ℕ) (fcb dma list image : List ℕ) → Did (callSingly kind f p c b) a fcb dma list image
-        → Did (singlyTold (toldKind n) f p c b) a fcb dma list image
+    pub singly-known : (f p c : ℕ) (b : Buffers) (a : ℕ) (left : Buffers) → Did (callSingly kind f p c b) a left
+        → Did (singlyTold (toldKind n) f p c b) a left
     unfolding singlyTold
-    singly-known f p c b a fcb dma list image d = did-as _ _ a fcb dma list image (ap (λ (x : Told). singlyTold x f p c b) kind-is) d
+    singly-known f p c b a left d = did-as _ _ a left (ap (λ (x : Told). singlyTold x f p c b) kind-is) d
 
     pub start-known : (c o k : ℕ) (users list : List ℕ) (a : ℕ) (left : List ℕ) → DidStart (start c o k users list) a left
         → DidStart (startTold (toldKind n) c o k users list) a left
@@ -41,11 +47,11 @@ module _ (n : ℕ) (t : Told) (is : t ≡ toldKind n) where
         let e : start c o k users list ≡ startTold (toldKind n) c o k users list = ap (λ (x : Told). startTold x c o k users list) kind-is in
         rw e at d
 
-    pub check-known : (i : ImageAnswer) (a : ℕ) (s : List ℕ) → i ≡ imageCheck kind highest s → a ≡ imageNumber i → a ≡ checkTold (toldKind n) s
+    pub check-known : (i : ImageAnswer) (a : ℕ) (s : List ℕ) → i ≡ imageCheck kind s → a ≡ imageNumber i → a ≡ checkTold (toldKind n) s
     unfolding checkTold
     check-known i a s h g = g ∙ ap imageNumber h ∙ ap (λ (x : Told). checkTold x s) kind-is
 
-    pub look-known : (a user : ℕ) (name : List ℕ) (r : ℕ) (s : List ℕ) → a ≡ lookAt kind highest user name r s → a ≡ lookTold (toldKind n) user name r s
+    pub look-known : (a user : ℕ) (name : List ℕ) (r : ℕ) (s : List ℕ) → a ≡ lookAt kind user name r s → a ≡ lookTold (toldKind n) user name r s
     unfolding lookTold
     look-known a user name r s h = h ∙ ap (λ (x : Told). lookTold x user name r s) kind-is
 
@@ -53,13 +59,13 @@ module _ (n : ℕ) (t : Told) (is : t ≡ toldKind n) where
     other-is : Other ≡ toldKind n
     other-is = sym other ∙ is
 
-    pub call-other : (f p c : ℕ) (b : Buffers) → Did (callTold (toldKind n) f p c b) 3583 (b .fcb) (b .dma) (b .list) (b .image)
+    pub call-other : (f p c : ℕ) (b : Buffers) → Did (callTold (toldKind n) f p c b) 3583 b
     unfolding callTold
-    call-other f p c b = did-as _ _ _ _ _ _ _ (ap (λ (x : Told). callTold x f p c b) other-is) (did-none 3583 b)
+    call-other f p c b = did-as _ _ _ _ (ap (λ (x : Told). callTold x f p c b) other-is) (did-none 3583 b)
 
-    pub singly-other-kind : (f p c : ℕ) (b : Buffers) → Did (singlyTold (toldKind n) f p c b) 3583 (b .fcb) (b .dma) (b .list) (b .image)
+    pub singly-other-kind : (f p c : ℕ) (b : Buffers) → Did (singlyTold (toldKind n) f p c b) 3583 b
     unfolding singlyTold
-    singly-other-kind f p c b = did-as _ _ _ _ _ _ _ (ap (λ (x : Told). singlyTold x f p c b) other-is) (did-none 3583 b)
+    singly-other-kind f p c b = did-as _ _ _ _ (ap (λ (x : Told). singlyTold x f p c b) other-is) (did-none 3583 b)
 
     pub start-other : (c o k : ℕ) (users list : List ℕ) → DidStart (startTold (toldKind n) c o k users list) 3583 list
     unfolding startTold
@@ -75,3 +81,20 @@ module _ (n : ℕ) (t : Told) (is : t ≡ toldKind n) where
     pub look-other : (user : ℕ) (name : List ℕ) (r : ℕ) (s : List ℕ) → 0 ≡ lookTold (toldKind n) user name r s
     unfolding lookTold
     look-other user name r s = ap (λ (x : Told). lookTold x user name r s) other-is
+
+-- ---- Look's number
+
+pub look-small : (kind : Kind) (at u : ℕ) (name : List ℕ) (q : ℕ) (s : List ℕ) → at ≡ lookAt kind u name q s → at < 4294967296
+look-small kind at u name q s e =
+    ⊎-elim
+    (λ (z : at ≡ 0). omega arith)
+    (λ (z : at ≡ 0 → ⊥).
+    let n : lookAt kind u name q s ≡ 0 → ⊥ = λ y. z (e ∙ y) in
+    let h = look-sound kind u name q s n in
+    let i = look-inside kind u name q s n .1 in
+    let w = length-whole kind s (sound-length kind s h) in
+    let f = length-few kind s (sound-length kind s h) in
+    let m = most-fits kind in
+    let k = begins-below kind (blocks kind s) (omega arith) in
+    omega arith)
+    (equal? at 0)

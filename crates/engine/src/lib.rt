@@ -1,11 +1,7 @@
-// The general refusals, the choice of a call's routine, and the functions that a C host calls.
-mod answer;
-mod choose;
-mod refuse;
-mod serve;
+// The functions that a C host calls, each told the kind of drive by a number; the plain engine.
 mod singly;
 
-use answer::answer;
+use calls::answer::answer;
 use drive::check::image_check;
 use drive::look::look_at;
 use locklist::start::start;
@@ -32,7 +28,7 @@ pub extern "C" fn mpm_call(
     list: &mut [u8],
     image: &mut [u8],
 ) -> u32
-    ensures { λ r. ⌜ Did (callTold (toldKind kind) function process count (buffers (now (fcb .entry)) (now (dma .entry)) (now (list .entry)) (now (image .entry)))) r (now (fcb .exit)) (now (dma .exit)) (now (list .exit)) (now (image .exit)) ⌝ }
+    ensures { λ r. ⌜ Did (callTold (toldKind kind) function process count (buffers (now (fcb .entry)) (now (dma .entry)) (now (list .entry)) (now (image .entry)))) r (buffers (now (fcb .exit)) (now (dma .exit)) (now (list .exit)) (now (image .exit))) ⌝ }
 {
     let told = told_kind(kind);
     let Told::Known(known) = told else {
@@ -53,7 +49,7 @@ pub extern "C" fn mpm_singly(
     list: &mut [u8],
     image: &mut [u8],
 ) -> u32
-    ensures { λ r. ⌜ Did (singlyTold (toldKind kind) function process count (buffers (now (fcb .entry)) (now (dma .entry)) (now (list .entry)) (now (image .entry)))) r (now (fcb .exit)) (now (dma .exit)) (now (list .exit)) (now (image .exit)) ⌝ }
+    ensures { λ r. ⌜ Did (singlyTold (toldKind kind) function process count (buffers (now (fcb .entry)) (now (dma .entry)) (now (list .entry)) (now (image .entry)))) r (buffers (now (fcb .exit)) (now (dma .exit)) (now (list .exit)) (now (image .exit))) ⌝ }
 {
     let told = told_kind(kind);
     let Told::Known(known) = told else {
@@ -90,7 +86,7 @@ pub extern "C" fn mpm_check(kind: u32, image: &[u8]) -> u32
     let Told::Known(known) = told else {
         return 1;
     };
-    image_number(image_check(known, image, 262143))
+    image_number(image_check(known, image))
 }
 
 // Look: where the record's 128 bytes begin in the image, or 0 where there are none to show.

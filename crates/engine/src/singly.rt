@@ -1,5 +1,5 @@
-use crate::answer::answer;
-use crate::answer::general_refusal;
+use calls::answer::answer;
+use calls::answer::general_refusal;
 use locklist::ask::record_of;
 use rules::bytes::put_bytes;
 use rules::kind::Kind;
@@ -10,7 +10,7 @@ ghost use lib.ListN.{length};
 ghost use Rattle.rules.specs.Serves.{Did, buffers};
 ghost use Rattle.rules.specs.Asks.{recordOf};
 ghost use Rattle.rules.specs.Several.{servesRun, threeOf, fcbAt, dmaAt, several, singly, callSingly};
-ghost use Rattle.engine.specs.Calls.{DidSingle};
+ghost use Rattle.engine.specs.Single.{DidSingle};
 
 // Count serves 33, 34 and 40 too.
 fn serves_run(function: u32) -> bool
@@ -109,7 +109,7 @@ fn call_each(
     image: &mut [u8],
 ) -> u32
     requires { ⌜ (servesRun function ≡ true) × (length (now fcb) ≡ 36) × (length (now dma) ≡ 2048) × (count ≤ 16) ⌝ }
-    ensures { λ c. ⌜ Did (singly (several kind function process count (buffers (now (fcb .entry)) (now (dma .entry)) (now (list .entry)) (now (image .entry))))) c (now (fcb .entry)) (now (dma .exit)) (now (list .exit)) (now (image .exit)) ⌝ }
+    ensures { λ c. ⌜ Did (singly (several kind function process count (buffers (now (fcb .entry)) (now (dma .entry)) (now (list .entry)) (now (image .entry))))) c (buffers (now (fcb .entry)) (now (dma .exit)) (now (list .exit)) (now (image .exit))) ⌝ }
 {
     let r = record_of(fcb);
     let mut i = 0;
@@ -134,7 +134,7 @@ pub fn answer_singly(
     list: &mut [u8],
     image: &mut [u8],
 ) -> u32
-    ensures { λ r. ⌜ Did (callSingly kind function process count (buffers (now (fcb .entry)) (now (dma .entry)) (now (list .entry)) (now (image .entry)))) r (now (fcb .exit)) (now (dma .exit)) (now (list .exit)) (now (image .exit)) ⌝ }
+    ensures { λ r. ⌜ Did (callSingly kind function process count (buffers (now (fcb .entry)) (now (dma .entry)) (now (list .entry)) (now (image .entry)))) r (buffers (now (fcb .exit)) (now (dma .exit)) (now (list .exit)) (now (image .exit))) ⌝ }
 {
     if !serves_run(function) {
         return answer(kind, false, function, process, count, fcb, dma, list, image);

@@ -14,12 +14,12 @@ use Rattle.rules.specs.declared.file.File.{File}
 use Rattle.rules.specs.declared.file.Found.{Found}
 use Rattle.rules.specs.declared.list.LockList.{LockList}
 use Rattle.rules.specs.declared.routine.Chosen.the-variants.{Call}
-use Rattle.rules.specs.Serves.{Buffers, Did}
+use Rattle.rules.specs.Serves.{Buffers, Did, withList, buffers}
 use Rattle.rules.specs.Drive.{lookUp}
 use Rattle.rules.specs.Locks.{unpack, pack, openOf, isOpened, freePlace, isEmptyAt}
 use Rattle.rules.specs.Asks.{callerFile, recordOf, openMode}
 use Rattle.rules.specs.Call.{askedBy, rowsOf, effectOf, served}
-use Rattle.rules.proofs.Ends.{did-as, did-refuse, did-pass, served-as}
+use Rattle.rules.proofs.Ends.{did-as, did-refuse, did-pass, served-as, did-left}
 use Rattle.rules.specs.declared.routine.Routine.the-variants.{Open, Close}
 use Rattle.rules.specs.Codes.{rows15, rows16}
 use Rattle.rules.specs.Effects.{fcbMapped, fcbOpened, opened, closed, does15, does16}
@@ -46,7 +46,7 @@ module _ (kind : Kind) (p : ℕ) (l : LockList) (o : ℕ) (f : File) (b : Buffer
   table : c ≡ firstOf (rows15 kind p l o f (lookUp kind (b .image) f) (b .fcb))
   table = hc ∙ ap (λ (y : Found). firstOf (rows15 kind p l o f y (b .fcb))) hx
 
-  pub open-refused : (c ≡ 0 → ⊥) → Did (by15 kind p l o f b) c (b .fcb) (b .dma) (b .list) (b .image)
+  pub open-refused : (c ≡ 0 → ⊥) → Did (by15 kind p l o f b) c b
   unfolding by15
   open-refused n = did-refuse _ b _ c table n
 
@@ -57,54 +57,44 @@ module _ (kind : Kind) (p : ℕ) (l : LockList) (o : ℕ) (f : File) (b : Buffer
         ∙ ap (λ (m : ℕ). fcbOpened (b .image) (lookUp kind (b .image) f .entry) m at (b .fcb)) hm
 
     -- open in the same mode
-    pub open-again : at ≡ o → o < 64 → Did (by15 kind p l o f b) 0 fcb (b .dma) (b .list) (b .image)
+    pub open-again : at ≡ o → o < 64 → Did (by15 kind p l o f b) 0 (buffers fcb (b .dma) (b .list) (b .image))
     unfolding by15 does15 isOpened _if_else_
     open-again ha lo =
-        did-pass _ b _ c table 0 _ _ _ _ z
-        (rw (lt-ltb _ _ lo) (record {
-          gives = refl;
-          leaves-fcb = fcb-left ∙ ap (λ (m : ℕ). fcbOpened (b .image) (lookUp kind (b .image) f .entry) (openMode (b .fcb)) m (b .fcb)) ha;
-          leaves-dma = refl;
-          leaves-list = refl;
-          leaves-image = refl;
-        }))
+        did-pass _ b _ c table 0 _ z
+        (rw (lt-ltb _ _ lo) (did-left refl (fcb-left ∙ ap (λ (m : ℕ). fcbOpened (b .image) (lookUp kind (b .image) f .entry) (openMode (b .fcb)) m
+        (b .fcb)) ha) refl refl refl))
 
     -- a new item
     pub open-new : (m : LockList) (list : List ℕ) → 64 ≤ o → at ≡ freePlace l → m ≡ opened p f mode l → list ≡ pack m
-        → Did (by15 kind p l o f b) 0 fcb (b .dma) list (b .image)
+        → Did (by15 kind p l o f b) 0 (buffers fcb (b .dma) list (b .image))
     unfolding by15 does15 isOpened _if_else_
     open-new m list lo ha hl hp =
-        did-pass _ b _ c table 0 _ _ _ _ z
-        (rw (le-ltb _ _ lo) (record {
-          gives = refl;
-          leaves-fcb = fcb-left ∙ ap (λ (k : ℕ). fcbOpened (b .image) (lookUp kind (b .image) f .entry) (openMode (b .fcb)) k (b .fcb)) ha;
-          leaves-dma = refl;
-          leaves-list = hp ∙ ap pack hl ∙ ap (λ (k : ℕ). pack (opened p f k l)) hm;
-          leaves-image = refl;
-        }))
+        did-pass _ b _ c table 0 _ z
+        (rw (le-ltb _ _ lo) (did-left refl (fcb-left ∙ ap (λ (k : ℕ). fcbOpened (b .image) (lookUp kind (b .image) f .entry) (openMode (b .fcb)) k
+        (b .fcb)) ha) refl (hp ∙ ap pack hl ∙ ap (λ (k : ℕ). pack (opened p f k l)) hm) refl))
 
-pub open-called : (kind : Kind) (p c : ℕ) (b : Buffers) (l : LockList) (f : File) (o a : ℕ) (fcb dma list image : List ℕ) → l ≡ unpack (b .list)
-    → f ≡ callerFile p l (b .fcb) → o ≡ openOf l p f → Did (by15 kind p l o f b) a fcb dma list image → Did (served kind (Call Open) p c b) a fcb dma list image
+pub open-called : (kind : Kind) (p c : ℕ) (b : Buffers) (l : LockList) (f : File) (o a : ℕ) (left : Buffers) → l ≡ unpack (b .list)
+    → f ≡ callerFile p l (b .fcb) → o ≡ openOf l p f → Did (by15 kind p l o f b) a left → Did (served kind (Call Open) p c b) a left
 unfolding by15 rowsOf effectOf askedBy
-open-called kind p c b l f o a fcb dma list image hl hf ho d =
-    did-as _ _ a fcb dma list image (served-as kind (Call Open) p c b l f (recordOf (b .fcb)) hl hf refl) (rw ho at d)
+open-called kind p c b l f o a left hl hf ho d =
+    did-as _ _ a left (served-as kind (Call Open) p c b l f (recordOf (b .fcb)) hl hf refl) (rw ho at d)
 
 -- ---- the ends of 16
 
 module _ (kind : Kind) (p c : ℕ) (b : Buffers) (l : LockList) (f : File) (o : ℕ) (hl : l ≡ unpack (b .list)) (hf : f ≡ callerFile p l (b .fcb))
     (ho : o ≡ openOf l p f) where
-  pub close-refused : 64 ≤ o → Did (served kind (Call Close) p c b) 1791 (b .fcb) (b .dma) (b .list) (b .image)
+  pub close-refused : 64 ≤ o → Did (served kind (Call Close) p c b) 1791 b
   unfolding rowsOf effectOf askedBy rows16 isOpened
   close-refused g =
       let k : 64 ≤ openOf l p f = rw ho at g in
-      did-as _ _ _ _ _ _ _ (served-as kind (Call Close) p c b l f (recordOf (b .fcb)) hl hf refl)
+      did-as _ _ _ _ (served-as kind (Call Close) p c b l f (recordOf (b .fcb)) hl hf refl)
       (did-refuse _ b _ 1791 (row-yes 1791 1791 _ [] (not-of-false _ (le-ltb _ _ k)) refl) (λ y. omega arith))
 
   pub close-done : (m : LockList) (list : List ℕ) → o < 64 → m ≡ closed p f l → list ≡ pack m
-      → Did (served kind (Call Close) p c b) 0 (b .fcb) (b .dma) list (b .image)
+      → Did (served kind (Call Close) p c b) 0 (withList b list)
   unfolding rowsOf effectOf askedBy rows16 isOpened does16
   close-done m list g hm hp =
       let k : openOf l p f < 64 = rw ho at g in
-      did-as _ _ _ _ _ _ _ (served-as kind (Call Close) p c b l f (recordOf (b .fcb)) hl hf refl)
-      (did-pass _ b _ 0 (row-no 0 1791 _ [] (not-of-true _ (lt-ltb _ _ k)) (row-none 0 refl)) 0 _ _ _ _ refl
-      (record { gives = refl; leaves-fcb = refl; leaves-dma = refl; leaves-list = hp ∙ ap pack hm; leaves-image = refl }))
+      did-as _ _ _ _ (served-as kind (Call Close) p c b l f (recordOf (b .fcb)) hl hf refl)
+      (did-pass _ b _ 0 (row-no 0 1791 _ [] (not-of-true _ (lt-ltb _ _ k)) (row-none 0 refl)) 0 _ refl
+      (did-left refl refl refl (hp ∙ ap pack hm) refl))

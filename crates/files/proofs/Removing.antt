@@ -16,12 +16,12 @@ use Rattle.rules.specs.declared.file.File.{File}
 use Rattle.rules.specs.declared.file.Found.{Found}
 use Rattle.rules.specs.declared.list.LockList.{LockList}
 use Rattle.rules.specs.declared.routine.Chosen.the-variants.{Call}
-use Rattle.rules.specs.Serves.{Buffers, Did}
+use Rattle.rules.specs.Serves.{Buffers, Did, withImage}
 use Rattle.rules.specs.Drive.{lookUp, fileFrom}
 use Rattle.rules.specs.Locks.{unpack, isLow}
 use Rattle.rules.specs.Asks.{callerFile, newFile, recordOf}
 use Rattle.rules.specs.Call.{askedBy, rowsOf, effectOf, served}
-use Rattle.rules.proofs.Ends.{did-as, did-refuse, did-pass, served-as}
+use Rattle.rules.proofs.Ends.{did-as, did-refuse, did-pass, served-as, did-left}
 use Rattle.rules.specs.declared.routine.Routine.the-variants.{Delete, Rename}
 use Rattle.rules.specs.Codes.{rows19, rows23}
 use Rattle.rules.specs.Effects.{erased, renamed, does19, does23}
@@ -35,21 +35,21 @@ module _ (kind : Kind) (l : LockList) (f : File) (b : Buffers) (x : Found) (c : 
   table : c ≡ firstOf (rows19 kind l f (lookUp kind (b .image) f) (b .fcb) (b .image))
   table = hc ∙ ap (λ (y : Found). firstOf (rows19 kind l f y (b .fcb) (b .image))) hx
 
-  pub delete-refused : (c ≡ 0 → ⊥) → Did (by19 kind l f b) c (b .fcb) (b .dma) (b .list) (b .image)
+  pub delete-refused : (c ≡ 0 → ⊥) → Did (by19 kind l f b) c b
   unfolding by19
   delete-refused n = did-refuse _ b _ c table n
 
-  pub delete-done : (image : List ℕ) → c ≡ 0 → image ≡ erased kind f (b .image) → Did (by19 kind l f b) 0 (b .fcb) (b .dma) (b .list) image
+  pub delete-done : (image : List ℕ) → c ≡ 0 → image ≡ erased kind f (b .image) → Did (by19 kind l f b) 0 (withImage b image)
   unfolding by19 does19
   delete-done image z h =
-      did-pass _ b _ c table 0 _ _ _ _ z
-      (record { gives = refl; leaves-fcb = refl; leaves-dma = refl; leaves-list = refl; leaves-image = h })
+      did-pass _ b _ c table 0 _ z
+      (did-left refl refl refl refl h)
 
-pub delete-called : (kind : Kind) (p c : ℕ) (b : Buffers) (l : LockList) (f : File) (a : ℕ) (fcb dma list image : List ℕ) → l ≡ unpack (b .list)
-    → f ≡ callerFile p l (b .fcb) → Did (by19 kind l f b) a fcb dma list image → Did (served kind (Call Delete) p c b) a fcb dma list image
+pub delete-called : (kind : Kind) (p c : ℕ) (b : Buffers) (l : LockList) (f : File) (a : ℕ) (left : Buffers) → l ≡ unpack (b .list)
+    → f ≡ callerFile p l (b .fcb) → Did (by19 kind l f b) a left → Did (served kind (Call Delete) p c b) a left
 unfolding by19 rowsOf effectOf askedBy
-delete-called kind p c b l f a fcb dma list image hl hf d =
-    did-as _ _ a fcb dma list image (served-as kind (Call Delete) p c b l f (recordOf (b .fcb)) hl hf refl) d
+delete-called kind p c b l f a left hl hf d =
+    did-as _ _ a left (served-as kind (Call Delete) p c b l f (recordOf (b .fcb)) hl hf refl) d
 
 -- ---- the ends of 23
 
@@ -69,19 +69,19 @@ module _ (kind : Kind) (l : LockList) (f new : File) (b : Buffers) (x y : Found)
       hc ∙ ap (λ (v : Found). firstOf (rows23 kind l f v y (b .fcb) (b .image))) hx
       ∙ ap (λ (v : Found). firstOf (rows23 kind l f (lookUp kind (b .image) f) v (b .fcb) (b .image))) hy
 
-  pub rename-refused : (c ≡ 0 → ⊥) → Did (by23 kind l f new b) c (b .fcb) (b .dma) (b .list) (b .image)
+  pub rename-refused : (c ≡ 0 → ⊥) → Did (by23 kind l f new b) c b
   unfolding by23
   rename-refused n = did-refuse _ b _ c renaming n
 
-  pub rename-done : (image : List ℕ) → c ≡ 0 → image ≡ renamed kind f (new .name) (b .image) → Did (by23 kind l f new b) 0 (b .fcb) (b .dma) (b .list) image
+  pub rename-done : (image : List ℕ) → c ≡ 0 → image ≡ renamed kind f (new .name) (b .image) → Did (by23 kind l f new b) 0 (withImage b image)
   unfolding by23 does23
   rename-done image z h =
-      did-pass _ b _ c renaming 0 _ _ _ _ z
-      (record { gives = refl; leaves-fcb = refl; leaves-dma = refl; leaves-list = refl; leaves-image = h })
+      did-pass _ b _ c renaming 0 _ z
+      (did-left refl refl refl refl h)
 
-pub rename-called : (kind : Kind) (p c : ℕ) (b : Buffers) (l : LockList) (f new : File) (a : ℕ) (fcb dma list image : List ℕ) → l ≡ unpack (b .list)
-    → f ≡ callerFile p l (b .fcb) → new ≡ newFile p l (b .fcb) → Did (by23 kind l f new b) a fcb dma list image
-    → Did (served kind (Call Rename) p c b) a fcb dma list image
+pub rename-called : (kind : Kind) (p c : ℕ) (b : Buffers) (l : LockList) (f new : File) (a : ℕ) (left : Buffers) → l ≡ unpack (b .list)
+    → f ≡ callerFile p l (b .fcb) → new ≡ newFile p l (b .fcb) → Did (by23 kind l f new b) a left
+    → Did (served kind (Call Rename) p c b) a left
 unfolding by23 rowsOf effectOf askedBy
-rename-called kind p c b l f new a fcb dma list image hl hf hn d =
-    did-as _ _ a fcb dma list image (served-as kind (Call Rename) p c b l f (recordOf (b .fcb)) hl hf refl) (rw hn at d)
+rename-called kind p c b l f new a left hl hf hn d =
+    did-as _ _ a left (served-as kind (Call Rename) p c b l f (recordOf (b .fcb)) hl hf refl) (rw hn at d)

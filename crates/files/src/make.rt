@@ -77,7 +77,7 @@ fn make_by(
     image: &mut [u8],
 ) -> u32
     requires { ⌜ Ready kind (buffers (now fcb) (now dma) (now list) (now image)) ⌝ }
-    ensures { λ c. ⌜ Did (by22 kind p l f (buffers (now (fcb .entry)) (now (dma .entry)) (now (list .entry)) (now (image .entry)))) c (now (fcb .exit)) (now (dma .entry)) (now (list .exit)) (now (image .exit)) ⌝ }
+    ensures { λ c. ⌜ Did (by22 kind p l f (buffers (now (fcb .entry)) (now (dma .entry)) (now (list .entry)) (now (image .entry)))) c (buffers (now (fcb .exit)) (now (dma .entry)) (now (list .exit)) (now (image .exit))) ⌝ }
 {
     let x = look_up(kind, &*image, f);
     let code = make_refusal(kind, p, l, x, &*fcb, &*image);
@@ -104,7 +104,7 @@ pub fn make_file(
     image: &mut [u8],
 ) -> u32
     requires { ⌜ (l ≡ unpack (now list)) × Ready kind (buffers (now fcb) (now dma) (now list) (now image)) ⌝ }
-    ensures { λ c. ⌜ Did (served kind (Call Make) p 1 (buffers (now (fcb .entry)) (now (dma .entry)) (now (list .entry)) (now (image .entry)))) c (now (fcb .exit)) (now (dma .entry)) (now (list .exit)) (now (image .exit)) ⌝ }
+    ensures { λ c. ⌜ Did (served kind (Call Make) p 1 (buffers (now (fcb .entry)) (now (dma .entry)) (now (list .entry)) (now (image .entry)))) c (buffers (now (fcb .exit)) (now (dma .entry)) (now (list .exit)) (now (image .exit))) ⌝ }
 {
     let f = caller_file(l, p, &*fcb);
     make_by(kind, p, l, f, fcb, dma, list, image)

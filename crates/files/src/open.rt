@@ -109,7 +109,7 @@ fn open_by(
     image: &[u8],
 ) -> u32
     requires { ⌜ Ready kind (buffers (now fcb) (now dma) (now list) (now image)) ⌝ }
-    ensures { λ c. ⌜ Did (by15 kind p l o f (buffers (now (fcb .entry)) (now (dma .entry)) (now (list .entry)) (now (image .entry)))) c (now (fcb .exit)) (now (dma .entry)) (now (list .exit)) (now (image .entry)) ⌝ }
+    ensures { λ c. ⌜ Did (by15 kind p l o f (buffers (now (fcb .entry)) (now (dma .entry)) (now (list .entry)) (now (image .entry)))) c (buffers (now (fcb .exit)) (now (dma .entry)) (now (list .exit)) (now (image .entry))) ⌝ }
 {
     let x = look_up(kind, image, f);
     let code = open_refusal(kind, p, l, o, f, x, &*fcb);
@@ -139,7 +139,7 @@ pub fn open_file(
     image: &[u8],
 ) -> u32
     requires { ⌜ (l ≡ unpack (now list)) × Ready kind (buffers (now fcb) (now dma) (now list) (now image)) ⌝ }
-    ensures { λ c. ⌜ Did (served kind (Call Open) p 1 (buffers (now (fcb .entry)) (now (dma .entry)) (now (list .entry)) (now (image .entry)))) c (now (fcb .exit)) (now (dma .entry)) (now (list .exit)) (now (image .entry)) ⌝ }
+    ensures { λ c. ⌜ Did (served kind (Call Open) p 1 (buffers (now (fcb .entry)) (now (dma .entry)) (now (list .entry)) (now (image .entry)))) c (buffers (now (fcb .exit)) (now (dma .entry)) (now (list .exit)) (now (image .entry))) ⌝ }
 {
     let f = caller_file(l, p, &*fcb);
     let o = l.open_of(p, f);

@@ -90,7 +90,7 @@ fn rename_by(
     image: &mut [u8],
 ) -> u32
     requires { ⌜ (all (isLow (new .name)) 11 ≡ true) × Ready kind (buffers (now fcb) (now dma) (now list) (now image)) ⌝ }
-    ensures { λ c. ⌜ Did (by23 kind l f new (buffers (now (fcb .entry)) (now (dma .entry)) (now (list .entry)) (now (image .entry)))) c (now (fcb .entry)) (now (dma .entry)) (now (list .entry)) (now (image .exit)) ⌝ }
+    ensures { λ c. ⌜ Did (by23 kind l f new (buffers (now (fcb .entry)) (now (dma .entry)) (now (list .entry)) (now (image .entry)))) c (buffers (now (fcb .entry)) (now (dma .entry)) (now (list .entry)) (now (image .exit))) ⌝ }
 {
     let x = look_up(kind, &*image, f);
     let y = look_up(kind, &*image, new);
@@ -114,7 +114,7 @@ pub fn rename_file(
     image: &mut [u8],
 ) -> u32
     requires { ⌜ (l ≡ unpack (now list)) × Ready kind (buffers (now fcb) (now dma) (now list) (now image)) ⌝ }
-    ensures { λ c. ⌜ Did (served kind (Call Rename) p 1 (buffers (now (fcb .entry)) (now (dma .entry)) (now (list .entry)) (now (image .entry)))) c (now (fcb .entry)) (now (dma .entry)) (now (list .entry)) (now (image .exit)) ⌝ }
+    ensures { λ c. ⌜ Did (served kind (Call Rename) p 1 (buffers (now (fcb .entry)) (now (dma .entry)) (now (list .entry)) (now (image .entry)))) c (buffers (now (fcb .entry)) (now (dma .entry)) (now (list .entry)) (now (image .exit))) ⌝ }
 {
     let f = caller_file(l, p, fcb);
     let new = new_file(l, p, fcb);

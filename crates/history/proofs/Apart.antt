@@ -14,7 +14,7 @@ use Rattle.rules.specs.declared.file.File.{File}
 use Rattle.rules.specs.declared.item.Item.{Item}
 use Rattle.rules.specs.declared.list.LockList.{LockList}
 use Rattle.rules.specs.Serves.{Buffers}
-use Rattle.rules.specs.Drive.{highest, isEmpty, userByte, fileFrom}
+use Rattle.rules.specs.Drive.{isEmpty, userByte, fileFrom}
 use Rattle.rules.specs.Locks.{itemAt, userOf, unpack, withItems, freshOpen, freePlace}
 use Rattle.rules.specs.Asks.{recordOf, newFile}
 use Rattle.rules.specs.Effects.{placed, opened, lockedRun}
@@ -58,7 +58,7 @@ others-touched kind s t f h v d e w seen = record {
   back = λ k r b n a. at-back kind s t f h k w (λ z. n (ap (λ (x : File). x .user) z ∙ e)) r b a;
 }
 
-module _ (kind : Kind) (p c : ℕ) (b : Buffers) (g : SoundImage kind highest (b .image)) where
+module _ (kind : Kind) (p c : ℕ) (b : Buffers) (g : SoundImage kind (b .image)) where
   abbrev l : LockList
   l = listOf b
 

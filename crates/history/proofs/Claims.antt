@@ -16,7 +16,7 @@ use Rattle.rules.specs.declared.kind.Told.{Told}
 use Rattle.rules.specs.declared.kind.Told.the-variants.{Known, Other}
 use Rattle.rules.specs.Kinds.{toldKind}
 use Rattle.rules.specs.Serves.{Outcome, outcome}
-use Rattle.rules.specs.Drive.{highest, soundImage, imageNumber}
+use Rattle.rules.specs.Drive.{soundImage, imageNumber}
 use Rattle.rules.specs.Locks.{start}
 use Rattle.rules.specs.Several.{callRun}
 use Rattle.rules.specs.Told.{callTold, checkTold, lookTold}
@@ -76,7 +76,7 @@ module _ (e : ℕ → Engine) (keeps : KeepsContract e) where
   told-so : (k : ℕ) → isWord k ≡ true → (before : List Ask) (q : Ask) (s : State) → isPossible q ≡ true → isKept s ≡ true
       → outcomeOf (e k before) q s ≡ callTold (toldKind k) (q .function) (q .process) (q .count) (lent q s)
   unfolding KeepsContract
-  told-so k word before q s may h = did-is _ _ _ _ _ _ (keeps k word before q s may h)
+  told-so k word before q s may h = did-is _ _ _ (keeps k word before q s may h)
 
   of-kind : (k : ℕ) (kind : Kind) → isWord k ≡ true → toldKind k ≡ Known kind → Demand2 kind (e k)
   unfolding Demand2 callTold outcomeOf
@@ -95,7 +95,7 @@ module _ (e : ℕ → Engine) (keeps : KeepsContract e) where
 
   -- a book of one kind, told the other
   refuses : (own kind : Kind) (k : ℕ) → isWord k ≡ true → (own ≡ kind → ⊥) → toldKind k ≡ Known kind → (before : List Ask) (q : Ask) (s : State)
-      → isPossible q ≡ true → isKept s ≡ true → soundImage own highest (s .image) ≡ true → Refuses e k before q s
+      → isPossible q ≡ true → isKept s ≡ true → soundImage own (s .image) ≡ true → Refuses e k before q s
   unfolding Refuses Demand2 outcomeOf
   refuses own kind k word other told before q s may h sound =
       let r = of-kind k kind word told before q s may h in
@@ -139,16 +139,16 @@ session-claims = record { first-list = started; as-listed = the-session }
 
 look-claims : LookClaims
 look-claims = record {
-  inside = λ kind user name r s some. look-inside kind highest user name r s some;
-  apart = λ kind u v m n r q s a b. ⊎-elim (λ z. inl z) (λ z. inr (z .apart)) (look-apart kind highest u v m n r q s a b);
+  inside = λ kind user name r s some. look-inside kind user name r s some;
+  apart = λ kind u v m n r q s a b. ⊎-elim (λ z. inl z) (λ z. inr (z .apart)) (look-apart kind u v m n r q s a b);
   other-check = checks;
   other-look = looks;
 }
   where
-    checks : (own kind : Kind) → (own ≡ kind → ⊥) → (s : List ℕ) → soundImage own highest s ≡ true → checkTold (Known kind) s ≡ 1
+    checks : (own kind : Kind) → (own ≡ kind → ⊥) → (s : List ℕ) → soundImage own s ≡ true → checkTold (Known kind) s ≡ 1
     checks own kind other s sound = unfold checkTold imageNumber in ap imageNumber (other-check own kind other s sound)
 
-    looks : (own kind : Kind) → (own ≡ kind → ⊥) → (s : List ℕ) → soundImage own highest s ≡ true → (user : ℕ) (name : List ℕ) (r : ℕ)
+    looks : (own kind : Kind) → (own ≡ kind → ⊥) → (s : List ℕ) → soundImage own s ≡ true → (user : ℕ) (name : List ℕ) (r : ℕ)
         → lookTold (Known kind) user name r s ≡ 0
     looks own kind other s sound user name r = unfold lookTold in other-look own kind other s sound user name r
 
@@ -171,7 +171,7 @@ all-claims = record {
   the-session = session-claims;
   tables = record { accepted = accepted; accepted-zero = accepted-zero; refused = refused; zero-accepted = zero-accepted };
   round-trips = record {
-    pack-unpack = λ kind list s long bytes sound. pack-unpack kind highest list s long (λ i. byte-small list i bytes) sound;
+    pack-unpack = λ kind list s long bytes sound. pack-unpack kind list s long (λ i. byte-small list i bytes) sound;
     unpack-pack = λ kind list s sound. unpacked kind _ s (list-sound-of kind list s sound) (unpack-shape list);
   };
   looks = look-claims;

@@ -15,7 +15,7 @@ use Rattle.words.specs.Lists.{tally, without}
 use Rattle.rules.specs.declared.kind.Kind.{Kind}
 use Rattle.rules.specs.Kinds.{blockRecords, entries, numbers}
 use Rattle.rules.specs.declared.file.File.{File}
-use Rattle.rules.specs.Drive.{highest, fileAt, extentAt, mapNumber, mapPlace, isOf}
+use Rattle.rules.specs.Drive.{fileAt, extentAt, mapNumber, mapPlace, isOf}
 use Rattle.rules.specs.Effects.{erased, renamed}
 use Rattle.rules.proofs.Sizes.{place-fits, flat-entry, flat-place, flat-both, flat-short, flat-there, flat-below}
 use Rattle.rules.proofs.Sound.{Names, SoundImage, file-long}
@@ -162,7 +162,7 @@ group-of kind s f i l h =
     (λ k. file-of s f (i / numbers kind) u (file-is (fileAt s (i / numbers kind)) f (file-long s (i / numbers kind)) l k))
     (λ k. rw (of-file s f (i / numbers kind) l k) (file-refl f))
 
-module _ (kind : Kind) (s : List ℕ) (f : File) (w : SoundImage kind highest s) (l : length (f .name) ≡ 11) (g : List Group) (c : Counted kind s g) where
+module _ (kind : Kind) (s : List ℕ) (f : File) (w : SoundImage kind s) (l : length (f .name) ≡ 11) (g : List Group) (c : Counted kind s g) where
   abbrev stays : (Group → Bool) → Group → Bool
   stays test x = test x and not (ofFile f x)
 
@@ -226,7 +226,7 @@ carried-no : (f h : File) (x : Group) → ofFile f x ≡ false → carried f h x
 unfolding carried _if_else_
 carried-no f h x e = rw e refl
 
-module _ (kind : Kind) (s : List ℕ) (f new : File) (w : SoundImage kind highest s) (l : length (f .name) ≡ 11)
+module _ (kind : Kind) (s : List ℕ) (f new : File) (w : SoundImage kind s) (l : length (f .name) ≡ 11)
     (files : (e : ℕ) → e < entries kind → isOf s f e ≡ true → fileAt (renamed kind f (new .name) s) e ≡ new) (g : List Group) (c : Counted kind s g) where
   abbrev t : List ℕ
   t = renamed kind f (new .name) s

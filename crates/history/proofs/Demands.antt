@@ -17,7 +17,7 @@ use Rattle.rules.specs.Kinds.{blockSize, blockRecords}
 use Rattle.rules.specs.declared.item.Item.{Item}
 use Rattle.rules.specs.declared.routine.Chosen.{Chosen}
 use Rattle.rules.specs.Serves.{Outcome}
-use Rattle.rules.specs.Drive.{highest, blocks, freeBlocks, blockOf}
+use Rattle.rules.specs.Drive.{blocks, freeBlocks, blockOf}
 use Rattle.rules.specs.Locks.{unpack}
 use Rattle.rules.specs.Effects.{does46}
 use Rattle.rules.specs.Call.{asked, askedBy, effectOf}
@@ -43,7 +43,7 @@ use Rattle.history.proofs.Calls.{ours, always}
 use Rattle.history.proofs.Spared.{locked-stays, files-apart, items-apart}
 
 module _ (kind : Kind) (g : Begun kind) (s : State) (items : List Item) (groups : List Group) (i : Inv kind g s items groups) where
-  abbrev sound : SoundImage kind highest (s .image)
+  abbrev sound : SoundImage kind (s .image)
   sound = image-sound kind g s items groups i
 
   -- 2
@@ -100,7 +100,7 @@ module _ (kind : Kind) (g : Begun kind) (s : State) (items : List Item) (groups 
   figure = record {
     no-two = λ f h r q l m k e.
         let some : blockOf kind (s .image) f r ≡ 0 → ⊥ = eqb-false _ _ (not-true _ k) in
-        let w = same-group kind highest (s .image) (i .both .image-sound) f h r q l m some (λ z. some (e ∙ z)) e in
+        let w = same-group kind (s .image) (i .both .image-sound) f h r q l m some (λ z. some (e ∙ z)) e in
         λ j. record { file = w .0 j; number = w .1 j };
     adds = figures;
   }

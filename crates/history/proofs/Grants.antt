@@ -17,7 +17,6 @@ use Rattle.rules.specs.Locks.{userOf, unpack, freshLock, isEmptyAt, freePlace, 
 use Rattle.rules.specs.Asks.{callerFile, recordOf}
 use Rattle.rules.specs.Codes.{isNew}
 use Rattle.rules.specs.Several.{callRun}
-use Rattle.rules.specs.Drive.{highest}
 use Rattle.rules.proofs.Sound.{SoundImage, sound-of}
 use Rattle.rules.proofs.SoundList.{SoundLocks, list-sound-of}
 use Rattle.soundness.proofs.Taken.{caller-user}
@@ -39,8 +38,8 @@ module _ (kind : Kind) (g : Begun kind) (s : State) (items : List Item) (groups 
   l = unpack (s .list)
 
   -- the image is sound, ..
-  pub image-sound : SoundImage kind highest (s .image)
-  image-sound = sound-of kind _ (s .image) (i .both .image-sound)
+  pub image-sound : SoundImage kind (s .image)
+  image-sound = sound-of kind (s .image) (i .both .image-sound)
 
   -- .. and the list is, against it
   pub list-sound : SoundLocks kind l (s .image)

@@ -13,7 +13,7 @@ use Rattle.words.proofs.Counts.{count-ext, count-one, count-yes, count-not, cou
 use Rattle.words.proofs.Sets.{and-both, and-left, and-last, not-of-false, count-none}
 use Rattle.rules.specs.declared.kind.Kind.{Kind}
 use Rattle.rules.specs.Kinds.{entries, numbers}
-use Rattle.rules.specs.Drive.{highest, blocks, mapNumber, holdsNumber, namesBlock, isUsed}
+use Rattle.rules.specs.Drive.{blocks, mapNumber, holdsNumber, namesBlock, isUsed}
 use Rattle.rules.proofs.Sizes.{flat-entry, flat-place, flat-both, flat-below}
 use Rattle.rules.proofs.Sound.{Names, SoundImage}
 use Rattle.history.specs.Groups.{isNumbered, isInUse, blocksInUse, allNumbers}
@@ -62,7 +62,7 @@ module _ (m : ℕ → ℕ) (t : ℕ → Bool) (n : ℕ) (top : ℕ) where
 
 -- ---- the numbers in the maps of a sound image
 
-module _ (kind : Kind) (s : List ℕ) (g : SoundImage kind highest s) where
+module _ (kind : Kind) (s : List ℕ) (g : SoundImage kind s) where
   abbrev number : ℕ → ℕ
   number i = mapNumber kind s (i / numbers kind) (i % numbers kind)
 

@@ -14,7 +14,7 @@ use Rattle.rules.specs.declared.kind.Kind.{Kind}
 use Rattle.rules.specs.Kinds.{entries}
 use Rattle.rules.specs.declared.file.File.{File}
 use Rattle.rules.specs.declared.item.Item.{Item}
-use Rattle.rules.specs.Drive.{highest, isEmpty, userByte, blockOf}
+use Rattle.rules.specs.Drive.{isEmpty, userByte, blockOf}
 use Rattle.rules.specs.Locks.{itemAt, userOf, fileOf, unpack, freshLock}
 use Rattle.rules.specs.Call.{call}
 use Rattle.rules.proofs.Sound.{SoundImage, sound-of, length-long}
@@ -38,7 +38,7 @@ use Rattle.history.proofs.Run.{Inv}
 use Rattle.history.proofs.Frame.{image-framed}
 
 module _ (kind : Kind) (g : Begun kind) (s : State) (items : List Item) (groups : List Group) (i : Inv kind g s items groups) where
-  abbrev sound : SoundImage kind highest (s .image)
+  abbrev sound : SoundImage kind (s .image)
   sound = image-sound kind g s items groups i
 
   -- 7: it changes no item of another process, ..
@@ -74,7 +74,7 @@ module _ (kind : Kind) (g : Begun kind) (s : State) (items : List Item) (groups 
       let t = outcomeOf (call kind) q s .left .image in
       let v = userOf (unpack (s .list)) (q .process) in
       let w = others q in
-      let after = sound-of kind highest t (next q .image-sound) in
+      let after = sound-of kind t (next q .image-sound) in
       let not-mine : (k : ℕ) → k ≡ v → k ≡ u → ⊥ = λ k a b. n (sym (user-of (q .process)) ∙ sym a ∙ b) in
       record {
         entry-same = λ e m c. ⊎-elim
@@ -124,6 +124,6 @@ module _ (kind : Kind) (g : Begun kind) (s : State) (items : List Item) (groups 
       let at′ = subst (λ (z : ℕ). At kind (s .image) f z b) er (subst (λ (h : File). At kind (s .image) h (itemAt l j .number) b) ef at) in
       let seen′ = subst (λ (z : ℕ). Seen kind (s .image) t f z b) er (subst (λ (h : File). Seen kind (s .image) t h (itemAt l j .number) b) ef seen) in
       let after = call-sound kind (q .function) (q .process) (q .count) (lent q s) (i .both) .image-sound in
-      unchanged kind (byte (g .users) p) name r b (s .image) t sound (sound-of kind highest t after) (i .both .image-sound) after
+      unchanged kind (byte (g .users) p) name r b (s .image) t sound (sound-of kind t after) (i .both .image-sound) after
       (rw (← (user-of p)) (user-fits l p (list-sound kind g s items groups i .limits) (omega arith)))
       long (rw en at (and-fst _ _ (and-snd _ _ pl))) (rw en at (and-fst _ _ (and-snd _ _ (and-snd _ _ pl)))) at′ seen′

@@ -15,7 +15,7 @@ use Rattle.words.specs.Lists.{tally}
 use Rattle.rules.specs.declared.kind.Kind.{Kind}
 use Rattle.rules.specs.Kinds.{blockRecords, numbers}
 use Rattle.rules.specs.declared.file.File.{File}
-use Rattle.rules.specs.Drive.{highest, fileAt, extentAt, mapNumber, mapPlace}
+use Rattle.rules.specs.Drive.{fileAt, extentAt, mapNumber, mapPlace}
 use Rattle.rules.specs.Locks.{sameFile}
 use Rattle.rules.proofs.Sizes.{place-fits, flat-entry, flat-place, flat-short, flat-there, flat-below, flat-group}
 use Rattle.rules.proofs.Sound.{Is, Names, SoundImage, file-long}
@@ -169,7 +169,7 @@ module _ (kind : Kind) (s : List ℕ) (g : List Group) (c : Counted kind s g) wh
       (rw (at-group kind s f r (mapPlace kind r) (a .entry) (a .is) refl l) (likewise-so x x (record { number-same = refl; files = file-refl f })))
 
   -- .. a record has a block exactly where its group is counted
-  pub each-counted : SoundImage kind highest s → (f : File) (r : ℕ) → length (f .name) ≡ 11
+  pub each-counted : SoundImage kind s → (f : File) (r : ℕ) → length (f .name) ≡ 11
       → hasBlock kind s f r ≡ isCounted (group f (r / blockRecords kind)) g
   unfolding hasBlock
   each-counted w f r l =

@@ -14,7 +14,7 @@ use Rattle.words.proofs.Bytes.{part-same}
 use Rattle.rules.specs.declared.kind.Kind.{Kind}
 use Rattle.rules.specs.Kinds.{blockSize, entries}
 use Rattle.rules.specs.declared.file.File.{File}
-use Rattle.rules.specs.Drive.{highest, blocks, mapPlace, blockOf, recordAt}
+use Rattle.rules.specs.Drive.{blocks, mapPlace, blockOf, recordAt}
 use Rattle.rules.proofs.Sizes.{record-past, record-inside, block-inside, record-over}
 use Rattle.rules.proofs.Sound.{SoundImage, sound-so, length-whole}
 use Rattle.rules.proofs.Look.{Apart, same-or-apart}
@@ -29,10 +29,10 @@ pub record Seen (kind : Kind) (s t : List ℕ) (f : File) (r b : ℕ) : Type 0 w
   pub bytes : part (recordAt kind b r) 128 t ≡ part (recordAt kind b r) 128 s
 
 -- a block of a record lies past the directory and in the image
-pub at-range : (kind : Kind) (s : List ℕ) (f : File) (r b : ℕ) → SoundImage kind highest s → At kind s f r b → (2 ≤ b) × (b < blocks kind s)
+pub at-range : (kind : Kind) (s : List ℕ) (f : File) (r b : ℕ) → SoundImage kind s → At kind s f r b → (2 ≤ b) × (b < blocks kind s)
 at-range kind s f r b g a = rw (a .number) at (g .maps .range (a .entry) (mapPlace kind r) (at-names kind s f r b a))
 
-module _ (kind : Kind) (s t : List ℕ) (f : File) (r b : ℕ) (g : SoundImage kind highest s) (long : length t ≡ length s) (a : At kind s f r b) where
+module _ (kind : Kind) (s t : List ℕ) (f : File) (r b : ℕ) (g : SoundImage kind s) (long : length t ≡ length s) (a : At kind s f r b) where
   inside : recordAt kind b r + 128 ≤ length s
   inside = rw (← (length-whole kind s (g .long))) (record-inside kind b (blocks kind s) r (at-range kind s f r b g a .1))
 
@@ -53,7 +53,7 @@ module _ (kind : Kind) (s t : List ℕ) (f : File) (r b : ℕ) (g : SoundImage k
 
 -- ---- a record written: any other record is as it was
 
-module _ (kind : Kind) (s t : List ℕ) (f : File) (r : ℕ) (g : SoundImage kind highest s) (l : length (f .name) ≡ 11)
+module _ (kind : Kind) (s t : List ℕ) (f : File) (r : ℕ) (g : SoundImage kind s) (l : length (f .name) ≡ 11)
     (h : File) (q b : ℕ) (m : length (h .name) ≡ 11) (a : At kind s h q b) where
   seen-old : Old kind s t f r → ((h ≡ f) × (q ≡ r) → ⊥) → Seen kind s t h q b
   seen-old w n =
@@ -64,7 +64,7 @@ module _ (kind : Kind) (s t : List ℕ) (f : File) (r : ℕ) (g : SoundImage kin
       let far : Apart (recordAt kind b q) (recordAt kind (w .block) r) = ⊎-elim
       (λ (z : (h ≡ f) × (q ≡ r)). absurd (n z))
       (λ (z : Apart (recordAt kind (blockOf kind s h q) q) (recordAt kind (blockOf kind s f r) r)). rw (e₁, e₂) at z)
-      (same-or-apart kind highest s (sound-so kind highest s g) h f q r m l (λ z. a .some (sym e₂ ∙ z)) (λ z. w .some (sym e₁ ∙ z))) in
+      (same-or-apart kind s (sound-so kind s g) h f q r m l (λ z. a .some (sym e₂ ∙ z)) (λ z. w .some (sym e₁ ∙ z))) in
       seen-kept kind s t h q b g (c .touches .long) a (recordAt kind (w .block) r) 128 (c .data-kept) (far .apart) (at-grown kind s t h q b (c .grown) a)
 
   seen-new : New kind s t f r → Seen kind s t h q b

@@ -8,7 +8,7 @@ use Rattle.words.specs.Tests.{count, sumBelow}
 use Rattle.words.specs.Lists.{tally}
 use Rattle.rules.specs.declared.item.Item.{Item}
 use Rattle.rules.specs.declared.kind.Kind.the-variants.{Small}
-use Rattle.rules.specs.Drive.{highest, blocks, freeBlocks, fileFrom, soundImage}
+use Rattle.rules.specs.Drive.{blocks, freeBlocks, fileFrom, soundImage}
 use Rattle.rules.specs.Locks.{unpack, itemAt, freePlaces, freshOpen, freshLock, soundList}
 use Rattle.rules.specs.Look.{look}
 use Rattle.session.specs.Open.{rules}
@@ -81,11 +81,11 @@ unfolding rules listed history
 with-block = refl
 
 -- S5 by process 2 leaves the record that process 1 has locked
-looks-same : look Small highest 0 orders 0 image5 ≡ look Small highest 0 orders 0 image2
+looks-same : look Small 0 orders 0 image5 ≡ look Small 0 orders 0 image2
 unfolding rules listed
 looks-same = refl
 
-looks-long : length (look Small highest 0 orders 0 image2) ≡ 128
+looks-long : length (look Small 0 orders 0 image2) ≡ 128
 unfolding rules listed
 looks-long = refl
 
@@ -100,7 +100,7 @@ unfolding rules listed history asked told heldTo
 none-left = refl
 
 -- the states are sound
-sound-s13 : soundImage Small highest image5 ∷ soundList Small highest list12 image5 ∷ [] ≡ true ∷ true ∷ []
+sound-s13 : soundImage Small image5 ∷ soundList Small list12 image5 ∷ [] ≡ true ∷ true ∷ []
 unfolding rules listed
 sound-s13 = refl
 

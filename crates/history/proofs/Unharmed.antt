@@ -20,7 +20,7 @@ use Rattle.rules.specs.declared.kind.Kind.{Kind}
 use Rattle.rules.specs.declared.file.File.{File}
 use Rattle.rules.specs.declared.list.LockList.{LockList}
 use Rattle.rules.specs.Serves.{Buffers}
-use Rattle.rules.specs.Drive.{highest, legalName, fileFrom, blockOf, recordAt, soundImage, blocks}
+use Rattle.rules.specs.Drive.{legalName, fileFrom, blockOf, recordAt, soundImage, blocks}
 use Rattle.rules.specs.Locks.{itemAt, fileOf, isLow, anyOpen}
 use Rattle.rules.specs.Asks.{recordOf}
 use Rattle.rules.specs.Look.{mayLook, lookBlock, partAt, lookAt, partFrom, look}
@@ -43,7 +43,7 @@ use Rattle.history.proofs.Seen.{Seen, at-range, seen-all, seen-written}
 -- ---- a lock at place i of the list, by another process
 
 module _ (kind : Kind) (q c : ℕ) (b : Buffers) (i : ℕ) (inside : i < 64) (other : itemAt (listOf b) i .process ≡ q → ⊥)
-    (two : itemAt (listOf b) i .kind ≡ 2) (g : SoundImage kind highest (b .image)) (block : ℕ)
+    (two : itemAt (listOf b) i .kind ≡ 2) (g : SoundImage kind (b .image)) (block : ℕ)
     (at : At kind (b .image) (fileOf (listOf b) (itemAt (listOf b) i)) (itemAt (listOf b) i .number) block) where
   abbrev l : LockList
   l = listOf b
@@ -119,11 +119,11 @@ low-file u name l h =
     λ i. record { user = u; name = e i }
 
 -- Look shows the record's part
-look-is : (kind : Kind) (u : ℕ) (name : List ℕ) (r : ℕ) (s : List ℕ) (b : ℕ) → soundImage kind highest s ≡ true → u ≤ 15 → length name ≡ 11
-    → legalName name 0 ≡ true → blockOf kind s (fileFrom u name 0) r ≡ b → 2 ≤ b → look kind highest u name r s ≡ part (recordAt kind b r) 128 s
+look-is : (kind : Kind) (u : ℕ) (name : List ℕ) (r : ℕ) (s : List ℕ) (b : ℕ) → soundImage kind s ≡ true → u ≤ 15 → length name ≡ 11
+    → legalName name 0 ≡ true → blockOf kind s (fileFrom u name 0) r ≡ b → 2 ≤ b → look kind u name r s ≡ part (recordAt kind b r) 128 s
 unfolding look partFrom lookAt partAt lookBlock mayLook _if_else_
 look-is kind u name r s b g v l m e low =
-    let k : (soundImage kind highest s and leb u 15 and eqb (length name) 11 and legalName name 0) ≡ true =
+    let k : (soundImage kind s and leb u 15 and eqb (length name) 11 and legalName name 0) ≡ true =
     and-both _ _ g (and-both _ _ (le-leb u 15 v) (and-both _ _ (eq-eqb (length name) 11 l) m)) in
     let some : recordAt kind b r ≡ 0 → ⊥ = λ z. omega (
       arith,
@@ -135,8 +135,8 @@ look-is kind u name r s b g v l m e low =
     rw (k, e, ne-eqb b 0 (λ (z : b ≡ 0). absurd (omega arith)), ne-eqb (recordAt kind b r) 0 some) refl
 
 -- a record that has its block and its bytes still is shown as before
-pub unchanged : (kind : Kind) (u : ℕ) (name : List ℕ) (r b : ℕ) (s t : List ℕ) → SoundImage kind highest s → SoundImage kind highest t
-    → soundImage kind highest s ≡ true → soundImage kind highest t ≡ true → u ≤ 15 → length name ≡ 11 → legalName name 0 ≡ true → all (isLow name) 11 ≡ true
+pub unchanged : (kind : Kind) (u : ℕ) (name : List ℕ) (r b : ℕ) (s t : List ℕ) → SoundImage kind s → SoundImage kind t
+    → soundImage kind s ≡ true → soundImage kind t ≡ true → u ≤ 15 → length name ≡ 11 → legalName name 0 ≡ true → all (isLow name) 11 ≡ true
     → At kind s (record { user = u; name = name }) r b → Seen kind s t (record { user = u; name = name }) r b → Unchanged kind u name r s t
 unchanged kind u name r b s t gs gt hs ht v l m low a w =
     let e = low-file u name l low in

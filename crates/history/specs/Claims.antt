@@ -13,7 +13,7 @@ use Rattle.rules.specs.declared.kind.Kind.the-variants.{Small, Large}
 use Rattle.rules.specs.declared.kind.Told.the-variants.{Known}
 use Rattle.rules.specs.Kinds.{toldKind, entries}
 use Rattle.rules.specs.Serves.{Buffers, outcome, Did, chosen, listSize}
-use Rattle.rules.specs.Drive.{highest, entrySize, recordSize, fileFrom, soundImage}
+use Rattle.rules.specs.Drive.{entrySize, recordSize, fileFrom, soundImage}
 use Rattle.rules.specs.Locks.{pack, unpack, soundList, start}
 use Rattle.rules.specs.Call.{asked, rowsCall, effectOf, call}
 use Rattle.rules.specs.Several.{callSingly}
@@ -46,7 +46,7 @@ pub record Claims (kind : Kind) (e : Engine) : Type 0 where
 unfoldable pub KeepsContract : (ℕ → Engine) → Type 0
 KeepsContract e = (k : ℕ) → isWord k ≡ true → EachCall (λ (before : List Ask) (q : Ask) (s : State).
     Did (callTold (toldKind k) (q .function) (q .process) (q .count) (lent q s)) (outcomeOf (e k before) q s .answer)
-    (outcomeOf (e k before) q s .left .fcb) (outcomeOf (e k before) q s .left .dma) (outcomeOf (e k before) q s .left .list) (outcomeOf (e k before) q s .left .image))
+    (outcomeOf (e k before) q s .left))
 
 -- told the number k, it refuses the call, with 255/13 or 255/1, and leaves all buffers as they were
 unfoldable pub Refuses : (ℕ → Engine) → ℕ → List Ask → Ask → State → Type 0
@@ -60,8 +60,8 @@ pub record ToldClaims (e : ℕ → Engine) : Type 0 where
   pub unknown-kind : (k : ℕ) → (k ≡ 0 → ⊥) → (k ≡ 1 → ⊥) → isWord k ≡ true
       → EachCall (λ (before : List Ask) (q : Ask) (s : State). outcomeOf (e k before) q s ≡ outcome (255 ∕ 13) (lent q s))
   -- "A book of one kind must never be read as the other"
-  pub first-as-second : EachCall (λ (before : List Ask) (q : Ask) (s : State). soundImage Small highest (s .image) ≡ true → Refuses e 1 before q s)
-  pub second-as-first : EachCall (λ (before : List Ask) (q : Ask) (s : State). soundImage Large highest (s .image) ≡ true → Refuses e 0 before q s)
+  pub first-as-second : EachCall (λ (before : List Ask) (q : Ask) (s : State). soundImage Small (s .image) ≡ true → Refuses e 1 before q s)
+  pub second-as-first : EachCall (λ (before : List Ask) (q : Ask) (s : State). soundImage Large (s .image) ≡ true → Refuses e 0 before q s)
 
 -- ---- Of the rules
 
@@ -96,20 +96,20 @@ pub record Tables : Type 0 where
 
 -- + What is packed and unpacked again is the same, of the lists that a sound list can be.
 pub record RoundTrips : Type 0 where
-  pub pack-unpack : (kind : Kind) (list s : List ℕ) → length list ≡ listSize → areBytes list ≡ true → soundList kind highest list s ≡ true → pack (unpack list) ≡ list
-  pub unpack-pack : (kind : Kind) (list s : List ℕ) → soundList kind highest list s ≡ true → unpack (pack (unpack list)) ≡ unpack list
+  pub pack-unpack : (kind : Kind) (list s : List ℕ) → length list ≡ listSize → areBytes list ≡ true → soundList kind list s ≡ true → pack (unpack list) ≡ list
+  pub unpack-pack : (kind : Kind) (list s : List ℕ) → soundList kind list s ≡ true → unpack (pack (unpack list)) ≡ unpack list
 
 -- "Look .. out comes that 128-byte part of the image itself": it lies past the directory and inside the image, ..
 pub record LookClaims : Type 0 where
-  pub inside : (kind : Kind) (user : ℕ) (name : List ℕ) (r : ℕ) (s : List ℕ) → (lookAt kind highest user name r s ≡ 0 → ⊥)
-      → (entrySize * entries kind ≤ lookAt kind highest user name r s) × (lookAt kind highest user name r s + recordSize ≤ length s)
+  pub inside : (kind : Kind) (user : ℕ) (name : List ℕ) (r : ℕ) (s : List ℕ) → (lookAt kind user name r s ≡ 0 → ⊥)
+      → (entrySize * entries kind ≤ lookAt kind user name r s) × (lookAt kind user name r s + recordSize ≤ length s)
   -- .. + and two of them do not overlap, unless they are the same record of the same file.
-  pub apart : (kind : Kind) (u v : ℕ) (m n : List ℕ) (r q : ℕ) (s : List ℕ) → (lookAt kind highest u m r s ≡ 0 → ⊥) → (lookAt kind highest v n q s ≡ 0 → ⊥)
+  pub apart : (kind : Kind) (u v : ℕ) (m n : List ℕ) (r q : ℕ) (s : List ℕ) → (lookAt kind u m r s ≡ 0 → ⊥) → (lookAt kind v n q s ≡ 0 → ⊥)
       → ((fileFrom u m 0 ≡ fileFrom v n 0) × (r ≡ q))
-      ⊎ ((lookAt kind highest u m r s + recordSize ≤ lookAt kind highest v n q s) ⊎ (lookAt kind highest v n q s + recordSize ≤ lookAt kind highest u m r s))
+      ⊎ ((lookAt kind u m r s + recordSize ≤ lookAt kind v n q s) ⊎ (lookAt kind v n q s + recordSize ≤ lookAt kind u m r s))
   -- T-09: told the other kind, the image check answers 1 and Look shows an empty part.
-  pub other-check : (own other : Kind) → (own ≡ other → ⊥) → (s : List ℕ) → soundImage own highest s ≡ true → checkTold (Known other) s ≡ 1
-  pub other-look : (own other : Kind) → (own ≡ other → ⊥) → (s : List ℕ) → soundImage own highest s ≡ true
+  pub other-check : (own other : Kind) → (own ≡ other → ⊥) → (s : List ℕ) → soundImage own s ≡ true → checkTold (Known other) s ≡ 1
+  pub other-look : (own other : Kind) → (own ≡ other → ⊥) → (s : List ℕ) → soundImage own s ≡ true
       → (user : ℕ) (name : List ℕ) (r : ℕ) → lookTold (Known other) user name r s ≡ 0
 
 -- ---- All of it

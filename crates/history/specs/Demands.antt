@@ -16,7 +16,7 @@ use Rattle.rules.specs.declared.file.File.{File}
 use Rattle.rules.specs.declared.item.Item.{Item}
 use Rattle.rules.specs.declared.list.LockList.{LockList}
 use Rattle.rules.specs.Serves.{Outcome, outcome, processes, listSize}
-use Rattle.rules.specs.Drive.{highest, entrySize, blocks, recordSize, recordAt, isEmpty, userByte, blockOf, freeBlocks, soundImage}
+use Rattle.rules.specs.Drive.{entrySize, blocks, recordSize, recordAt, isEmpty, userByte, blockOf, freeBlocks, soundImage}
 use Rattle.rules.specs.Locks.{anEmpty, anOpen, aLock, places, itemAt, unpack, freshLock, isKindBy, opensBy, locksBy, isEmptyAt, freePlaces, soundList}
 use Rattle.rules.specs.Asks.{recordOf}
 use Rattle.rules.specs.Look.{look}
@@ -55,9 +55,9 @@ groupsBy kind g es = countedAfter kind (g .users) es (groupsOf kind (g .image))
 -- ---- 1. Sound stays sound: after every call the image and the list are sound again.
 
 pub record SoundState (kind : Kind) (s : State) : Type 0 where
-  pub image-sound : soundImage kind highest (s .image) ≡ true
+  pub image-sound : soundImage kind (s .image) ≡ true
   pub list-long : length (s .list) ≡ listSize
-  pub list-sound : soundList kind highest (s .list) (s .image) ≡ true
+  pub list-sound : soundList kind (s .list) (s .image) ≡ true
 
 -- ---- 2. Bytes 0 to 18 of the list are those that Start wrote: the three limits and the users. ..
 
@@ -110,8 +110,8 @@ figureIn kind n groups dma = put 0 (le 3 (blockRecords kind * (n - 2 - length gr
 -- not an empty part, before and after.
 
 pub record Unchanged (kind : Kind) (user : ℕ) (name : List ℕ) (r : ℕ) (s t : List ℕ) : Type 0 where
-  pub shown : length (look kind highest user name r s) ≡ recordSize
-  pub same : look kind highest user name r t ≡ look kind highest user name r s
+  pub shown : length (look kind user name r s) ≡ recordSize
+  pub same : look kind user name r t ≡ look kind user name r s
 
 -- ---- 7. Isolation: a call of a process changes no byte of any file under another user, no directory entry of it, ..
 

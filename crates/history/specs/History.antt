@@ -11,7 +11,7 @@ use Rattle.words.specs.Bytes.{areBytes}
 use Rattle.words.specs.Tables.{_∕_}
 use Rattle.rules.specs.declared.kind.Kind.{Kind}
 use Rattle.rules.specs.Serves.{Buffers, Outcome, buffers}
-use Rattle.rules.specs.Drive.{highest, soundImage}
+use Rattle.rules.specs.Drive.{soundImage}
 use Rattle.rules.specs.Locks.{start}
 
 -- ---- What a host can hand over
@@ -113,7 +113,7 @@ pub record Begun (kind : Kind) : Type 0 where
   pub given : List ℕ
   pub image : List ℕ
   pub accepted : start capacity openlimit locklimit users given .answer ≡ 0 ∕ 0
-  pub sound : soundImage kind highest image ≡ true
+  pub sound : soundImage kind image ≡ true
   pub lendable : isLendable image ≡ true
 
 abbrev pub firstState : (kind : Kind) → Begun kind → State

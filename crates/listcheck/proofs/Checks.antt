@@ -6,9 +6,9 @@ use mathlib.Core.List.{List}
 use mathlib.Core.Logic.{⊎-elim}
 use native.Mathlib.Omega.{arith}
 use lib.ListN.{length, getD}
-use lib.Dec.{leb, eqb}
+use lib.Dec.{leb, ltb, eqb}
 use borrow.Author.Needs.{needs}
-use borrow.Author.Tests.{lt-ltb, le-ltb, lt-leb, eq-eqb, ne-eqb, eqb-true}
+use borrow.Author.Tests.{lt-ltb, le-ltb, le-leb, lt-leb, ltb-true, ltb-false, eq-eqb, ne-eqb, eqb-true}
 use Rattle.words.specs.Tests.{_and_, _if_else_, all, any, lowest}
 use Rattle.words.specs.Bytes.{byte, part}
 use Rattle.words.proofs.Bytes.{part-byte}
@@ -18,7 +18,7 @@ use Rattle.rules.specs.declared.file.File.{File}
 use Rattle.rules.specs.declared.file.Found.{Found}
 use Rattle.rules.specs.declared.item.Item.{Item}
 use Rattle.rules.specs.declared.list.LockList.{LockList}
-use Rattle.rules.specs.Drive.{highest, lookUp, missing, blockOf}
+use Rattle.rules.specs.Drive.{lookUp, missing, blockOf}
 use Rattle.rules.specs.Locks.{unpack, placeAt, itemAt, isLow, sameFile, opensNameAt, openOf, isOpened, opensUnlocked, clash, clashAt, isApart, goodOpen, goodLock, goodItem, goodPlace, keepsLimits, zeroAt, soundLocks, soundList}
 use Rattle.listcheck.specs.Check.{openAlone, lockAlone, itemAlone, placeAlone, placeAloneAt, lockOpened, lockOpenedAt, goodHead}
 use Rattle.rules.specs.declared.kind.Kind.{Kind}
@@ -26,6 +26,12 @@ use Rattle.rules.specs.declared.kind.Kind.{Kind}
 -- a name's length, as a callee asks it
 pub eleven : (name : List ℕ) → length name ≡ 11 → 11 ≤ length name
 eleven name h = omega arith
+
+-- not past a bound is up to it
+pub past-not : (t : Bool) (a b : ℕ) → t ≡ ltb a b → not t ≡ leb b a
+past-not t a b e =
+    ⊎-elim (λ (h : ltb a b ≡ true). let k = ltb-true a b h in rw (e, h) (sym (lt-leb b a k)))
+    (λ (h : ltb a b ≡ false). let k = ltb-false a b h in rw (e, h) (sym (le-leb b a k))) (either (ltb a b))
 
 -- ---- the high bit of a name's byte
 
@@ -141,7 +147,7 @@ split (suc (suc (suc k))) e c p n w t o m u b =
     let z : leb j 2 ≡ false = lt-leb j 2 (omega arith) in
     rw (x, y, z) (dead c _ _)
 
-pub place-split : (kind : Kind) (s : List ℕ) (l : LockList) (i : ℕ) → goodPlace kind highest s l i ≡ (placeAloneAt kind s l i and lockOpenedAt l i)
+pub place-split : (kind : Kind) (s : List ℕ) (l : LockList) (i : ℕ) → goodPlace kind s l i ≡ (placeAloneAt kind s l i and lockOpenedAt l i)
 unfolding goodPlace goodItem goodOpen goodLock placeAloneAt placeAlone itemAlone openAlone lockAlone lockOpenedAt lockOpened
 place-split kind s l i = split (itemAt l i .kind) _ _ _ _ _ _ _ _ _ _
 
@@ -174,19 +180,19 @@ join-two false b x = refl
 -- the list check in the order of its parts
 pub sound-as : (kind : Kind) (s list : List ℕ) (l : LockList) (r : Bool) → l ≡ unpack list
     → r ≡ (all (zeroAt list) 64 and goodHead (l .capacity) (l .openlimit) (l .locklimit) (l .users) and all (placeAloneAt kind s l) 64 and all
-    (lockOpenedAt l) 64 and all (isApart l) 64 and all (keepsLimits l) 16) → r ≡ soundList kind highest list s
+    (lockOpenedAt l) 64 and all (isApart l) 64 and all (keepsLimits l) 16) → r ≡ soundList kind list s
 unfolding soundList soundLocks goodHead
 sound-as kind s list l r e h =
-    let g = all-both (goodPlace kind highest s l) (placeAloneAt kind s l) (lockOpenedAt l) 64 (place-split kind s l) in
+    let g = all-both (goodPlace kind s l) (placeAloneAt kind s l) (lockOpenedAt l) 64 (place-split kind s l) in
     let rest = join-two _ _ _ ∙ ap (λ (x : Bool). x and all (isApart l) 64 and all (keepsLimits l) 16) (sym g) in
     h ∙ ap (λ (x : Bool). all (zeroAt list) 64 and x) (ap (λ (x : Bool). goodHead (l .capacity) (l .openlimit) (l .locklimit) (l .users) and x) rest
     ∙ sym (join-four _ _ _ _ _))
-    ∙ ap (λ (m : LockList). all (zeroAt list) 64 and soundLocks kind highest m s) e
+    ∙ ap (λ (m : LockList). all (zeroAt list) 64 and soundLocks kind m s) e
 
 -- its first four parts were found good
 pub sound-after : (kind : Kind) (s list : List ℕ) (l : LockList) (a b c d r : Bool) → l ≡ unpack list → a ≡ all (zeroAt list) 64 → not a ≡ false
     → b ≡ goodHead (l .capacity) (l .openlimit) (l .locklimit) (l .users) → not b ≡ false → c ≡ all (placeAloneAt kind s l) 64 → not c ≡ false
-    → d ≡ all (lockOpenedAt l) 64 → not d ≡ false → r ≡ (all (isApart l) 64 and all (keepsLimits l) 16) → r ≡ soundList kind highest list s
+    → d ≡ all (lockOpenedAt l) 64 → not d ≡ false → r ≡ (all (isApart l) 64 and all (keepsLimits l) 16) → r ≡ soundList kind list s
 sound-after kind s list l a b c d r e ea ha eb hb ec hc ed hd h =
     sound-as kind s list l r e (and-then r _ _ (not-yes a _ ea ha)
     (and-then r _ _ (not-yes b _ eb hb) (and-then r _ _ (not-yes c _ ec hc) (and-then r _ _ (not-yes d _ ed hd) h))))

@@ -10,9 +10,10 @@ use Rattle.words.specs.Tests.{_and_, _if_else_, all, count}
 use Rattle.rules.specs.declared.file.File.{File}
 use Rattle.rules.specs.declared.item.Item.{Item}
 use Rattle.rules.specs.declared.list.LockList.{LockList}
-use Rattle.rules.specs.Drive.{highest, legalName, lookUp, missing, blockOf}
+use Rattle.rules.specs.Drive.{legalName, lookUp, missing, blockOf}
 use Rattle.rules.specs.Locks.{anEmpty, anOpen, aLock, modeUnlocked, itemAt, fileOf, isLow, goodEmpty, openOf, opensUnlocked, isKindByAt, isLimit, isUser}
 use Rattle.rules.specs.declared.kind.Kind.{Kind}
+use Rattle.rules.specs.Kinds.{top}
 
 -- the file that an item names, of each process's user
 abbrev pub fileBy : List ℕ → Item → File
@@ -29,7 +30,7 @@ lockAlone kind s users it = eqb (it .mode) modeUnlocked and not (eqb (blockOf ki
 -- an item: a process to 15, a legal name with high bits zero, a record below 262,144
 unfoldable pub itemAlone : Kind → List ℕ → List ℕ → Item → Bool
 itemAlone kind s users it =
-    leb (it .process) 15 and legalName (it .name) 0 and all (isLow (it .name)) 11 and leb (it .number) highest
+    leb (it .process) 15 and legalName (it .name) 0 and all (isLow (it .name)) 11 and leb (it .number) (top kind)
     and (openAlone kind s users it if eqb (it .kind) anOpen else lockAlone kind s users it)
 
 -- a place: empty, or below the capacity with an item

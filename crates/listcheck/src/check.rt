@@ -10,7 +10,6 @@ ghost use Prim.Native.Nat.{_*_, _≤_, _<_};
 ghost use lib.ListN.{length};
 ghost use Rattle.words.specs.Tests.{all};
 ghost use Rattle.rules.specs.Kinds.{entries};
-ghost use Rattle.rules.specs.Drive.{highest};
 ghost use Rattle.rules.specs.Locks.{unpack, zeroAt, soundList};
 ghost use Rattle.listcheck.specs.Check.{placeAloneAt, lockOpenedAt, goodHead};
 
@@ -96,7 +95,7 @@ fn good_head(capacity: u8, openlimit: u8, locklimit: u8, users: [u8; 16]) -> boo
 // The list check: the list, unpacked and as it stands in its bytes, is sound against a sound image.
 pub fn sound_list(kind: Kind, l: LockList, list: &[u8], image: &[u8]) -> bool
     requires { ⌜ (l ≡ unpack (now list)) × (length (now list) ≡ 1299) × (32 * entries kind ≤ length (now image)) ⌝ }
-    ensures { λ r. ⌜ r ≡ soundList kind highest (now (list .entry)) (now (image .entry)) ⌝ }
+    ensures { λ r. ⌜ r ≡ soundList kind (now (list .entry)) (now (image .entry)) ⌝ }
 {
     if !all_zero(list) {
         return false;

@@ -5,13 +5,14 @@ use directory::name::legal_name;
 use rules::file::File;
 use rules::item::Item;
 use rules::kind::Kind;
+use rules::kind::is_past;
 use rules::tests::user_in;
 ghost use mathlib.Core.Path.{_≡_};
 ghost use Prim.Native.Nat.{_*_, _≤_};
 ghost use lib.ListN.{length};
-ghost use lib.Dec.{eqb};
+ghost use lib.Dec.{leb, eqb};
 ghost use Rattle.words.specs.Tests.{_if_else_, all};
-ghost use Rattle.rules.specs.Kinds.{entries};
+ghost use Rattle.rules.specs.Kinds.{entries, top};
 ghost use Rattle.rules.specs.Locks.{isLow, isZero, goodEmpty};
 ghost use Rattle.listcheck.specs.Check.{fileBy, openAlone, lockAlone, itemAlone, placeAlone};
 
@@ -111,6 +112,13 @@ fn kind_alone(kind: Kind, image: &[u8], users: [u8; 16], it: Item) -> bool
     lock_alone(kind, image, users, it)
 }
 
+// A record number is at most the highest.
+fn number_fits(kind: Kind, number: u32) -> bool
+    ensures { λ r. ⌜ r ≡ leb number (top kind) ⌝ }
+{
+    !is_past(kind, number as usize)
+}
+
 // An item, by itself.
 fn item_alone(kind: Kind, image: &[u8], users: [u8; 16], it: Item) -> bool
     requires { ⌜ 32 * entries kind ≤ length (now image) ⌝ }
@@ -126,7 +134,7 @@ fn item_alone(kind: Kind, image: &[u8], users: [u8; 16], it: Item) -> bool
     if !low_name(name) {
         return false;
     }
-    if 262143 < it.number {
+    if !number_fits(kind, it.number) {
         return false;
     }
     kind_alone(kind, image, users, it)

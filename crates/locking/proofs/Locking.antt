@@ -15,14 +15,13 @@ use Rattle.rules.specs.declared.file.File.{File}
 use Rattle.rules.specs.declared.list.LockList.{LockList}
 use Rattle.rules.specs.declared.routine.Chosen.the-variants.{Call}
 use Rattle.rules.specs.declared.routine.Routine.the-variants.{Lock, Unlock, Terminate}
-use Rattle.rules.specs.Serves.{Buffers, Did}
-use Rattle.rules.specs.Drive.{highest}
+use Rattle.rules.specs.Serves.{Buffers, Did, withList}
 use Rattle.rules.specs.Locks.{unpack, pack, openOf, itemAt, isLimit, zeroAt, soundLocks, soundList}
 use Rattle.rules.specs.Asks.{callerFile, recordOf}
 use Rattle.rules.specs.Codes.{rowsLacking, rows42, rows43}
 use Rattle.rules.specs.Effects.{lockedRun, unlockedRun, terminated, does42, does43, does143}
 use Rattle.rules.specs.Call.{askedBy, asked, rowsOf, effectOf, served}
-use Rattle.rules.proofs.Ends.{did-as, did-none, did-refuse, did-pass, served-as}
+use Rattle.rules.proofs.Ends.{did-as, did-none, did-refuse, did-pass, served-as, did-left}
 use Rattle.locking.specs.By.{by42, by43}
 use Rattle.rules.specs.declared.kind.Kind.{Kind}
 
@@ -31,7 +30,7 @@ unfolding rowsLacking
 nonzero-lacking kind s f r n k = search nonzeros depth 20 fits 20000
 
 -- the capacity of a sound list
-pub capacity-fits : (kind : Kind) (l : LockList) (list s : List ℕ) → l ≡ unpack list → soundList kind highest list s ≡ true → l .capacity ≤ 64
+pub capacity-fits : (kind : Kind) (l : LockList) (list s : List ℕ) → l ≡ unpack list → soundList kind list s ≡ true → l .capacity ≤ 64
 unfolding soundList soundLocks isLimit
 capacity-fits kind l list s h g =
     let k = leb-true (unpack list .capacity) 64 (and-snd _ _ (and-fst _ _ (and-snd (all (zeroAt list) 64) _ g))) in
@@ -42,65 +41,59 @@ module _ (p : ℕ) (l : LockList) (o : ℕ) (f : File) (r n : ℕ) (b : Buffers)
   -- ---- 42
 
   module _ (kind : Kind) (c : ℕ) (hc : c ≡ firstOf (rows42 kind p l o f r n (b .dma) (b .image))) where
-    pub lock-refused : (c ≡ 0 → ⊥) → Did (by42 kind p l o f r n b) c (b .fcb) (b .dma) (b .list) (b .image)
+    pub lock-refused : (c ≡ 0 → ⊥) → Did (by42 kind p l o f r n b) c b
     unfolding by42
     lock-refused d = did-refuse _ b _ c hc d
 
     module _ (z : c ≡ 0) (t : Bool) (ht : t ≡ eqb (itemAt l o .mode) 1) where
       -- modes 0 and 2
-      pub lock-passed : not t ≡ true → Did (by42 kind p l o f r n b) 0 (b .fcb) (b .dma) (b .list) (b .image)
+      pub lock-passed : not t ≡ true → Did (by42 kind p l o f r n b) 0 b
       unfolding by42 does42 _if_else_
-      lock-passed y = did-pass _ b _ c hc 0 _ _ _ _ z (let q : eqb (itemAt l o .mode) 1 ≡ false = sym ht ∙ not-true t y in rw q (did-none 0 b))
+      lock-passed y = did-pass _ b _ c hc 0 _ z (let q : eqb (itemAt l o .mode) 1 ≡ false = sym ht ∙ not-true t y in rw q (did-none 0 b))
 
       pub lock-done : (m : LockList) (list : List ℕ) → not t ≡ false → m ≡ lockedRun p f r n l → list ≡ pack m
-          → Did (by42 kind p l o f r n b) 0 (b .fcb) (b .dma) list (b .image)
+          → Did (by42 kind p l o f r n b) 0 (withList b list)
       unfolding by42 does42 _if_else_
       lock-done m list y hm hp =
-          did-pass _ b _ c hc 0 _ _ _ _ z
+          did-pass _ b _ c hc 0 _ z
           (let q : eqb (itemAt l o .mode) 1 ≡ true = sym ht ∙ not-false t y in
-          rw q (record { gives = refl; leaves-fcb = refl; leaves-dma = refl; leaves-list = hp ∙ ap pack hm; leaves-image = refl }))
+          rw q (did-left refl refl refl (hp ∙ ap pack hm) refl))
 
   -- ---- 43
 
-  module _ (c : ℕ) (hc : c ≡ firstOf (rows43 l o r n (b .dma))) where
-    pub unlock-refused : (c ≡ 0 → ⊥) → Did (by43 p l o f r n b) c (b .fcb) (b .dma) (b .list) (b .image)
+  module _ (kind : Kind) (c : ℕ) (hc : c ≡ firstOf (rows43 kind l o r n (b .dma))) where
+    pub unlock-refused : (c ≡ 0 → ⊥) → Did (by43 kind p l o f r n b) c b
     unfolding by43
     unlock-refused d = did-refuse _ b _ c hc d
 
     module _ (z : c ≡ 0) (t : Bool) (ht : t ≡ eqb (itemAt l o .mode) 1) where
-      pub unlock-passed : not t ≡ true → Did (by43 p l o f r n b) 0 (b .fcb) (b .dma) (b .list) (b .image)
+      pub unlock-passed : not t ≡ true → Did (by43 kind p l o f r n b) 0 b
       unfolding by43 does43 _if_else_
-      unlock-passed y = did-pass _ b _ c hc 0 _ _ _ _ z (let q : eqb (itemAt l o .mode) 1 ≡ false = sym ht ∙ not-true t y in rw q (did-none 0 b))
+      unlock-passed y = did-pass _ b _ c hc 0 _ z (let q : eqb (itemAt l o .mode) 1 ≡ false = sym ht ∙ not-true t y in rw q (did-none 0 b))
 
       pub unlock-done : (m : LockList) (list : List ℕ) → not t ≡ false → m ≡ unlockedRun p f r n l → list ≡ pack m
-          → Did (by43 p l o f r n b) 0 (b .fcb) (b .dma) list (b .image)
+          → Did (by43 kind p l o f r n b) 0 (withList b list)
       unfolding by43 does43 _if_else_
       unlock-done m list y hm hp =
-          did-pass _ b _ c hc 0 _ _ _ _ z
+          did-pass _ b _ c hc 0 _ z
           (let q : eqb (itemAt l o .mode) 1 ≡ true = sym ht ∙ not-false t y in
-          rw q (record { gives = refl; leaves-fcb = refl; leaves-dma = refl; leaves-list = hp ∙ ap pack hm; leaves-image = refl }))
+          rw q (did-left refl refl refl (hp ∙ ap pack hm) refl))
 
 -- ---- the calls on the buffers
 
-module _ (kind : Kind) (p c : ℕ) (b : Buffers) (l : LockList) (f : File) (o r a : ℕ) (fcb dma list image : List ℕ) (hl : l ≡ unpack (b .list))
+module _ (kind : Kind) (p c : ℕ) (b : Buffers) (l : LockList) (f : File) (o r a : ℕ) (left : Buffers) (hl : l ≡ unpack (b .list))
     (hf : f ≡ callerFile p l (b .fcb)) (ho : o ≡ openOf l p f) (hr : r ≡ recordOf (b .fcb)) where
-  pub lock-called : Did (by42 kind p l o f r c b) a fcb dma list image → Did (served kind (Call Lock) p c b) a fcb dma list image
+  pub lock-called : Did (by42 kind p l o f r c b) a left → Did (served kind (Call Lock) p c b) a left
   unfolding by42 rowsOf effectOf askedBy
-  lock-called d = did-as _ _ a fcb dma list image (served-as kind (Call Lock) p c b l f r hl hf hr) (rw ho at d)
+  lock-called d = did-as _ _ a left (served-as kind (Call Lock) p c b l f r hl hf hr) (rw ho at d)
 
-  pub unlock-called : Did (by43 p l o f r c b) a fcb dma list image → Did (served kind (Call Unlock) p c b) a fcb dma list image
+  pub unlock-called : Did (by43 kind p l o f r c b) a left → Did (served kind (Call Unlock) p c b) a left
   unfolding by43 rowsOf effectOf askedBy
-  unlock-called d = did-as _ _ a fcb dma list image (served-as kind (Call Unlock) p c b l f r hl hf hr) (rw ho at d)
+  unlock-called d = did-as _ _ a left (served-as kind (Call Unlock) p c b l f r hl hf hr) (rw ho at d)
 
 pub terminate-done : (kind : Kind) (p c : ℕ) (b : Buffers) (l m : LockList) (list : List ℕ) → l ≡ unpack (b .list) → m ≡ terminated p l → list ≡ pack m
-    → Did (served kind (Call Terminate) p c b) 0 (b .fcb) (b .dma) list (b .image)
+    → Did (served kind (Call Terminate) p c b) 0 (withList b list)
 unfolding served rowsOf effectOf does143 asked askedBy
 terminate-done kind p c b l m list hl hm hp =
-    did-pass [] b _ 0 (row-none 0 refl) 0 _ _ _ _ refl
-    (record {
-      gives = refl;
-      leaves-fcb = refl;
-      leaves-dma = refl;
-      leaves-list = hp ∙ ap pack hm ∙ ap (λ (k : LockList). pack (terminated p k)) hl;
-      leaves-image = refl;
-    })
+    did-pass [] b _ 0 (row-none 0 refl) 0 _ refl
+    (did-left refl refl refl (hp ∙ ap pack hm ∙ ap (λ (k : LockList). pack (terminated p k)) hl) refl)

@@ -11,5 +11,5 @@ use Rattle.rules.specs.declared.kind.Kind.{Kind}
 unfoldable pub by42 : Kind → ℕ → LockList → ℕ → File → ℕ → ℕ → Buffers → Outcome
 by42 kind p l o f r n b = unless (rows42 kind p l o f r n (b .dma) (b .image)) b (does42 p l o f r n b)
 
-unfoldable pub by43 : ℕ → LockList → ℕ → File → ℕ → ℕ → Buffers → Outcome
-by43 p l o f r n b = unless (rows43 l o r n (b .dma)) b (does43 p l o f r n b)
+unfoldable pub by43 : Kind → ℕ → LockList → ℕ → File → ℕ → ℕ → Buffers → Outcome
+by43 kind p l o f r n b = unless (rows43 kind l o r n (b .dma)) b (does43 p l o f r n b)

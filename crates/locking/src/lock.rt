@@ -10,6 +10,7 @@ use rules::code::NOT_OPEN;
 use rules::code::PAST_END;
 use rules::file::File;
 use rules::kind::Kind;
+use rules::kind::is_past;
 use rules::list::LockList;
 ghost use mathlib.Core.Path.{_≡_};
 ghost use lib.ListN.{length};
@@ -61,7 +62,7 @@ fn lock_refusal(
     if !is_file_id(dma, o) {
         return BAD_FILE_ID;
     }
-    if 262143 < r + n - 1 {
+    if is_past(kind, (r + n - 1) as usize) {
         return PAST_END;
     }
     run_refusal(kind, p, l, f, r, n, image)
@@ -82,7 +83,7 @@ fn lock_by(
     image: &[u8],
 ) -> u32
     requires { ⌜ (l .capacity ≤ 64) × (1 ≤ n) × (n ≤ 16) × (r < 16777216) × Ready kind (buffers (now fcb) (now dma) (now list) (now image)) ⌝ }
-    ensures { λ c. ⌜ Did (by42 kind p l o f r n (buffers (now (fcb .entry)) (now (dma .entry)) (now (list .entry)) (now (image .entry)))) c (now (fcb .entry)) (now (dma .entry)) (now (list .exit)) (now (image .entry)) ⌝ }
+    ensures { λ c. ⌜ Did (by42 kind p l o f r n (buffers (now (fcb .entry)) (now (dma .entry)) (now (list .entry)) (now (image .entry)))) c (buffers (now (fcb .entry)) (now (dma .entry)) (now (list .exit)) (now (image .entry))) ⌝ }
 {
     let refused = lock_refusal(kind, p, l, o, f, r, n, dma, image);
     if refused != 0 {
@@ -107,7 +108,7 @@ pub fn lock_records(
     image: &[u8],
 ) -> u32
     requires { ⌜ (l ≡ unpack (now list)) × (1 ≤ count) × (count ≤ 16) × Ready kind (buffers (now fcb) (now dma) (now list) (now image)) ⌝ }
-    ensures { λ c. ⌜ Did (served kind (Call Lock) p count (buffers (now (fcb .entry)) (now (dma .entry)) (now (list .entry)) (now (image .entry)))) c (now (fcb .entry)) (now (dma .entry)) (now (list .exit)) (now (image .entry)) ⌝ }
+    ensures { λ c. ⌜ Did (served kind (Call Lock) p count (buffers (now (fcb .entry)) (now (dma .entry)) (now (list .entry)) (now (image .entry)))) c (buffers (now (fcb .entry)) (now (dma .entry)) (now (list .exit)) (now (image .entry))) ⌝ }
 {
     let f = caller_file(l, p, fcb);
     let o = l.open_of(p, f);

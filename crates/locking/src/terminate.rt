@@ -19,7 +19,7 @@ pub fn terminate(
     image: &[u8],
 ) -> u32
     requires { ⌜ (l ≡ unpack (now list)) × Ready kind (buffers (now fcb) (now dma) (now list) (now image)) ⌝ }
-    ensures { λ c. ⌜ Did (served kind (Call Terminate) p 1 (buffers (now (fcb .entry)) (now (dma .entry)) (now (list .entry)) (now (image .entry)))) c (now (fcb .entry)) (now (dma .entry)) (now (list .exit)) (now (image .entry)) ⌝ }
+    ensures { λ c. ⌜ Did (served kind (Call Terminate) p 1 (buffers (now (fcb .entry)) (now (dma .entry)) (now (list .entry)) (now (image .entry)))) c (buffers (now (fcb .entry)) (now (dma .entry)) (now (list .exit)) (now (image .entry))) ⌝ }
 {
     pack(l.terminate(p), list);
     0

@@ -8,6 +8,7 @@ use rules::code::NOT_OPEN;
 use rules::code::PAST_END;
 use rules::file::File;
 use rules::kind::Kind;
+use rules::kind::is_past;
 use rules::list::LockList;
 ghost use mathlib.Core.Path.{_≡_};
 ghost use lib.ListN.{length};
@@ -22,9 +23,9 @@ ghost use Rattle.rules.specs.Codes.{rows43};
 ghost use Rattle.locking.specs.By.{by43};
 
 // The code of the first refusal of 43, or 0. The caller's open is at place `o` (64: none); modes 0 and 2 pass.
-fn unlock_refusal(l: LockList, o: usize, r: u32, n: u32, dma: &[u8]) -> u32
+fn unlock_refusal(kind: Kind, l: LockList, o: usize, r: u32, n: u32, dma: &[u8]) -> u32
     requires { ⌜ (1 ≤ n) × (n ≤ 16) × (r < 16777216) × (length (now dma) ≡ 2048) ⌝ }
-    ensures { λ c. ⌜ c ≡ firstOf (rows43 l o r n (now (dma .entry))) ⌝ }
+    ensures { λ c. ⌜ c ≡ firstOf (rows43 kind l o r n (now (dma .entry))) ⌝ }
 {
     if 64 <= o {
         return NOT_OPEN;
@@ -35,7 +36,7 @@ fn unlock_refusal(l: LockList, o: usize, r: u32, n: u32, dma: &[u8]) -> u32
     if !is_file_id(dma, o) {
         return BAD_FILE_ID;
     }
-    if 262143 < r + n - 1 {
+    if is_past(kind, (r + n - 1) as usize) {
         return PAST_END;
     }
     0
@@ -56,9 +57,9 @@ fn unlock_by(
     image: &[u8],
 ) -> u32
     requires { ⌜ (1 ≤ n) × (n ≤ 16) × (r < 16777216) × Ready kind (buffers (now fcb) (now dma) (now list) (now image)) ⌝ }
-    ensures { λ c. ⌜ Did (by43 p l o f r n (buffers (now (fcb .entry)) (now (dma .entry)) (now (list .entry)) (now (image .entry)))) c (now (fcb .entry)) (now (dma .entry)) (now (list .exit)) (now (image .entry)) ⌝ }
+    ensures { λ c. ⌜ Did (by43 kind p l o f r n (buffers (now (fcb .entry)) (now (dma .entry)) (now (list .entry)) (now (image .entry)))) c (buffers (now (fcb .entry)) (now (dma .entry)) (now (list .exit)) (now (image .entry))) ⌝ }
 {
-    let code = unlock_refusal(l, o, r, n, dma);
+    let code = unlock_refusal(kind, l, o, r, n, dma);
     if code != 0 {
         return code;
     }
@@ -81,7 +82,7 @@ pub fn unlock_records(
     image: &[u8],
 ) -> u32
     requires { ⌜ (l ≡ unpack (now list)) × (1 ≤ count) × (count ≤ 16) × Ready kind (buffers (now fcb) (now dma) (now list) (now image)) ⌝ }
-    ensures { λ c. ⌜ Did (served kind (Call Unlock) p count (buffers (now (fcb .entry)) (now (dma .entry)) (now (list .entry)) (now (image .entry)))) c (now (fcb .entry)) (now (dma .entry)) (now (list .exit)) (now (image .entry)) ⌝ }
+    ensures { λ c. ⌜ Did (served kind (Call Unlock) p count (buffers (now (fcb .entry)) (now (dma .entry)) (now (list .entry)) (now (image .entry)))) c (buffers (now (fcb .entry)) (now (dma .entry)) (now (list .exit)) (now (image .entry))) ⌝ }
 {
     let f = caller_file(l, p, fcb);
     let o = l.open_of(p, f);

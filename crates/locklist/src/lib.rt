@@ -1,4 +1,4 @@
-// The lock list's bytes: packed and unpacked, begun by Start, and checked.
+// The lock list's bytes: packed and unpacked, begun by Start, and what the FCB asks of it.
 pub mod ask;
 pub mod mark;
 pub mod pack;

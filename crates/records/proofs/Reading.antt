@@ -17,8 +17,8 @@ use Rattle.rules.specs.declared.file.File.{File}
 use Rattle.rules.specs.declared.list.LockList.{LockList}
 use Rattle.rules.specs.declared.routine.Chosen.the-variants.{Call}
 use Rattle.rules.specs.declared.routine.Routine.the-variants.{Read}
-use Rattle.rules.specs.Serves.{Buffers, Did}
-use Rattle.rules.specs.Drive.{highest, entryOf, blockIn, blockOf, recordAt, blocks, soundImage}
+use Rattle.rules.specs.Serves.{Buffers, Did, withDma}
+use Rattle.rules.specs.Drive.{entryOf, blockIn, blockOf, recordAt, blocks, soundImage}
 use Rattle.rules.specs.Locks.{unpack, openOf}
 use Rattle.rules.specs.Asks.{callerFile, recordOf}
 use Rattle.rules.specs.Codes.{rowsThere, rows33}
@@ -26,20 +26,20 @@ use Rattle.rules.specs.Effects.{contents, does33}
 use Rattle.rules.specs.Call.{askedBy, rowsOf, effectOf, served}
 use Rattle.rules.proofs.Sizes.{block-inside}
 use Rattle.rules.proofs.Sound.{sound-length, length-whole, block-within}
-use Rattle.rules.proofs.Ends.{did-as, did-refuse, did-pass, served-as}
+use Rattle.rules.proofs.Ends.{did-as, did-refuse, did-pass, served-as, did-left}
 use Rattle.records.specs.By.{Inside, readAt, by33}
 use Rattle.rules.specs.declared.kind.Kind.{Kind}
 
 -- ---- one record
 
 -- the entry of the record's extent in a sound image
-pub inside-of : (kind : Kind) (s : List ℕ) (f : File) (e r : ℕ) → soundImage kind highest s ≡ true → e ≡ entryOf kind s f (r / 128) → Inside kind s e r
+pub inside-of : (kind : Kind) (s : List ℕ) (f : File) (e r : ℕ) → soundImage kind s ≡ true → e ≡ entryOf kind s f (r / 128) → Inside kind s e r
 unfolding blockOf
 inside-of kind s f e r h he = record {
   inside = λ n.
       let q : blockIn kind s e r ≡ blockOf kind s f r = ap (λ (d : ℕ). blockIn kind s d r) he in
-      let b : blockOf kind s f r < blocks kind s = block-within kind highest s f r (λ z. n (q ∙ z)) h .1 in
-      rw (q, ← length-whole kind s (sound-length kind highest s h)) (block-inside kind (blockOf kind s f r) (blocks kind s) b);
+      let b : blockOf kind s f r < blocks kind s = block-within kind s f r (λ z. n (q ∙ z)) h .1 in
+      rw (q, ← length-whole kind s (sound-length kind s h)) (block-inside kind (blockOf kind s f r) (blocks kind s) b);
 }
 
 -- a record that passes the rows of 33 has a block
@@ -74,7 +74,7 @@ copied kind s block r start at dma dma′ q h =
 -- ---- 33, from the reading of its record
 
 pub read-ended : (kind : Kind) (o : ℕ) (f : File) (r : ℕ) (b : Buffers) (e c : ℕ) (dma : List ℕ) → e ≡ entryOf kind (b .image) f (r / 128)
-    → c ≡ firstOf (rows33 kind o e r (b .image)) → dma ≡ readAt kind o e r 0 (b .image) (b .dma) → Did (by33 kind o f r b) c (b .fcb) dma (b .list) (b .image)
+    → c ≡ firstOf (rows33 kind o e r (b .image)) → dma ≡ readAt kind o e r 0 (b .image) (b .dma) → Did (by33 kind o f r b) c (withDma b dma)
 unfolding by33 does33 readAt _if_else_
 read-ended kind o f r b e c dma he hc hd =
     let rows : c ≡ firstOf (rows33 kind o (entryOf kind (b .image) f (r / 128)) r (b .image)) = hc
@@ -83,22 +83,16 @@ read-ended kind o f r b e c dma he hc hd =
     (λ (z : c ≡ 0).
     let q : dma ≡ put 0 (contents kind (b .image) (blockIn kind (b .image) e r) r) (b .dma) = hd
     ∙ rw (eq-eqb (firstOf (rows33 kind o e r (b .image))) 0 (sym hc ∙ z)) refl in
-    did-pass _ b _ c rows c _ _ _ _ z (record {
-      gives = z;
-      leaves-fcb = refl;
-      leaves-dma = q ∙ ap (λ (d : ℕ). put 0 (contents kind (b .image) (blockIn kind (b .image) d r) r) (b .dma)) he;
-      leaves-list = refl;
-      leaves-image = refl;
-    }))
+    did-pass _ b _ c rows c _ z (did-left z refl (q ∙ ap (λ (d : ℕ). put 0 (contents kind (b .image) (blockIn kind (b .image) d r) r) (b .dma)) he) refl refl))
     (λ (z : c ≡ 0 → ⊥).
     let q : dma ≡ b .dma = hd ∙ rw (ne-eqb (firstOf (rows33 kind o e r (b .image))) 0 (λ y. z (hc ∙ y))) refl in
     rw q (did-refuse _ b _ c rows z))
     (equal? c 0)
 
 -- the call on the buffers
-pub read-called : (kind : Kind) (p c : ℕ) (b : Buffers) (l : LockList) (f : File) (o r a : ℕ) (fcb dma list image : List ℕ) → l ≡ unpack (b .list)
-    → f ≡ callerFile p l (b .fcb) → o ≡ openOf l p f → r ≡ recordOf (b .fcb) → Did (by33 kind o f r b) a fcb dma list image
-    → Did (served kind (Call Read) p c b) a fcb dma list image
+pub read-called : (kind : Kind) (p c : ℕ) (b : Buffers) (l : LockList) (f : File) (o r a : ℕ) (left : Buffers) → l ≡ unpack (b .list)
+    → f ≡ callerFile p l (b .fcb) → o ≡ openOf l p f → r ≡ recordOf (b .fcb) → Did (by33 kind o f r b) a left
+    → Did (served kind (Call Read) p c b) a left
 unfolding by33 rowsOf effectOf askedBy
-read-called kind p c b l f o r a fcb dma list image hl hf ho hr d =
-    did-as _ _ a fcb dma list image (served-as kind (Call Read) p c b l f r hl hf hr) (rw ho at d)
+read-called kind p c b l f o r a left hl hf ho hr d =
+    did-as _ _ a left (served-as kind (Call Read) p c b l f r hl hf hr) (rw ho at d)

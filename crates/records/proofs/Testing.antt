@@ -18,8 +18,8 @@ use Rattle.rules.specs.declared.list.LockList.{LockList}
 use Rattle.rules.specs.declared.spot.Spot.{Spot}
 use Rattle.rules.specs.declared.routine.Chosen.the-variants.{Call}
 use Rattle.rules.specs.declared.routine.Routine.the-variants.{TestWrite, FreeSpace}
-use Rattle.rules.specs.Serves.{Buffers, Did}
-use Rattle.rules.specs.Drive.{highest, blocks, entryOf, lookUp, blockIn, recordAt, freeBlocks, soundImage}
+use Rattle.rules.specs.Serves.{Buffers, Did, withDma, withImage}
+use Rattle.rules.specs.Drive.{blocks, entryOf, lookUp, blockIn, recordAt, freeBlocks, soundImage}
 use Rattle.rules.specs.Locks.{unpack, openOf}
 use Rattle.rules.specs.Asks.{callerFile, recordOf}
 use Rattle.rules.specs.Codes.{rowsMay, rowsThere, differs, rowsDiffer, rows41}
@@ -27,7 +27,7 @@ use Rattle.rules.specs.Effects.{spotAt, written, does41, does46}
 use Rattle.rules.specs.Call.{unless, askedBy, asked, rowsOf, effectOf, served}
 use Rattle.rules.proofs.Sizes.{records-few, record-room}
 use Rattle.rules.proofs.Room.{Within, there-within}
-use Rattle.rules.proofs.Ends.{did-as, did-refuse, did-pass, did-refuse-first, did-go-on, served-as}
+use Rattle.rules.proofs.Ends.{did-as, did-refuse, did-pass, did-refuse-first, did-go-on, served-as, did-left}
 use Rattle.records.specs.By.{by41}
 use Rattle.records.proofs.Writing.{nonzero-may, may-table}
 use Rattle.rules.specs.declared.kind.Kind.{Kind}
@@ -62,12 +62,12 @@ pub record-at-room : (kind : Kind) (block r size : ℕ) → r < 262144 → block
 record-at-room kind block r size l h = record-room kind block r size h
 
 module _ (kind : Kind) (p : ℕ) (l : LockList) (o : ℕ) (f : File) (e₀ r : ℕ) (b : Buffers) (c : ℕ) (hx : e₀ ≡ entryOf kind (b .image) f 0)
-    (hc : c ≡ firstOf (rowsMay p l o f e₀ r (b .image))) where
-  may : c ≡ firstOf (rowsMay p l o f (entryOf kind (b .image) f 0) r (b .image))
+    (hc : c ≡ firstOf (rowsMay kind p l o f e₀ r (b .image))) where
+  may : c ≡ firstOf (rowsMay kind p l o f (entryOf kind (b .image) f 0) r (b .image))
   may = may-table kind p l o f e₀ r (b .image) c hx hc
 
   -- not to be written
-  pub test-refused : (c ≡ 0 → ⊥) → Did (by41 kind p l o f r b) c (b .fcb) (b .dma) (b .list) (b .image)
+  pub test-refused : (c ≡ 0 → ⊥) → Did (by41 kind p l o f r b) c b
   unfolding by41 rows41
   test-refused n = did-refuse-first _ _ b _ c may n
 
@@ -76,15 +76,11 @@ module _ (kind : Kind) (p : ℕ) (l : LockList) (o : ℕ) (f : File) (e₀ r : �
     there = hd ∙ ap (λ (k : ℕ). firstOf (rowsThere kind (b .image) k r)) he
 
     -- not there
-    pub test-lacking : (d ≡ 0 → ⊥) → Did (by41 kind p l o f r b) d (b .fcb) (b .dma) (b .list) (b .image)
+    pub test-lacking : (d ≡ 0 → ⊥) → Did (by41 kind p l o f r b) d b
     unfolding by41 rows41
-    test-lacking n = did-go-on _ _ b _ c may d _ _ _ _ z (nonzero-may p l o f _ r (b .image)) (did-refuse-first _ _ b _ d there n)
+    test-lacking n = did-go-on _ _ b _ c may d _ z (nonzero-may kind p l o f _ r (b .image)) (did-refuse-first _ _ b _ d there n)
 
     module _ (n : d ≡ 0) (w : Spot) (hw : w ≡ spotAt kind (b .image) e r) where
-      -- the spot lies in the image
-      pub test-within : soundImage kind highest (b .image) ≡ true → Within kind w (b .image)
-      test-within h = there-within kind highest (b .image) h f r w e d he hw hd n
-
       spot : w ≡ spotAt kind (b .image) (entryOf kind (b .image) f (r / 128)) r
       spot = hw ∙ ap (λ (k : ℕ). spotAt kind (b .image) k r) he
 
@@ -97,15 +93,15 @@ module _ (kind : Kind) (p : ℕ) (l : LockList) (o : ℕ) (f : File) (e₀ r : �
 
         differ : (k : ℕ) → k ≡ firstOf (rowsDiffer kind (b .dma) (b .image) (blockIn kind (b .image) (entryOf kind (b .image) f (r / 128)) r) r)
             → (a : ℕ) (image : List ℕ) → Did (unless (rowsDiffer kind (b .dma) (b .image) (blockIn kind (b .image) (entryOf kind (b .image) f (r / 128)) r) r) b
-            (does41 kind f (entryOf kind (b .image) f 0) (entryOf kind (b .image) f (r / 128)) r b)) a (b .fcb) (b .dma) (b .list) image
-            → Did (by41 kind p l o f r b) a (b .fcb) (b .dma) (b .list) image
+            (does41 kind f (entryOf kind (b .image) f 0) (entryOf kind (b .image) f (r / 128)) r b)) a (withImage b image)
+            → Did (by41 kind p l o f r b) a (withImage b image)
         unfolding by41 rows41
         differ k hk a image g =
-            did-go-on _ _ b _ c may a _ _ _ _ z (nonzero-may p l o f _ r (b .image))
-            (did-go-on _ _ b _ d there a _ _ _ _ n (nonzero-there kind (b .image) _ r) g)
+            did-go-on _ _ b _ c may a _ z (nonzero-may kind p l o f _ r (b .image))
+            (did-go-on _ _ b _ d there a _ n (nonzero-there kind (b .image) _ r) g)
 
         -- another record than was tested for
-        pub test-differs : t ≡ true → Did (by41 kind p l o f r b) 7 (b .fcb) (b .dma) (b .list) (b .image)
+        pub test-differs : t ≡ true → Did (by41 kind p l o f r b) 7 b
         unfolding rowsDiffer
         test-differs y =
             let q = row-yes 7 7 _ [] (is-yes t _ test y) refl in
@@ -113,29 +109,23 @@ module _ (kind : Kind) (p : ℕ) (l : LockList) (o : ℕ) (f : File) (e₀ r : �
 
         -- written
         pub test-done : (image : List ℕ) → t ≡ false → image ≡ written kind false w e₀ f r (take (256 - 128) (drop 128 (b .dma))) (b .image)
-            → Did (by41 kind p l o f r b) 0 (b .fcb) (b .dma) (b .list) image
+            → Did (by41 kind p l o f r b) 0 (withImage b image)
         unfolding rowsDiffer does41
         test-done image y g =
             let q = row-no 0 7 _ [] (is-no t _ test y) (row-none 0 refl) in
             differ 0 q 0 image
-            (did-pass _ b _ 0 q 0 _ _ _ _ refl
-            (record {
-              gives = refl;
-              leaves-fcb = refl;
-              leaves-dma = refl;
-              leaves-list = refl;
-              leaves-image = g ∙ ap (λ (v : Spot). written kind false v e₀ f r (part 128 128 (b .dma)) (b .image)) spot
-                  ∙ ap (λ (v : ℕ). written kind false (spotAt kind (b .image) (entryOf kind (b .image) f (r / 128)) r) v f r (part 128 128 (b .dma))
-                  (b .image)) hx;
-            }))
+            (did-pass _ b _ 0 q 0 _ refl
+            (did-left refl refl refl refl (g ∙ ap (λ (v : Spot). written kind false v e₀ f r (part 128 128 (b .dma)) (b .image)) spot
+            ∙ ap (λ (v : ℕ). written kind false (spotAt kind (b .image) (entryOf kind (b .image) f (r / 128)) r) v f r (part 128 128 (b .dma))
+            (b .image)) hx)))
 
 -- the calls on the buffers
-pub test-called : (kind : Kind) (p c : ℕ) (b : Buffers) (l : LockList) (f : File) (o r a : ℕ) (fcb dma list image : List ℕ) → l ≡ unpack (b .list)
-    → f ≡ callerFile p l (b .fcb) → o ≡ openOf l p f → r ≡ recordOf (b .fcb) → Did (by41 kind p l o f r b) a fcb dma list image
-    → Did (served kind (Call TestWrite) p c b) a fcb dma list image
+pub test-called : (kind : Kind) (p c : ℕ) (b : Buffers) (l : LockList) (f : File) (o r a : ℕ) (left : Buffers) → l ≡ unpack (b .list)
+    → f ≡ callerFile p l (b .fcb) → o ≡ openOf l p f → r ≡ recordOf (b .fcb) → Did (by41 kind p l o f r b) a left
+    → Did (served kind (Call TestWrite) p c b) a left
 unfolding by41 rowsOf effectOf askedBy lookUp
-test-called kind p c b l f o r a fcb dma list image hl hf ho hr d =
-    did-as _ _ a fcb dma list image (served-as kind (Call TestWrite) p c b l f r hl hf hr) (rw ho at d)
+test-called kind p c b l f o r a left hl hf ho hr d =
+    did-as _ _ a left (served-as kind (Call TestWrite) p c b l f r hl hf hr) (rw ho at d)
 
 -- ---- 46
 
@@ -147,14 +137,8 @@ module _ (kind : Kind) (s : List ℕ) (n f : ℕ) (hn : n ≡ blockRecords kind)
   space-fits l m = rw hn (let k = records-few kind f (omega arith) in omega arith)
 
 pub space-done : (kind : Kind) (p c : ℕ) (b : Buffers) (n : ℕ) (v dma : List ℕ) → n ≡ blockRecords kind * freeBlocks kind (b .image) → v ≡ le 3 n
-    → dma ≡ put 0 v (b .dma) → Did (served kind (Call FreeSpace) p c b) 0 (b .fcb) dma (b .list) (b .image)
+    → dma ≡ put 0 v (b .dma) → Did (served kind (Call FreeSpace) p c b) 0 (withDma b dma)
 unfolding served asked askedBy rowsOf effectOf does46
 space-done kind p c b n v dma hn hv hd =
-    did-pass [] b _ 0 (row-none 0 refl) 0 _ _ _ _ refl
-    (record {
-      gives = refl;
-      leaves-fcb = refl;
-      leaves-dma = hd ∙ ap (λ (u : List ℕ). put 0 u (b .dma)) (hv ∙ ap (λ (m : ℕ). le 3 m) hn);
-      leaves-list = refl;
-      leaves-image = refl;
-    })
+    did-pass [] b _ 0 (row-none 0 refl) 0 _ refl
+    (did-left refl refl (hd ∙ ap (λ (u : List ℕ). put 0 u (b .dma)) (hv ∙ ap (λ (m : ℕ). le 3 m) hn)) refl refl)

@@ -11,23 +11,24 @@ use Rattle.words.specs.Tests.{_and_, _or_, _if_else_}
 use Rattle.words.specs.Tables.{Row, firstOf, noneZero}
 use Rattle.words.proofs.Tests.{either, equal?}
 use Rattle.words.proofs.Tables.{row-off, row-rest, nonzeros, first-then, first-stays}
-use Rattle.rules.specs.Kinds.{entries}
+use Rattle.rules.specs.Kinds.{entries, top}
 use Rattle.rules.specs.declared.file.File.{File}
 use Rattle.rules.specs.declared.list.LockList.{LockList}
 use Rattle.rules.specs.declared.spot.Spot.{Spot}
 use Rattle.rules.specs.declared.routine.Chosen.the-variants.{Call}
 use Rattle.rules.specs.declared.routine.Routine.the-variants.{Write, WriteZeros}
-use Rattle.rules.specs.Serves.{Buffers, Did}
-use Rattle.rules.specs.Drive.{highest, blocks, entryOf, lookUp, readOnly, blockIn, freeEntry, freeBlock, soundImage}
+use Rattle.rules.specs.Serves.{Buffers, Did, withImage}
+use Rattle.rules.specs.Drive.{blocks, entryOf, lookUp, readOnly, blockIn, freeEntry, freeBlock, soundImage}
 use Rattle.rules.specs.Locks.{itemAt, unpack, openOf, lockedByOther}
 use Rattle.rules.specs.Asks.{callerFile, recordOf}
 use Rattle.rules.specs.Codes.{rowsMay, rowsRoom, rows34}
 use Rattle.rules.specs.Effects.{spotAt, written, does34}
 use Rattle.rules.specs.Call.{askedBy, rowsOf, effectOf, served}
 use Rattle.rules.proofs.Room.{room-within}
-use Rattle.rules.proofs.Ends.{did-as, did-refuse, did-pass, served-as}
+use Rattle.rules.proofs.Ends.{did-as, did-refuse, did-pass, served-as, did-left}
 use Rattle.records.specs.By.{rowsMayBy, OneDid, by34}
 use Rattle.rules.specs.declared.kind.Kind.{Kind}
+use Rattle.rules.proofs.Sizes.{top-fits}
 
 -- ---- a spot tells whether there is room
 
@@ -65,43 +66,46 @@ module _ (kind : Kind) (s : List ℕ) (e r : ℕ) (w : Spot) (h : w ≡ spotAt k
 
 -- ---- what 34, 40 and 41 share
 
-pub nonzero-may : (p : ℕ) (l : LockList) (o : ℕ) (f : File) (e₀ r : ℕ) (s : List ℕ) → noneZero (rowsMay p l o f e₀ r s) ≡ true
+pub nonzero-may : (kind : Kind) (p : ℕ) (l : LockList) (o : ℕ) (f : File) (e₀ r : ℕ) (s : List ℕ) → noneZero (rowsMay kind p l o f e₀ r s) ≡ true
 unfolding rowsMay
-nonzero-may p l o f e₀ r s = search nonzeros depth 20 fits 20000
+nonzero-may kind p l o f e₀ r s = search nonzeros depth 20 fits 20000
 
 module _ (kind : Kind) (p : ℕ) (l : LockList) (o : ℕ) (f : File) (e₀ r : ℕ) (s : List ℕ) (c : ℕ) (hx : e₀ ≡ entryOf kind s f 0)
-    (hc : c ≡ firstOf (rowsMay p l o f e₀ r s)) where
-  pub may-table : c ≡ firstOf (rowsMay p l o f (entryOf kind s f 0) r s)
-  may-table = hc ∙ ap (λ (y : ℕ). firstOf (rowsMay p l o f y r s)) hx
+    (hc : c ≡ firstOf (rowsMay kind p l o f e₀ r s)) where
+  pub may-table : c ≡ firstOf (rowsMay kind p l o f (entryOf kind s f 0) r s)
+  may-table = hc ∙ ap (λ (y : ℕ). firstOf (rowsMay kind p l o f y r s)) hx
 
 -- the rows from the answers to their tests
-pub may-by : (p : ℕ) (l : LockList) (o : ℕ) (f : File) (e₀ r : ℕ) (s : List ℕ) (stopped locked : Bool)
-    → stopped ≡ (readOnly s e₀ or eqb (itemAt l o .mode) 2) → locked ≡ lockedByOther l p f r → rowsMayBy o stopped r locked ≡ rowsMay p l o f e₀ r s
+pub may-by : (kind : Kind) (p : ℕ) (l : LockList) (o : ℕ) (f : File) (e₀ r : ℕ) (s : List ℕ) (stopped locked : Bool)
+    → stopped ≡ (readOnly s e₀ or eqb (itemAt l o .mode) 2) → locked ≡ lockedByOther l p f r → rowsMayBy kind o stopped r locked ≡ rowsMay kind p l o f e₀ r s
 unfolding rowsMayBy rowsMay
-may-by p l o f e₀ r s stopped locked hs hl = rw (hs, hl) refl
+may-by kind p l o f e₀ r s stopped locked hs hl = rw (hs, hl) refl
 
-pub may-told : (p : ℕ) (l : LockList) (o : ℕ) (f : File) (e₀ r : ℕ) (s : List ℕ) (stopped locked : Bool) (mode c : ℕ)
-    → mode ≡ itemAt l o .mode → stopped ≡ (readOnly s e₀ or eqb mode 2) → locked ≡ lockedByOther l p f r → c ≡ firstOf (rowsMayBy o stopped r locked)
-    → c ≡ firstOf (rowsMay p l o f e₀ r s)
-may-told p l o f e₀ r s stopped locked mode c hm hs hl hc =
-    hc ∙ ap firstOf (may-by p l o f e₀ r s stopped locked (hs ∙ ap (λ (m : ℕ). readOnly s e₀ or eqb m 2) hm) hl)
+pub may-told : (kind : Kind) (p : ℕ) (l : LockList) (o : ℕ) (f : File) (e₀ r : ℕ) (s : List ℕ) (stopped locked : Bool) (mode c : ℕ)
+    → mode ≡ itemAt l o .mode → stopped ≡ (readOnly s e₀ or eqb mode 2) → locked ≡ lockedByOther l p f r → c ≡ firstOf (rowsMayBy kind o stopped r locked)
+    → c ≡ firstOf (rowsMay kind p l o f e₀ r s)
+may-told kind p l o f e₀ r s stopped locked mode c hm hs hl hc =
+    hc ∙ ap firstOf (may-by kind p l o f e₀ r s stopped locked (hs ∙ ap (λ (m : ℕ). readOnly s e₀ or eqb m 2) hm) hl)
 
 -- the record number is in range
-pub write-number : (o : ℕ) (stopped : Bool) (r : ℕ) (locked : Bool) (c : ℕ) → c ≡ firstOf (rowsMayBy o stopped r locked) → c ≡ 0 → r < 262144
+pub write-number : (kind : Kind) (o : ℕ) (stopped : Bool) (r : ℕ) (locked : Bool) (c : ℕ) → c ≡ firstOf (rowsMayBy kind o stopped r locked) → c ≡ 0 → r < 262144
 unfolding rowsMayBy
-write-number o stopped r locked c hc z =
-    let k = ltb-false highest r (row-off 6 _ _ (λ y. omega arith) (row-rest 1023 _ _ (λ y. omega arith) (row-rest 10 _ _ (λ y. omega arith) (sym hc ∙ z)))) in
+write-number kind o stopped r locked c hc z =
+    let small = top-fits kind in
+    let k = ltb-false (top kind) r (row-off 6 _ _ (λ y. omega arith) (row-rest 1023 _ _ (λ y. omega arith) (row-rest 10 _ _ (λ y. omega arith) (sym hc
+    ∙ z)))) in
     omega arith
 
-pub may-number : (p : ℕ) (l : LockList) (o : ℕ) (f : File) (e₀ r : ℕ) (s : List ℕ) (c : ℕ) → c ≡ firstOf (rowsMay p l o f e₀ r s) → c ≡ 0 → r < 262144
-may-number p l o f e₀ r s c hc z = write-number o _ r _ c (hc ∙ ap firstOf (sym (may-by p l o f e₀ r s _ _ refl refl))) z
+pub may-number : (kind : Kind) (p : ℕ) (l : LockList) (o : ℕ) (f : File) (e₀ r : ℕ) (s : List ℕ) (c : ℕ) → c ≡ firstOf (rowsMay kind p l o f e₀ r s)
+    → c ≡ 0 → r < 262144
+may-number kind p l o f e₀ r s c hc z = write-number kind o _ r _ c (hc ∙ ap firstOf (sym (may-by kind p l o f e₀ r s _ _ refl refl))) z
 
 -- ---- the ends of one record's write
 
 module _ (kind : Kind) (zeros : Bool) (o : ℕ) (stopped locked : Bool) (f : File) (e₀ e r : ℕ) (v s : List ℕ) (c : ℕ) (le : e ≤ entries kind)
-    (hc : c ≡ firstOf (rowsMayBy o stopped r locked)) where
+    (hc : c ≡ firstOf (rowsMayBy kind o stopped r locked)) where
   abbrev may : List Row
-  may = rowsMayBy o stopped r locked
+  may = rowsMayBy kind o stopped r locked
 
   may-real : noneZero may ≡ true
   unfolding rowsMayBy
@@ -123,11 +127,11 @@ module _ (kind : Kind) (zeros : Bool) (o : ℕ) (stopped locked : Bool) (f : Fil
     write-full n = stays d room n
 
     -- written
-    pub write-put : (t : List ℕ) → soundImage kind highest s ≡ true → e ≡ entryOf kind s f (r / 128) → d ≡ 0 → t ≡ written kind zeros w e₀ f r v s
+    pub write-put : (t : List ℕ) → soundImage kind s ≡ true → e ≡ entryOf kind s f (r / 128) → d ≡ 0 → t ≡ written kind zeros w e₀ f r v s
         → OneDid kind zeros o stopped locked f e₀ e r v s 0 (w .entry) t
     write-put t h he y g = record {
       gives = sym y ∙ room;
-      within = let k = room-within kind highest s h f r w e d he hw hd y .entry-within in omega arith;
+      within = let k = room-within kind s h f r w e d he hw hd y .entry-within in omega arith;
       wrote = λ u. g ∙ ap (λ (m : Spot). written kind zeros m e₀ f r v s) hw;
       at = λ u. ap (λ (m : Spot). m .entry) hw;
       kept = λ n. absurd (n refl);
@@ -143,21 +147,21 @@ module _ (kind : Kind) (zeros : Bool) (p : ℕ) (l : LockList) (o : ℕ) (f : Fi
   ended : (code entry : ℕ) (t : List ℕ) (stopped locked : Bool) → stopped ≡ (readOnly (b .image) (entryOf kind (b .image) f 0) or eqb (itemAt l o .mode) 2)
       → locked ≡ lockedByOther l p f r
       → OneDid kind zeros o stopped locked f (entryOf kind (b .image) f 0) (entryOf kind (b .image) f (r / 128)) r (b .dma) (b .image) code entry t
-      → Did (by34 kind zeros p l o f r b) code (b .fcb) (b .dma) (b .list) t
+      → Did (by34 kind zeros p l o f r b) code (withImage b t)
   unfolding by34 rows34 does34
   ended code entry t stopped locked hs hl d =
       let told : code ≡ firstOf rows = d .gives ∙ ap (λ (m : List Row). firstOf (m ++ rowsRoom kind (b .image) (entryOf kind (b .image) f (r / 128)) r))
-      (may-by p l o f (entryOf kind (b .image) f 0) r (b .image) stopped locked hs hl) in
+      (may-by kind p l o f (entryOf kind (b .image) f 0) r (b .image) stopped locked hs hl) in
       ⊎-elim
       (λ (z : code ≡ 0).
-      did-pass rows b _ code told code _ _ _ _ z (record { gives = z; leaves-fcb = refl; leaves-dma = refl; leaves-list = refl; leaves-image = d .wrote z }))
+      did-pass rows b _ code told code _ z (did-left z refl refl refl (d .wrote z)))
       (λ (z : code ≡ 0 → ⊥). rw (d .kept z) (did-refuse rows b _ code told z))
       (equal? code 0)
 
   pub write-ended : (e₀ e : ℕ) (stopped locked : Bool) (mode code entry : ℕ) (t : List ℕ) → e₀ ≡ entryOf kind (b .image) f 0
       → e ≡ entryOf kind (b .image) f (r / 128)
       → mode ≡ itemAt l o .mode → stopped ≡ (readOnly (b .image) e₀ or eqb mode 2) → locked ≡ lockedByOther l p f r
-      → OneDid kind zeros o stopped locked f e₀ e r (b .dma) (b .image) code entry t → Did (by34 kind zeros p l o f r b) code (b .fcb) (b .dma) (b .list) t
+      → OneDid kind zeros o stopped locked f e₀ e r (b .dma) (b .image) code entry t → Did (by34 kind zeros p l o f r b) code (withImage b t)
   write-ended e₀ e stopped locked mode code entry t h₀ he hm hs hl d =
       ended code entry t stopped locked (hs ∙ ap (λ (m : ℕ). readOnly (b .image) e₀ or eqb m 2) hm
       ∙ ap (λ (m : ℕ). readOnly (b .image) m or eqb (itemAt l o .mode) 2) h₀) hl
@@ -165,12 +169,12 @@ module _ (kind : Kind) (zeros : Bool) (p : ℕ) (l : LockList) (o : ℕ) (f : Fi
       (subst (λ (m : ℕ). OneDid kind zeros o stopped locked f m e r (b .dma) (b .image) code entry t) h₀ d))
 
 -- the calls on the buffers
-module _ (kind : Kind) (p c : ℕ) (b : Buffers) (l : LockList) (f : File) (o r a : ℕ) (fcb dma list image : List ℕ) (hl : l ≡ unpack (b .list))
+module _ (kind : Kind) (p c : ℕ) (b : Buffers) (l : LockList) (f : File) (o r a : ℕ) (left : Buffers) (hl : l ≡ unpack (b .list))
     (hf : f ≡ callerFile p l (b .fcb)) (ho : o ≡ openOf l p f) (hr : r ≡ recordOf (b .fcb)) where
-  pub write-called : Did (by34 kind false p l o f r b) a fcb dma list image → Did (served kind (Call Write) p c b) a fcb dma list image
+  pub write-called : Did (by34 kind false p l o f r b) a left → Did (served kind (Call Write) p c b) a left
   unfolding by34 rowsOf effectOf askedBy lookUp
-  write-called d = did-as _ _ a fcb dma list image (served-as kind (Call Write) p c b l f r hl hf hr) (rw ho at d)
+  write-called d = did-as _ _ a left (served-as kind (Call Write) p c b l f r hl hf hr) (rw ho at d)
 
-  pub zeros-called : Did (by34 kind true p l o f r b) a fcb dma list image → Did (served kind (Call WriteZeros) p c b) a fcb dma list image
+  pub zeros-called : Did (by34 kind true p l o f r b) a left → Did (served kind (Call WriteZeros) p c b) a left
   unfolding by34 rowsOf effectOf askedBy lookUp
-  zeros-called d = did-as _ _ a fcb dma list image (served-as kind (Call WriteZeros) p c b l f r hl hf hr) (rw ho at d)
+  zeros-called d = did-as _ _ a left (served-as kind (Call WriteZeros) p c b l f r hl hf hr) (rw ho at d)

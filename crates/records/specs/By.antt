@@ -8,11 +8,11 @@ use lib.Dec.{ltb, eqb}
 use Rattle.words.specs.Tests.{_if_else_}
 use Rattle.words.specs.Bytes.{put}
 use Rattle.words.specs.Tables.{Row, _∕_, _when_, firstOf}
-use Rattle.rules.specs.Kinds.{blockSize, entries}
+use Rattle.rules.specs.Kinds.{blockSize, entries, top}
 use Rattle.rules.specs.declared.file.File.{File}
 use Rattle.rules.specs.declared.list.LockList.{LockList}
 use Rattle.rules.specs.Serves.{Buffers, Outcome}
-use Rattle.rules.specs.Drive.{highest, entryOf, blockIn}
+use Rattle.rules.specs.Drive.{entryOf, blockIn}
 use Rattle.rules.specs.Locks.{isOpened}
 use Rattle.rules.specs.Codes.{rowsRoom, rows33, rows34, rows41}
 use Rattle.rules.specs.Effects.{spotAt, written, contents, does33, does34, does41}
@@ -30,13 +30,13 @@ unfoldable pub readAt : Kind → ℕ → ℕ → ℕ → ℕ → List ℕ → Li
 readAt kind o e r at s dma = put at (contents kind s (blockIn kind s e r) r) dma if eqb (firstOf (rows33 kind o e r s)) 0 else dma
 
 -- the rows that 34, 40 and 41 share, from the answers to their tests
-unfoldable pub rowsMayBy : ℕ → Bool → ℕ → Bool → List Row
-rowsMayBy o stopped r locked =
-    10 ∕ 0 when not (isOpened o) ∷ 255 ∕ 3 when stopped ∷ 6 ∕ 0 when ltb highest r ∷ 8 ∕ 0 when locked ∷ []
+unfoldable pub rowsMayBy : Kind → ℕ → Bool → ℕ → Bool → List Row
+rowsMayBy kind o stopped r locked =
+    10 ∕ 0 when not (isOpened o) ∷ 255 ∕ 3 when stopped ∷ 6 ∕ 0 when ltb (top kind) r ∷ 8 ∕ 0 when locked ∷ []
 
 -- what a write answers and leaves: the code, the entry where the extent then stands, the image
 pub record OneDid (kind : Kind) (zeros : Bool) (o : ℕ) (stopped locked : Bool) (f : File) (e₀ e r : ℕ) (v s : List ℕ) (code entry : ℕ) (t : List ℕ) : Type 0 where
-  pub gives : code ≡ firstOf (rowsMayBy o stopped r locked ++ rowsRoom kind s e r)
+  pub gives : code ≡ firstOf (rowsMayBy kind o stopped r locked ++ rowsRoom kind s e r)
   pub within : entry ≤ entries kind
   pub wrote : code ≡ 0 → t ≡ written kind zeros (spotAt kind s e r) e₀ f r v s
   pub at : code ≡ 0 → entry ≡ spotAt kind s e r .entry

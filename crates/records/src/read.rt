@@ -9,6 +9,7 @@ use rules::code::NOT_OPEN;
 use rules::code::PAST_END;
 use rules::file::File;
 use rules::kind::Kind;
+use rules::kind::is_past;
 use rules::list::LockList;
 ghost use mathlib.Core.Path.{_≡_};
 ghost use Prim.Native.Nat.{_+_, _*_, _≤_, _<_};
@@ -33,7 +34,7 @@ fn read_refusal(kind: Kind, o: usize, e: usize, r: usize, image: &[u8]) -> u32
     if 64 <= o {
         return NOT_OPEN;
     }
-    if 262143 < r {
+    if is_past(kind, r) {
         return PAST_END;
     }
     not_there(kind, image, e, r)
@@ -83,7 +84,7 @@ fn read_by(
     image: &[u8],
 ) -> u32
     requires { ⌜ Ready kind (buffers (now fcb) (now dma) (now list) (now image)) ⌝ }
-    ensures { λ c. ⌜ Did (by33 kind o f r (buffers (now (fcb .entry)) (now (dma .entry)) (now (list .entry)) (now (image .entry)))) c (now (fcb .entry)) (now (dma .exit)) (now (list .entry)) (now (image .entry)) ⌝ }
+    ensures { λ c. ⌜ Did (by33 kind o f r (buffers (now (fcb .entry)) (now (dma .entry)) (now (list .entry)) (now (image .entry)))) c (buffers (now (fcb .entry)) (now (dma .exit)) (now (list .entry)) (now (image .entry))) ⌝ }
 {
     let e = entry_of(kind, image, f, r / 128);
     read_one(kind, o, e, r, dma, 0, image)
@@ -100,7 +101,7 @@ pub fn read_random(
     image: &[u8],
 ) -> u32
     requires { ⌜ (l ≡ unpack (now list)) × Ready kind (buffers (now fcb) (now dma) (now list) (now image)) ⌝ }
-    ensures { λ c. ⌜ Did (served kind (Call Read) p 1 (buffers (now (fcb .entry)) (now (dma .entry)) (now (list .entry)) (now (image .entry)))) c (now (fcb .entry)) (now (dma .exit)) (now (list .entry)) (now (image .entry)) ⌝ }
+    ensures { λ c. ⌜ Did (served kind (Call Read) p 1 (buffers (now (fcb .entry)) (now (dma .entry)) (now (list .entry)) (now (image .entry)))) c (buffers (now (fcb .entry)) (now (dma .exit)) (now (list .entry)) (now (image .entry))) ⌝ }
 {
     let f = caller_file(l, p, fcb);
     let o = l.open_of(p, f);

@@ -35,7 +35,7 @@ fn free_records(kind: Kind, image: &[u8]) -> usize
 // 46 on the buffers.
 pub fn free_space(kind: Kind, p: u8, fcb: &[u8], dma: &mut [u8], list: &[u8], image: &[u8]) -> u32
     requires { ⌜ Ready kind (buffers (now fcb) (now dma) (now list) (now image)) ⌝ }
-    ensures { λ c. ⌜ Did (served kind (Call FreeSpace) p 1 (buffers (now (fcb .entry)) (now (dma .entry)) (now (list .entry)) (now (image .entry)))) c (now (fcb .entry)) (now (dma .exit)) (now (list .entry)) (now (image .entry)) ⌝ }
+    ensures { λ c. ⌜ Did (served kind (Call FreeSpace) p 1 (buffers (now (fcb .entry)) (now (dma .entry)) (now (list .entry)) (now (image .entry)))) c (buffers (now (fcb .entry)) (now (dma .exit)) (now (list .entry)) (now (image .entry))) ⌝ }
 {
     let v = three_bytes(free_records(kind, image));
     put_bytes(dma, 0, &v);

@@ -51,10 +51,10 @@ fn test_by(
     image: &mut [u8],
 ) -> u32
     requires { ⌜ Ready kind (buffers (now fcb) (now dma) (now list) (now image)) ⌝ }
-    ensures { λ c. ⌜ Did (by41 kind p l o f r (buffers (now (fcb .entry)) (now (dma .entry)) (now (list .entry)) (now (image .entry)))) c (now (fcb .entry)) (now (dma .entry)) (now (list .entry)) (now (image .exit)) ⌝ }
+    ensures { λ c. ⌜ Did (by41 kind p l o f r (buffers (now (fcb .entry)) (now (dma .entry)) (now (list .entry)) (now (image .entry)))) c (buffers (now (fcb .entry)) (now (dma .entry)) (now (list .entry)) (now (image .exit))) ⌝ }
 {
     let first = entry_of(kind, &*image, f, 0);
-    let refused = may_write(p, l, o, f, first, r, &*image);
+    let refused = may_write(kind, p, l, o, f, first, r, &*image);
     if refused != 0 {
         return refused;
     }
@@ -84,7 +84,7 @@ pub fn test_write(
     image: &mut [u8],
 ) -> u32
     requires { ⌜ (l ≡ unpack (now list)) × Ready kind (buffers (now fcb) (now dma) (now list) (now image)) ⌝ }
-    ensures { λ c. ⌜ Did (served kind (Call TestWrite) p 1 (buffers (now (fcb .entry)) (now (dma .entry)) (now (list .entry)) (now (image .entry)))) c (now (fcb .entry)) (now (dma .entry)) (now (list .entry)) (now (image .exit)) ⌝ }
+    ensures { λ c. ⌜ Did (served kind (Call TestWrite) p 1 (buffers (now (fcb .entry)) (now (dma .entry)) (now (list .entry)) (now (image .entry)))) c (buffers (now (fcb .entry)) (now (dma .entry)) (now (list .entry)) (now (image .exit))) ⌝ }
 {
     let f = caller_file(l, p, fcb);
     let o = l.open_of(p, f);

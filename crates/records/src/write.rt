@@ -22,7 +22,7 @@ ghost use Rattle.words.specs.Tests.{_and_};
 ghost use Rattle.words.specs.Tables.{firstOf};
 ghost use Rattle.rules.specs.Kinds.{most, entries};
 ghost use Rattle.rules.specs.Serves.{Did, buffers};
-ghost use Rattle.rules.specs.Drive.{highest, blocks, entryOf, soundImage};
+ghost use Rattle.rules.specs.Drive.{blocks, entryOf, soundImage};
 ghost use Rattle.rules.specs.Effects.{spotAt};
 ghost use Rattle.rules.specs.Codes.{rowsRoom};
 ghost use Rattle.rules.specs.Locks.{unpack};
@@ -85,10 +85,10 @@ pub fn write_one(
     v: &[u8],
     image: &mut [u8],
 ) -> Wrote
-    requires { ⌜ (128 ≤ length (now v)) × (32 * entries kind + 32 ≤ length (now image)) × (blocks kind (now image) ≤ most kind) × (first ≤ entries kind) × (e ≤ entries kind) × (soundImage kind highest (now image) ≡ true) × (e ≡ entryOf kind (now image) f (r / 128)) ⌝ }
+    requires { ⌜ (128 ≤ length (now v)) × (32 * entries kind + 32 ≤ length (now image)) × (blocks kind (now image) ≤ most kind) × (first ≤ entries kind) × (e ≤ entries kind) × (soundImage kind (now image) ≡ true) × (e ≡ entryOf kind (now image) f (r / 128)) ⌝ }
     ensures { λ d. ⌜ OneDid kind zeros o stopped locked f first e r (now (v .entry)) (now (image .entry)) (d .code) (d .entry) (now (image .exit)) ⌝ }
 {
-    let refused = may_write_by(o, stopped, r, locked);
+    let refused = may_write_by(kind, o, stopped, r, locked);
     if refused != 0 {
         return Wrote {
             code: refused,
@@ -126,7 +126,7 @@ fn write_by(
     image: &mut [u8],
 ) -> u32
     requires { ⌜ Ready kind (buffers (now fcb) (now dma) (now list) (now image)) ⌝ }
-    ensures { λ c. ⌜ Did (by34 kind zeros p l o f r (buffers (now (fcb .entry)) (now (dma .entry)) (now (list .entry)) (now (image .entry)))) c (now (fcb .entry)) (now (dma .entry)) (now (list .entry)) (now (image .exit)) ⌝ }
+    ensures { λ c. ⌜ Did (by34 kind zeros p l o f r (buffers (now (fcb .entry)) (now (dma .entry)) (now (list .entry)) (now (image .entry)))) c (buffers (now (fcb .entry)) (now (dma .entry)) (now (list .entry)) (now (image .exit))) ⌝ }
 {
     let first = entry_of(kind, &*image, f, 0);
     let e = entry_of(kind, &*image, f, r as usize / 128);
@@ -147,7 +147,7 @@ pub fn write_random(
     image: &mut [u8],
 ) -> u32
     requires { ⌜ (l ≡ unpack (now list)) × Ready kind (buffers (now fcb) (now dma) (now list) (now image)) ⌝ }
-    ensures { λ c. ⌜ Did (served kind (Call Write) p 1 (buffers (now (fcb .entry)) (now (dma .entry)) (now (list .entry)) (now (image .entry)))) c (now (fcb .entry)) (now (dma .entry)) (now (list .entry)) (now (image .exit)) ⌝ }
+    ensures { λ c. ⌜ Did (served kind (Call Write) p 1 (buffers (now (fcb .entry)) (now (dma .entry)) (now (list .entry)) (now (image .entry)))) c (buffers (now (fcb .entry)) (now (dma .entry)) (now (list .entry)) (now (image .exit))) ⌝ }
 {
     let f = caller_file(l, p, fcb);
     let o = l.open_of(p, f);
@@ -166,7 +166,7 @@ pub fn write_zero_fill(
     image: &mut [u8],
 ) -> u32
     requires { ⌜ (l ≡ unpack (now list)) × Ready kind (buffers (now fcb) (now dma) (now list) (now image)) ⌝ }
-    ensures { λ c. ⌜ Did (served kind (Call WriteZeros) p 1 (buffers (now (fcb .entry)) (now (dma .entry)) (now (list .entry)) (now (image .entry)))) c (now (fcb .entry)) (now (dma .entry)) (now (list .entry)) (now (image .exit)) ⌝ }
+    ensures { λ c. ⌜ Did (served kind (Call WriteZeros) p 1 (buffers (now (fcb .entry)) (now (dma .entry)) (now (list .entry)) (now (image .entry)))) c (buffers (now (fcb .entry)) (now (dma .entry)) (now (list .entry)) (now (image .exit))) ⌝ }
 {
     let f = caller_file(l, p, fcb);
     let o = l.open_of(p, f);

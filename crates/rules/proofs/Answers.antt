@@ -6,14 +6,17 @@ use native.Mathlib.Omega.{arith}
 use lib.Dec.{eqb}
 use Rattle.words.specs.Tests.{_if_else_}
 use Rattle.words.specs.Bytes.{byte}
+use Rattle.rules.specs.declared.kind.Kind.{Kind}
+use Rattle.rules.specs.declared.kind.Kind.the-variants.{Small, Large}
 use Rattle.rules.specs.declared.answer.ImageAnswer.{ImageAnswer}
 use Rattle.rules.specs.declared.answer.ImageAnswer.the-variants.{Sound, WrongLength, UnsoundDirectory}
 use Rattle.rules.specs.declared.routine.Routine.{Routine}
 use Rattle.rules.specs.declared.routine.Routine.the-variants.{Open, Close, Delete, Make, Rename, Read, Write, WriteZeros, TestWrite, Lock, Unlock, FreeSpace, Terminate}
 use Rattle.rules.specs.declared.routine.Chosen.the-variants.{Call}
 use Rattle.rules.specs.Serves.{functionOf, chosen}
-use Rattle.rules.specs.Drive.{highest, imageNumber}
+use Rattle.rules.specs.Drive.{imageNumber}
 use Rattle.rules.specs.Asks.{recordOf}
+use Rattle.rules.specs.Kinds.{top}
 
 -- the answer that a number of the image check says
 answered : ℕ → ImageAnswer
@@ -51,10 +54,12 @@ function-told j k h = let e : Call j ≡ Call k = sym (chosen-back j) ∙ ap cho
 
 -- 6/0: of bytes, the record number is 262,144 or more where byte 35 is above 3
 module _ (fcb : List ℕ) (low : byte fcb 33 < 256) (mid : byte fcb 34 < 256) where
-  pub past-byte : highest < recordOf fcb → 3 < byte fcb 35
-  unfolding recordOf
-  past-byte h = omega arith
+  pub past-byte : (kind : Kind) → top kind < recordOf fcb → 3 < byte fcb 35
+  unfolding recordOf top
+  past-byte Small h = omega arith
+  past-byte Large h = omega arith
 
-  pub byte-past : 3 < byte fcb 35 → highest < recordOf fcb
-  unfolding recordOf
-  byte-past h = omega arith
+  pub byte-past : (kind : Kind) → 3 < byte fcb 35 → top kind < recordOf fcb
+  unfolding recordOf top
+  byte-past Small h = omega arith
+  byte-past Large h = omega arith

@@ -14,9 +14,9 @@ use Rattle.words.proofs.Tests.{and-fst, and-snd, all-ext}
 use Rattle.words.proofs.Lists.{tab-ext}
 use Rattle.words.proofs.Sets.{and-both, not-of-false}
 use Rattle.rules.specs.declared.kind.Kind.{Kind}
-use Rattle.rules.specs.Kinds.{numbers}
+use Rattle.rules.specs.Kinds.{numbers, top}
 use Rattle.rules.specs.declared.file.File.{File}
-use Rattle.rules.specs.Drive.{highest, goodLength, blocks, isEmpty, userByte, nameAt, extentAt, mapNumber, sameLow, isNamed, fileFrom, fileAt, isOf, legalByte, legalAt, legalName, goodUser, goodNumbers, goodFields}
+use Rattle.rules.specs.Drive.{goodLength, blocks, isEmpty, userByte, nameAt, extentAt, mapNumber, sameLow, isNamed, fileFrom, fileAt, isOf, legalByte, legalAt, legalName, goodUser, goodNumbers, goodFields}
 use Rattle.rules.proofs.Sound.{Is, Names, named-is, named-so}
 use Rattle.rules.proofs.Sizes.{map-bytes}
 
@@ -78,9 +78,9 @@ module _ (s : List ℕ) (e : ℕ) (t : List ℕ) (d : ℕ) (h : Head s e t d) wh
         all-ext (legalAt t (nameAt d)) (legalAt s (nameAt e)) 11 (λ k l. ap (λ (b : ℕ). legalByte b) (name-byte k l)),
       )
 
-  pub fields-so : byte t (32 * d + 15) ≤ 128 → goodFields highest s e ≡ true → goodFields highest t d ≡ true
+  pub fields-so : (kind : Kind) → byte t (32 * d + 15) ≤ 128 → goodFields kind s e ≡ true → goodFields kind t d ≡ true
   unfolding goodFields goodUser goodNumbers
-  fields-so c g =
+  fields-so kind c g =
       let n = and-snd _ _ (and-snd _ _ g) in
       and-both _ _ (rw first (and-fst _ _ g))
       (and-both _ _ (legal-same ∙ and-fst _ _ (and-snd _ _ g))
@@ -96,16 +96,16 @@ module _ (s : List ℕ) (e : ℕ) (t : List ℕ) (d : ℕ) (h : Head s e t d) wh
         all-ext (sameLow t (nameAt d) (f .name)) (sameLow s (nameAt e) (f .name)) 11 (λ k l. ap (λ (b : ℕ). eqb (b % 128) (byte (f .name) k)) (name-byte k l)),
       )
 
-pub count-good : (s : List ℕ) (e : ℕ) → goodFields highest s e ≡ true → byte s (32 * e + 15) ≤ 128
+pub count-good : (kind : Kind) (s : List ℕ) (e : ℕ) → goodFields kind s e ≡ true → byte s (32 * e + 15) ≤ 128
 unfolding goodFields goodNumbers
-count-good s e g = leb-true _ _ (and-snd _ _ (and-snd _ _ (and-snd _ _ (and-snd _ _ g))))
+count-good kind s e g = leb-true _ _ (and-snd _ _ (and-snd _ _ (and-snd _ _ (and-snd _ _ g))))
 
-pub user-good : (s : List ℕ) (e : ℕ) → goodFields highest s e ≡ true → userByte s e ≤ 15
+pub user-good : (kind : Kind) (s : List ℕ) (e : ℕ) → goodFields kind s e ≡ true → userByte s e ≤ 15
 unfolding goodFields goodUser
-user-good s e g = leb-true _ _ (and-fst _ _ g)
+user-good kind s e g = leb-true _ _ (and-fst _ _ g)
 
-pub fields-same : (s : List ℕ) (e : ℕ) (t : List ℕ) (d : ℕ) → Same s e t d → goodFields highest s e ≡ true → goodFields highest t d ≡ true
-fields-same s e t d h g = fields-so s e t d (head-of s e t d h) (rw (h .at 15 (omega arith)) (count-good s e g)) g
+pub fields-same : (kind : Kind) (s : List ℕ) (e : ℕ) (t : List ℕ) (d : ℕ) → Same s e t d → goodFields kind s e ≡ true → goodFields kind t d ≡ true
+fields-same kind s e t d h g = fields-so s e t d (head-of s e t d h) kind (rw (h .at 15 (omega arith)) (count-good kind s e g)) g
 
 pub is-same : (s t : List ℕ) (f : File) (x e : ℕ) → Head s e t e → Is s f x e → Is t f x e
 is-same s t f x e h g = record {

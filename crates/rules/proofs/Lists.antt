@@ -208,10 +208,10 @@ one-share (suc (suc zero)) q h g = total-ext (λ (p : ℕ). 0 + (1 if eqb q p el
     ∙ rw (lt-ltb q 16 (g refl))
 one-share (suc (suc (suc k))) q h g = absurd (omega arith)
 
-module _ (kind : Kind) (top : ℕ) (l : LockList) (s : List ℕ) (h : soundLocks kind top l s ≡ true) where
-  sound-place : (i : ℕ) → i < 64 → goodPlace kind top s l i ≡ true
+module _ (kind : Kind) (l : LockList) (s : List ℕ) (h : soundLocks kind l s ≡ true) where
+  sound-place : (i : ℕ) → i < 64 → goodPlace kind s l i ≡ true
   unfolding soundLocks
-  sound-place i m = all-at (goodPlace kind top s l) 64 i (and-fst _ _ (and-snd _ _ (and-snd _ _ (and-snd _ _ (and-snd _ _ h))))) m
+  sound-place i m = all-at (goodPlace kind s l) 64 i (and-fst _ _ (and-snd _ _ (and-snd _ _ (and-snd _ _ (and-snd _ _ h))))) m
 
   used-place : (i : ℕ) → i < 64 → eqb (itemAt l i .kind) 0 ≡ false → (itemAt l i .kind ≤ 2) × (itemAt l i .process ≤ 15)
   unfolding goodPlace goodItem _if_else_

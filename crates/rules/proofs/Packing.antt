@@ -162,13 +162,13 @@ unfolding unpack
 unpack-at list i l = tab-at (itemIn list) 64 i blank l
 
 -- every sound list of 1,299 bytes, each below 256
-module _ (kind : Kind) (top : ℕ) (list s : List ℕ) (long : length list ≡ 1299) (small : (i : ℕ) → byte list i < 256)
-    (h : soundList kind top list s ≡ true) where
-  place-good : (i : ℕ) → i < 64 → goodPlace kind top s (unpack list) i ≡ true
+module _ (kind : Kind) (list s : List ℕ) (long : length list ≡ 1299) (small : (i : ℕ) → byte list i < 256)
+    (h : soundList kind list s ≡ true) where
+  place-good : (i : ℕ) → i < 64 → goodPlace kind s (unpack list) i ≡ true
   unfolding soundList soundLocks
   place-good i l =
       let k = and-snd (all (zeroAt list) 64) _ h in
-      all-at (goodPlace kind top s (unpack list)) 64 i
+      all-at (goodPlace kind s (unpack list)) 64 i
       (and-fst _ _ (and-snd _ _ (and-snd _ _ (and-snd _ _ (and-snd _ _ k))))) l
 
   kind-fits : (i : ℕ) → i < 64 → itemAt (unpack list) i .kind < 3

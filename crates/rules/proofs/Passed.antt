@@ -9,7 +9,7 @@ use Rattle.words.specs.Tables.{anyRow}
 use Rattle.words.proofs.Tests.{or-fst, or-snd}
 use Rattle.words.proofs.Sets.{or-none}
 use Rattle.rules.specs.Serves.{Buffers, chosen, isUnknown, fcbSize, dmaSize, listSize}
-use Rattle.rules.specs.Drive.{highest, soundImage}
+use Rattle.rules.specs.Drive.{soundImage}
 use Rattle.rules.specs.Locks.{soundList}
 use Rattle.rules.specs.Codes.{badNumbers, badDrive, rowsInside, rowsAll}
 use Rattle.rules.specs.Call.{Ready}
@@ -62,10 +62,10 @@ pub record Passed (kind : Kind) (p c : ℕ) (b : Buffers) : Type 0 where
   pub ready : Ready kind b
 
 -- the image's length follows from its soundness
-pub ready-of : (kind : Kind) (n p c : ℕ) (b : Buffers) → GoodNumbers n p c (b .fcb) (b .dma) (b .list) → soundImage kind highest (b .image) ≡ true
-    → soundList kind highest (b .list) (b .image) ≡ true → Ready kind b
+pub ready-of : (kind : Kind) (n p c : ℕ) (b : Buffers) → GoodNumbers n p c (b .fcb) (b .dma) (b .list) → soundImage kind (b .image) ≡ true
+    → soundList kind (b .list) (b .image) ≡ true → Ready kind b
 ready-of kind n p c b g image list =
-    let w = sound-length kind highest (b .image) image in
+    let w = sound-length kind (b .image) image in
     record {
       fcb-long = g .fcb-long;
       dma-long = g .dma-long;

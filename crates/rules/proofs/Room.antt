@@ -17,7 +17,7 @@ use Rattle.rules.specs.declared.kind.Kind.{Kind}
 use Rattle.rules.specs.Kinds.{blockSize, most, entries}
 use Rattle.rules.specs.declared.file.File.{File}
 use Rattle.rules.specs.declared.spot.Spot.{Spot}
-use Rattle.rules.specs.Drive.{highest, blocks, entryOf, blockIn, blockOf, freeEntry, freeBlock, recordAt, soundImage}
+use Rattle.rules.specs.Drive.{blocks, entryOf, blockIn, blockOf, freeEntry, freeBlock, recordAt, soundImage}
 use Rattle.rules.specs.Codes.{rowsRoom, rowsThere, rows33}
 use Rattle.rules.specs.Effects.{spotAt, contents}
 use Rattle.rules.proofs.Sound.{sound-length, length-whole, length-few, block-within}
@@ -29,16 +29,16 @@ pub record Within (kind : Kind) (w : Spot) (s : List ℕ) : Type 0 where
   pub block-fits : w .block < 65536
   pub block-inside : blockSize kind * w .block + blockSize kind ≤ length s
 
-module _ (kind : Kind) (top : ℕ) (s : List ℕ) (h : soundImage kind top s ≡ true) where
+module _ (kind : Kind) (s : List ℕ) (h : soundImage kind s ≡ true) where
   missing-none : (e r : ℕ) → leb (entries kind) e ≡ true → eqb (blockIn kind s e r) 0 ≡ true
   unfolding blockIn _if_else_
   missing-none e r q = rw q
 
   few : blocks kind s ≤ most kind
-  few = length-few kind s (sound-length kind top s h)
+  few = length-few kind s (sound-length kind s h)
 
   whole : blockSize kind * blocks kind s ≡ length s
-  whole = length-whole kind s (sound-length kind top s h)
+  whole = length-whole kind s (sound-length kind s h)
 
   inside : (w : Spot) → w .entry < entries kind → w .block < blocks kind s → Within kind w s
   inside w e b = record {
@@ -51,7 +51,7 @@ module _ (kind : Kind) (top : ℕ) (s : List ℕ) (h : soundImage kind top s ≡
     own : leb (entries kind) (entryOf kind s f (r / 128)) ≡ false → eqb (blockIn kind s (entryOf kind s f (r / 128)) r) 0 ≡ false
         → Within kind (record { entry = entryOf kind s f (r / 128); fresh = false; block = blockIn kind s (entryOf kind s f (r / 128)) r; taken = false }) s
     unfolding blockOf
-    own q z = inside _ (leb-false _ _ q) (block-within kind top s f r (eqb-false _ _ z) h .1)
+    own q z = inside _ (leb-false _ _ q) (block-within kind s f r (eqb-false _ _ z) h .1)
 
     found : (leb (entries kind) (entryOf kind s f (r / 128)) and leb (entries kind) (freeEntry kind s)) ≡ false
         → (eqb (blockIn kind s (entryOf kind s f (r / 128)) r) 0 and leb (blocks kind s) (freeBlock kind s)) ≡ false
@@ -92,18 +92,18 @@ module _ (kind : Kind) (top : ℕ) (s : List ℕ) (h : soundImage kind top s ≡
 -- ---- a record that is read
 
 -- a record that passes the rows for one that is to be there: its block lies in the image
-pub there-room : (kind : Kind) (s : List ℕ) (f : File) (r e c k : ℕ) → soundImage kind highest s ≡ true → e ≡ entryOf kind s f (r / 128)
+pub there-room : (kind : Kind) (s : List ℕ) (f : File) (r e c k : ℕ) → soundImage kind s ≡ true → e ≡ entryOf kind s f (r / 128)
     → c ≡ firstOf (rowsThere kind s e r) → c ≡ 0 → k ≡ blockIn kind s e r → blockSize kind * k + blockSize kind ≤ length s
 unfolding rowsThere blockOf
 there-room kind s f r e c k h he hc z hk =
     let rows : firstOf (rowsThere kind s (entryOf kind s f (r / 128)) r) ≡ 0 = ap (λ (d : ℕ). firstOf (rowsThere kind s d r)) (sym he) ∙ sym hc ∙ z in
     let some = eqb-false _ _ (row-off 1 _ _ (λ y. omega arith) (row-rest 4 _ _ (λ y. omega arith) rows)) in
-    let b : blockOf kind s f r < blocks kind s = block-within kind highest s f r some h .1 in
+    let b : blockOf kind s f r < blocks kind s = block-within kind s f r some h .1 in
     let q : k ≡ blockOf kind s f r = hk ∙ ap (λ (d : ℕ). blockIn kind s d r) he in
-    rw (← length-whole kind s (sound-length kind highest s h), q) (block-inside kind (blockOf kind s f r) (blocks kind s) b)
+    rw (← length-whole kind s (sound-length kind s h), q) (block-inside kind (blockOf kind s f r) (blocks kind s) b)
 
 -- the same of one that passes the rows of 33
-pub read-room : (kind : Kind) (o : ℕ) (s : List ℕ) (f : File) (r e c k : ℕ) → soundImage kind highest s ≡ true → e ≡ entryOf kind s f (r / 128)
+pub read-room : (kind : Kind) (o : ℕ) (s : List ℕ) (f : File) (r e c k : ℕ) → soundImage kind s ≡ true → e ≡ entryOf kind s f (r / 128)
     → c ≡ firstOf (rows33 kind o e r s) → c ≡ 0 → k ≡ blockIn kind s e r → blockSize kind * k + blockSize kind ≤ length s
 unfolding rows33
 read-room kind o s f r e c k h he hc z hk =

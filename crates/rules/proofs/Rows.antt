@@ -13,8 +13,8 @@ use Rattle.rules.specs.declared.kind.Kind.{Kind}
 use Rattle.rules.specs.declared.file.File.{File}
 use Rattle.rules.specs.declared.file.Found.{Found}
 use Rattle.rules.specs.declared.list.LockList.{LockList}
-use Rattle.rules.specs.Kinds.{entries}
-use Rattle.rules.specs.Drive.{highest, recordSize, legalName, missing, noEntry, readOnly, freeEntry, freeBlock, blocks, blockIn, blockOf, recordAt}
+use Rattle.rules.specs.Kinds.{entries, top}
+use Rattle.rules.specs.Drive.{recordSize, legalName, missing, noEntry, readOnly, freeEntry, freeBlock, blocks, blockIn, blockOf, recordAt}
 use Rattle.rules.specs.Locks.{places, itemAt, modeUnlocked, modeReadOnly, isOpened, lockedByOther, opensBy, locksBy, freePlace, freePlaces}
 use Rattle.rules.specs.Asks.{openMode, lastOf}
 use Rattle.rules.specs.Codes.{standsAgainstAt, rowsNew, rows15, rows16, stopsDelete, rows19, rows22, stopsRename, rows23, rowsThere, rows33, rowsMay, rowsRoom, rows34, differs, rowsDiffer, rows41, isFileId, rowsRun, lacks, firstLacking, rowsLacking, isOthers, isNew, rowsTake, rows42}
@@ -55,7 +55,8 @@ passes-new p l f fcb h =
     let limit = or-snd _ _ h in
     record { none-against = or-fst _ _ h; within = leb-false _ _ (or-fst _ _ limit); room = leb-false _ _ (or-fst _ _ (or-snd _ _ limit)) }
 
-pub passes-15 : (kind : Kind) (p : ℕ) (l : LockList) (o : ℕ) (f : File) (x : Found) (fcb : List ℕ) → anyRow (rows15 kind p l o f x fcb) ≡ false → Passes15 kind p l o f x fcb
+pub passes-15 : (kind : Kind) (p : ℕ) (l : LockList) (o : ℕ) (f : File) (x : Found) (fcb : List ℕ) → anyRow (rows15 kind p l o f x fcb) ≡ false
+    → Passes15 kind p l o f x fcb
 unfolding rows15 missing anyRow
 passes-15 kind p l o f x fcb h =
     let file = or-snd _ _ h in
@@ -129,7 +130,8 @@ pub record Passes23 (kind : Kind) (l : LockList) (f : File) (x y : Found) (fcb s
   pub writable : readOnly s (x .entry) ≡ false
   pub gone-new : entries kind ≤ y .entry
 
-pub passes-23 : (kind : Kind) (l : LockList) (f : File) (x y : Found) (fcb s : List ℕ) → anyRow (rows23 kind l f x y fcb s) ≡ false → Passes23 kind l f x y fcb s
+pub passes-23 : (kind : Kind) (l : LockList) (f : File) (x y : Found) (fcb s : List ℕ) → anyRow (rows23 kind l f x y fcb s) ≡ false
+    → Passes23 kind l f x y fcb s
 unfolding rows23 missing anyRow
 passes-23 kind l f x y fcb s h =
     let file = or-snd _ _ h in
@@ -157,35 +159,36 @@ passes-there kind s e r h = record { extent = leb-false _ _ (or-fst _ _ h); bloc
 
 pub record Passes33 (kind : Kind) (o e r : ℕ) (s : List ℕ) : Type 0 where
   pub is-open : o < places
-  pub fits : r ≤ highest
+  pub fits : r ≤ top kind
   pub there : PassesThere kind s e r
 
 pub passes-33 : (kind : Kind) (o e r : ℕ) (s : List ℕ) → anyRow (rows33 kind o e r s) ≡ false → Passes33 kind o e r s
 unfolding rows33 anyRow
 passes-33 kind o e r s h =
     let end = or-snd _ _ h in
-    record { is-open = opened-so o (or-fst _ _ h); fits = ltb-false highest r (or-fst _ _ end); there = passes-there kind s e r (or-snd _ _ end) }
+    record { is-open = opened-so o (or-fst _ _ h); fits = ltb-false (top kind) r (or-fst _ _ end); there = passes-there kind s e r (or-snd _ _ end) }
 
 -- ---- 34, 40
 
 -- the caller may write the record
-pub record PassesMay (p : ℕ) (l : LockList) (o : ℕ) (f : File) (e₀ r : ℕ) (s : List ℕ) : Type 0 where
+pub record PassesMay (kind : Kind) (p : ℕ) (l : LockList) (o : ℕ) (f : File) (e₀ r : ℕ) (s : List ℕ) : Type 0 where
   pub is-open : o < places
   pub writable : readOnly s e₀ ≡ false
   pub not-reading : itemAt l o .mode ≡ modeReadOnly → ⊥
-  pub fits : r ≤ highest
+  pub fits : r ≤ top kind
   pub none-others : lockedByOther l p f r ≡ false
 
-passes-may : (p : ℕ) (l : LockList) (o : ℕ) (f : File) (e₀ r : ℕ) (s : List ℕ) → anyRow (rowsMay p l o f e₀ r s) ≡ false → PassesMay p l o f e₀ r s
+passes-may : (kind : Kind) (p : ℕ) (l : LockList) (o : ℕ) (f : File) (e₀ r : ℕ) (s : List ℕ) → anyRow (rowsMay kind p l o f e₀ r s) ≡ false
+    → PassesMay kind p l o f e₀ r s
 unfolding rowsMay anyRow
-passes-may p l o f e₀ r s h =
+passes-may kind p l o f e₀ r s h =
     let reading = or-snd _ _ h in
     let end = or-snd _ _ reading in
     record {
       is-open = opened-so o (or-fst _ _ h);
       writable = or-fst _ _ (or-fst _ _ reading);
       not-reading = eqb-false _ _ (or-snd _ _ (or-fst _ _ reading));
-      fits = ltb-false highest r (or-fst _ _ end);
+      fits = ltb-false (top kind) r (or-fst _ _ end);
       none-others = or-fst _ _ (or-snd _ _ end);
     }
 
@@ -199,19 +202,20 @@ unfolding rowsRoom anyRow
 passes-room kind s e r h = record { entry-room = or-fst _ _ h; block-room = or-fst _ _ (or-snd _ _ h) }
 
 pub record Passes34 (kind : Kind) (p : ℕ) (l : LockList) (o : ℕ) (f : File) (e₀ e r : ℕ) (s : List ℕ) : Type 0 where
-  pub may : PassesMay p l o f e₀ r s
+  pub may : PassesMay kind p l o f e₀ r s
   pub room : PassesRoom kind s e r
 
-pub passes-34 : (kind : Kind) (p : ℕ) (l : LockList) (o : ℕ) (f : File) (e₀ e r : ℕ) (s : List ℕ) → anyRow (rows34 kind p l o f e₀ e r s) ≡ false → Passes34 kind p l o f e₀ e r s
+pub passes-34 : (kind : Kind) (p : ℕ) (l : LockList) (o : ℕ) (f : File) (e₀ e r : ℕ) (s : List ℕ) → anyRow (rows34 kind p l o f e₀ e r s) ≡ false
+    → Passes34 kind p l o f e₀ e r s
 unfolding rows34
 passes-34 kind p l o f e₀ e r s h =
-    let g = any-append (rowsMay p l o f e₀ r s) (rowsRoom kind s e r) h in
-    record { may = passes-may p l o f e₀ r s (g .0); room = passes-room kind s e r (g .1) }
+    let g = any-append (rowsMay kind p l o f e₀ r s) (rowsRoom kind s e r) h in
+    record { may = passes-may kind p l o f e₀ r s (g .0); room = passes-room kind s e r (g .1) }
 
 -- ---- 41
 
 pub record Passes41 (kind : Kind) (p : ℕ) (l : LockList) (o : ℕ) (f : File) (e₀ e r : ℕ) (dma s : List ℕ) : Type 0 where
-  pub may : PassesMay p l o f e₀ r s
+  pub may : PassesMay kind p l o f e₀ r s
   pub there : PassesThere kind s e r
   pub same : any (differs dma s (recordAt kind (blockIn kind s e r) r)) recordSize ≡ false
 
@@ -220,33 +224,34 @@ pub passes-41 : (kind : Kind) (p : ℕ) (l : LockList) (o : ℕ) (f : File) (e�
 unfolding rows41 rowsDiffer anyRow
 passes-41 kind p l o f e₀ e r dma s h =
     let differ = rowsDiffer kind dma s (blockIn kind s e r) r in
-    let g = any-append (rowsMay p l o f e₀ r s) (rowsThere kind s e r ++ differ) h in
+    let g = any-append (rowsMay kind p l o f e₀ r s) (rowsThere kind s e r ++ differ) h in
     let k = any-append (rowsThere kind s e r) differ (g .1) in
-    record { may = passes-may p l o f e₀ r s (g .0); there = passes-there kind s e r (k .0); same = or-fst _ _ (k .1) }
+    record { may = passes-may kind p l o f e₀ r s (g .0); there = passes-there kind s e r (k .0); same = or-fst _ _ (k .1) }
 
 -- ---- 42, 43
 
 -- in unlocked mode
-pub record PassesRun (o r n : ℕ) (dma : List ℕ) (more : List Row) : Type 0 where
+pub record PassesRun (kind : Kind) (o r n : ℕ) (dma : List ℕ) (more : List Row) : Type 0 where
   pub is-id : isFileId dma o ≡ true
-  pub fits : lastOf r n ≤ highest
+  pub fits : lastOf r n ≤ top kind
   pub rest : anyRow more ≡ false
 
-pub run-open : (l : LockList) (o r n : ℕ) (dma : List ℕ) (more : List Row) → anyRow (rowsRun l o r n dma more) ≡ false → o < places
+pub run-open : (kind : Kind) (l : LockList) (o r n : ℕ) (dma : List ℕ) (more : List Row) → anyRow (rowsRun kind l o r n dma more) ≡ false → o < places
 unfolding rowsRun anyRow
-run-open l o r n dma more h = opened-so o (or-fst _ _ h)
+run-open kind l o r n dma more h = opened-so o (or-fst _ _ h)
 
-pub passes-run : (l : LockList) (o r n : ℕ) (dma : List ℕ) (more : List Row) → itemAt l o .mode ≡ modeUnlocked → anyRow (rowsRun l o r n dma more) ≡ false
-    → PassesRun o r n dma more
+pub passes-run : (kind : Kind) (l : LockList) (o r n : ℕ) (dma : List ℕ) (more : List Row) → itemAt l o .mode ≡ modeUnlocked
+    → anyRow (rowsRun kind l o r n dma more) ≡ false
+    → PassesRun kind o r n dma more
 unfolding rowsRun anyRow
-passes-run l o r n dma more m h =
+passes-run kind l o r n dma more m h =
     let id = any-only (eqb (itemAt l o .mode) modeUnlocked) _ (eq-eqb _ _ m) (or-snd _ _ h) in
     let end = or-snd _ _ id in
-    record { is-id = not-false _ (or-fst _ _ id); fits = ltb-false highest _ (or-fst _ _ end); rest = or-snd _ _ end }
+    record { is-id = not-false _ (or-fst _ _ id); fits = ltb-false (top kind) _ (or-fst _ _ end); rest = or-snd _ _ end }
 
 pub record Passes42 (kind : Kind) (p : ℕ) (l : LockList) (o : ℕ) (f : File) (r n : ℕ) (dma s : List ℕ) : Type 0 where
   pub is-id : isFileId dma o ≡ true
-  pub fits : lastOf r n ≤ highest
+  pub fits : lastOf r n ≤ top kind
   pub have-blocks : (k : ℕ) → k < n → blockOf kind s f (r + k) ≡ 0 → ⊥
   pub none-others : (k : ℕ) → k < n → lockedByOther l p f (r + k) ≡ false
   pub within : locksBy l p + n ≤ l .locklimit
@@ -257,7 +262,7 @@ pub passes-42 : (kind : Kind) (p : ℕ) (l : LockList) (o : ℕ) (f : File) (r n
 unfolding rows42 rowsLacking rowsTake anyRow firstLacking lacks isOthers
 passes-42 kind p l o f r n dma s m h =
     let lacking = rowsLacking kind s f r n (firstLacking kind s f r n) in
-    let w = passes-run l o r n dma (lacking ++ rowsTake p l f r n) m h in
+    let w = passes-run kind l o r n dma (lacking ++ rowsTake p l f r n) m h in
     let g = any-append lacking (rowsTake p l f r n) (w .rest) in
     let none : ltb (lowest (lacks kind s f r) n) n ≡ false = or-fst _ _ (or-snd _ _ (g .0)) in
     let limit = or-snd _ _ (g .1) in

@@ -23,7 +23,7 @@ use Rattle.rules.specs.declared.routine.Routine.the-variants.{Read, Writ
 use Rattle.rules.specs.declared.routine.Chosen.{Chosen}
 use Rattle.rules.specs.declared.routine.Chosen.the-variants.{Call}
 use Rattle.rules.specs.Serves.{Buffers, chosen, isUnknown}
-use Rattle.rules.specs.Drive.{highest, fileFrom}
+use Rattle.rules.specs.Drive.{fileFrom}
 use Rattle.rules.specs.Locks.{unpack, userOf}
 use Rattle.rules.specs.Asks.{callerFile, recordOf}
 use Rattle.rules.specs.Codes.{badNumbers, badDrive, rowsInside, rowsAll, rows33, rows34, rowsMay}
@@ -32,6 +32,7 @@ use Rattle.rules.specs.Several.{servesRun, threeOf, fcbAt, dmaAt, single
 use Rattle.rules.proofs.Tables.{nonzero-all, accepts, call-served}
 use Rattle.rules.proofs.Passed.{numbers-good}
 use Rattle.rules.specs.declared.kind.Kind.{Kind}
+use Rattle.rules.specs.Kinds.{top}
 
 -- ---- the three functions
 
@@ -130,20 +131,22 @@ asked-single kind i p b long =
     ∙ ap (λ (r : ℕ). askedBy kind p 1 (unpack (b .list)) (callerFile p (unpack (b .list)) (b .fcb)) r (b .image)) (fcb-number i (b .fcb) long)
 
 -- a record that is done is not past the end
-end-of : (k : Chosen) → Runs k → (a : Asked) (b : Buffers) → firstOf (rowsOf k a b) ≡ 0 → a .recordNumber ≤ highest
+end-of : (k : Chosen) → Runs k → (a : Asked) (b : Buffers) → firstOf (rowsOf k a b) ≡ 0 → a .recordNumber ≤ top (a .kind)
 unfolding rowsOf rows33 rows34 rowsMay
-end-of k isRead a b z = ltb-false highest _ (row-off 6 _ _ (λ y. omega arith) (row-rest 10 _ _ (λ y. omega arith) z))
-end-of k isWrite a b z = ltb-false highest _ (row-off 6 _ _ (λ y. omega arith) (row-rest 1023 _ _ (λ y. omega arith) (row-rest 10 _ _ (λ y. omega arith) z)))
-end-of k isZeros a b z = ltb-false highest _ (row-off 6 _ _ (λ y. omega arith) (row-rest 1023 _ _ (λ y. omega arith) (row-rest 10 _ _ (λ y. omega arith) z)))
+end-of k isRead a b z = ltb-false (top (a .kind)) _ (row-off 6 _ _ (λ y. omega arith) (row-rest 10 _ _ (λ y. omega arith) z))
+end-of k isWrite a b z = ltb-false (top (a .kind)) _ (row-off 6 _ _ (λ y. omega arith) (row-rest 1023 _ _ (λ y. omega arith)
+    (row-rest 10 _ _ (λ y. omega arith) z)))
+end-of k isZeros a b z = ltb-false (top (a .kind)) _ (row-off 6 _ _ (λ y. omega arith) (row-rest 1023 _ _ (λ y. omega arith)
+    (row-rest 10 _ _ (λ y. omega arith) z)))
 
 pub done-within : (kind : Kind) (n p i : ℕ) (b : Buffers) → Runs (chosen n) → length (b .fcb) ≡ 36 → firstOf (rowsCall kind n p 1 (single i b)) ≡ 0
-    → recordOf (b .fcb) + i ≤ highest
-unfolding rowsCall askedBy
+    → recordOf (b .fcb) + i ≤ top kind
+unfolding rowsCall asked askedBy
 done-within kind n p i b runs long z =
     let own = both-zero (rowsAll kind n p 1 (single i b)) _ (nonzero-all kind n p 1 (single i b)) z .1 in
     ap-le (asked-single kind i p b long) (end-of (chosen n) runs (asked kind p 1 (single i b)) (single i b) own)
   where
-    ap-le : asked kind p 1 (single i b) ≡ askedAt kind p i b → asked kind p 1 (single i b) .recordNumber ≤ highest → recordOf (b .fcb) + i ≤ highest
+    ap-le : asked kind p 1 (single i b) ≡ askedAt kind p i b → asked kind p 1 (single i b) .recordNumber ≤ top kind → recordOf (b .fcb) + i ≤ top kind
     ap-le e h = let q : asked kind p 1 (single i b) .recordNumber ≡ recordOf (b .fcb) + i = ap (λ (a : Asked). a .recordNumber) e in omega arith
 
 -- ---- the general table lets it pass

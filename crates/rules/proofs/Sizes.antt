@@ -13,7 +13,7 @@ use Rattle.words.specs.Bytes.{byte, numberAt}
 use Rattle.words.proofs.Tests.{either, and-fst, and-snd}
 use Rattle.rules.specs.declared.kind.Kind.{Kind}
 use Rattle.rules.specs.declared.kind.Kind.the-variants.{Small, Large}
-use Rattle.rules.specs.Kinds.{blockSize, blockRecords, fewest, most, entries, numbers, width}
+use Rattle.rules.specs.Kinds.{blockSize, blockRecords, fewest, most, entries, numbers, width, top, lastModule}
 use Rattle.rules.specs.Drive.{blocks, goodLength, mapPlace, mapNumber, recordAt}
 
 -- ---- the directory
@@ -42,6 +42,18 @@ pub most-fits : (kind : Kind) → most kind < 65536
 unfolding most
 most-fits Small = omega arith
 most-fits Large = omega arith
+
+-- a record's number has 18 bits
+pub top-fits : (kind : Kind) → top kind ≤ 262143
+unfolding top
+top-fits Small = omega arith
+top-fits Large = omega arith
+
+-- the last module is that of the highest record
+pub module-last : (kind : Kind) → lastModule kind ≡ top kind / 4096
+unfolding lastModule top
+module-last Small = refl
+module-last Large = refl
 
 -- no length is one of both kinds
 lengths-apart : (s : List ℕ) → goodLength Small s ≡ true → goodLength Large s ≡ true → ⊥

@@ -18,7 +18,7 @@ use Rattle.words.proofs.Sets.{and-both, or-none, not-of-false}
 use Rattle.rules.specs.declared.answer.ImageAnswer.the-variants.{Sound}
 use Rattle.rules.specs.declared.file.File.{File}
 use Rattle.rules.specs.declared.kind.Kind.{Kind}
-use Rattle.rules.specs.Kinds.{blockSize, most, entries, numbers}
+use Rattle.rules.specs.Kinds.{blockSize, most, entries, numbers, top}
 use Rattle.rules.specs.Drive.{goodLength, blocks, isEmpty, nameAt, extentAt, mapNumber, mapPlace, sameLow, isNamed, fileFrom, fileAt, isEntry, entryOf, holdsNumber, namesBlock, isUsed, isFree, freeBlocks, goodFields, inRange, namedBefore, isFirst, isRepeat, goodEntry, hasFirst, soundDirectory, soundImage, imageCheck, userByte, blockIn, blockOf}
 use Rattle.rules.proofs.Sizes.{size-whole, size-long, place-fits}
 
@@ -83,8 +83,8 @@ found-is kind s f x l h = entry-is s f x (entryOf kind s f x) l (lowest-holds (i
 -- ---- the parts of a sound image
 
 -- every used entry is good, no two have the same file and extent, each file has an extent 0
-pub record Entries (kind : Kind) (top : ℕ) (s : List ℕ) : Type 0 where
-  pub fields : (e : ℕ) → e < entries kind → isEmpty s e ≡ false → goodFields top s e ≡ true
+pub record Entries (kind : Kind) (s : List ℕ) : Type 0 where
+  pub fields : (e : ℕ) → e < entries kind → isEmpty s e ≡ false → goodFields kind s e ≡ true
   pub single : (d e : ℕ) → d < e → e < entries kind → isEmpty s e ≡ false → Is s (fileAt s e) (extentAt s e) d → ⊥
   pub begun : (e : ℕ) → e < entries kind → isEmpty s e ≡ false → (d : ℕ) × (d < entries kind) × Is s (fileAt s e) 0 d
 
@@ -100,9 +100,9 @@ pub record Maps (kind : Kind) (s : List ℕ) : Type 0 where
   pub range : (e k : ℕ) → Names kind s e k → (2 ≤ mapNumber kind s e k) × (mapNumber kind s e k < blocks kind s)
   pub once : (d j e k : ℕ) → Names kind s d j → Names kind s e k → mapNumber kind s d j ≡ mapNumber kind s e k → (d ≡ e) × (j ≡ k)
 
-pub record SoundImage (kind : Kind) (top : ℕ) (s : List ℕ) : Type 0 where
+pub record SoundImage (kind : Kind) (s : List ℕ) : Type 0 where
   pub long : goodLength kind s ≡ true
-  pub files : Entries kind top s
+  pub files : Entries kind s
   pub maps : Maps kind s
 
 -- ---- the length
@@ -121,15 +121,15 @@ module _ (kind : Kind) (s : List ℕ) (h : goodLength kind s ≡ true) where
 
 -- ---- from the test to the parts
 
-module _ (kind : Kind) (top : ℕ) (s : List ℕ) (h : soundImage kind top s ≡ true) where
+module _ (kind : Kind) (s : List ℕ) (h : soundImage kind s ≡ true) where
   pub sound-length : goodLength kind s ≡ true
   unfolding soundImage
   sound-length = and-fst _ _ h
 
   entry-of : (e : ℕ) → e < entries kind → isEmpty s e ≡ false
-      → (goodFields top s e and all (inRange kind s e) (numbers kind) and all (isFirst kind s e) (numbers kind) and not (isRepeat s e)) ≡ true
+      → (goodFields kind s e and all (inRange kind s e) (numbers kind) and all (isFirst kind s e) (numbers kind) and not (isRepeat s e)) ≡ true
   unfolding soundImage soundDirectory goodEntry
-  entry-of e l u = or-so _ _ (all-at (goodEntry kind top s) (entries kind) e (and-fst _ _ (and-snd _ _ h)) l) u
+  entry-of e l u = or-so _ _ (all-at (goodEntry kind s) (entries kind) e (and-fst _ _ (and-snd _ _ h)) l) u
 
   begun-of : (e : ℕ) → e < entries kind → isEmpty s e ≡ false → any (isEntry s (fileAt s e) 0) (entries kind) ≡ true
   unfolding soundImage soundDirectory hasFirst
@@ -180,7 +180,7 @@ module _ (kind : Kind) (top : ℕ) (s : List ℕ) (h : soundImage kind top s ≡
           (λ (y : leb a b ≡ false). absurd (g (leb-false a b y))) (either (leb a b)))
           (λ (x : leb b a ≡ false). absurd (f (leb-false b a x))) (either (leb b a))
 
-  pub sound-of : SoundImage kind top s
+  pub sound-of : SoundImage kind s
   unfolding isRepeat
   sound-of = record {
     long = sound-length;
@@ -201,7 +201,7 @@ module _ (kind : Kind) (top : ℕ) (s : List ℕ) (h : soundImage kind top s ≡
 
 -- ---- and back
 
-module _ (kind : Kind) (top : ℕ) (s : List ℕ) (g : SoundImage kind top s) where
+module _ (kind : Kind) (s : List ℕ) (g : SoundImage kind s) where
   named : (e k : ℕ) → e < entries kind → k < numbers kind → isEmpty s e ≡ false → eqb (mapNumber kind s e k) 0 ≡ false → Names kind s e k
   named e k l m u z = record { entry-there = l; place-there = m; entry-used = u; some = eqb-false _ _ z }
 
@@ -245,11 +245,11 @@ module _ (kind : Kind) (top : ℕ) (s : List ℕ) (g : SoundImage kind top s) wh
       (λ (q : isEntry s (fileAt s e) (extentAt s e) d ≡ true). absurd (g .files .single d e m l u (entry-is s (fileAt s e) (extentAt s e) d (file-long s e) q)))
       (λ (q : isEntry s (fileAt s e) (extentAt s e) d ≡ false). q) (either (isEntry s (fileAt s e) (extentAt s e) d)))
 
-  pub sound-so : soundImage kind top s ≡ true
+  pub sound-so : soundImage kind s ≡ true
   unfolding soundImage soundDirectory goodEntry hasFirst
   sound-so =
       and-both _ _ (g .long) (and-both _ _
-      (all-make (goodEntry kind top s) (entries kind) (λ e l. or-case _ _ (λ u.
+      (all-make (goodEntry kind s) (entries kind) (λ e l. or-case _ _ (λ u.
       and-both _ _ (g .files .fields e l u) (and-both _ _ (range-so e l u) (and-both _ _ (first-so e l u) (not-of-false _ (repeat-so e l u)))))))
       (all-make (hasFirst kind s) (entries kind) (λ e l. or-case _ _ (λ u.
       let k = g .files .begun e l u in
@@ -257,9 +257,9 @@ module _ (kind : Kind) (top : ℕ) (s : List ℕ) (g : SoundImage kind top s) wh
 
 -- ---- the check and the test
 
-pub check-sound : (kind : Kind) (top : ℕ) (s : List ℕ) → soundImage kind top s ≡ true → imageCheck kind top s ≡ Sound
+pub check-sound : (kind : Kind) (s : List ℕ) → soundImage kind s ≡ true → imageCheck kind s ≡ Sound
 unfolding imageCheck soundImage _if_else_
-check-sound kind top s h = rw (and-fst _ _ h, and-snd _ _ h)
+check-sound kind s h = rw (and-fst _ _ h, and-snd _ _ h)
 
 -- ---- blocks
 
@@ -273,7 +273,7 @@ unfolding freeBlocks isFree isUsedData
 add-up kind s = count-split 2 (blocks kind s) (isUsed kind s)
 
 -- a record that has a block: where its number stands
-module _ (kind : Kind) (top : ℕ) (s : List ℕ) (f : File) (r : ℕ) (some : blockOf kind s f r ≡ 0 → ⊥) where
+module _ (kind : Kind) (s : List ℕ) (f : File) (r : ℕ) (some : blockOf kind s f r ≡ 0 → ⊥) where
   extent-there : leb (entries kind) (entryOf kind s f (r / 128)) ≡ false
   unfolding blockOf blockIn _if_else_
   extent-there =
@@ -290,5 +290,5 @@ module _ (kind : Kind) (top : ℕ) (s : List ℕ) (f : File) (r : ℕ) (some : b
       record { entry-there = l; place-there = place-fits kind r; entry-used = found-used kind s f (r / 128) l; some = λ q. some (block-is ∙ q) }
 
   -- it is a data block
-  pub block-within : soundImage kind top s ≡ true → (2 ≤ blockOf kind s f r) × (blockOf kind s f r < blocks kind s)
-  block-within h = rw block-is (sound-of kind top s h .maps .range _ _ block-named)
+  pub block-within : soundImage kind s ≡ true → (2 ≤ blockOf kind s f r) × (blockOf kind s f r < blocks kind s)
+  block-within h = rw block-is (sound-of kind s h .maps .range _ _ block-named)

@@ -13,14 +13,15 @@ use Rattle.words.proofs.Tests.{either, equal?, never, fails-too, all-at, all-ma
 use Rattle.words.proofs.Lists.{length-tab}
 use Rattle.words.proofs.Sets.{and-both, not-of-false}
 use Rattle.rules.specs.declared.kind.Kind.{Kind}
-use Rattle.rules.specs.Kinds.{entries}
+use Rattle.rules.specs.Kinds.{entries, top}
 use Rattle.rules.specs.declared.file.File.{File}
 use Rattle.rules.specs.declared.item.Item.{Item}
 use Rattle.rules.specs.declared.list.LockList.{LockList}
-use Rattle.rules.specs.Drive.{highest, legalName, entryOf, lookUp, missing, blockOf}
+use Rattle.rules.specs.Drive.{legalName, entryOf, lookUp, missing, blockOf}
 use Rattle.rules.specs.Locks.{itemAt, userOf, fileOf, sameFile, opensName, opensNameAt, openOf, isOpened, isLimit, isUser, isLow, goodEmpty, goodOpen, opensUnlocked, goodLock, goodItem, goodPlace, clashAt, isApart, keepsLimits, soundLocks, soundList, itemIn, itemFrom, pack, unpack}
 use Rattle.rules.proofs.Items.{name-sym, name-then, clash-at-sym, clash-opens, open-is}
 use Rattle.rules.proofs.Packing.{ListInRange, unpack-pack, unpack-at, zero-packed}
+use Rattle.rules.proofs.Sizes.{top-fits}
 
 -- what reading a list gives, sound or not
 pub record Shape (l : LockList) : Type 0 where
@@ -58,13 +59,13 @@ pub record GoodLock (kind : Kind) (s : List ℕ) (l : LockList) (it : Item) : Ty
   pub holder : Holder l (it .process) (it .name)
   pub block : blockOf kind s (fileOf l it) (it .number) ≡ 0 → ⊥
 
--- processes to 15; names legal, high bits zero; records below 262,144
-unfoldable pub isPlain : Item → Bool
-isPlain it = leb (it .process) 15 and legalName (it .name) 0 and all (isLow (it .name)) 11 and leb (it .number) highest
+-- processes to 15; names legal, high bits zero; records to the highest
+unfoldable pub isPlain : Kind → Item → Bool
+isPlain kind it = leb (it .process) 15 and legalName (it .name) 0 and all (isLow (it .name)) 11 and leb (it .number) (top kind)
 
 pub record Used (kind : Kind) (s : List ℕ) (l : LockList) (i : ℕ) : Type 0 where
   pub below : i < l .capacity
-  pub plain : isPlain (itemAt l i) ≡ true
+  pub plain : isPlain kind (itemAt l i) ≡ true
   pub good : GoodOpen kind s l (itemAt l i) ⊎ GoodLock kind s l (itemAt l i)
 
 pub record Vacant (l : LockList) (i : ℕ) : Type 0 where
@@ -93,7 +94,7 @@ user-fits l p h k = leb-true _ _ (all-at (isUser (l .users)) 16 p (h .users-good
 
 -- ---- from the test
 
-module _ (kind : Kind) (l : LockList) (s : List ℕ) (h : soundLocks kind highest l s ≡ true) where
+module _ (kind : Kind) (l : LockList) (s : List ℕ) (h : soundLocks kind l s ≡ true) where
   pub limits-of : Limits l
   unfolding soundLocks
   limits-of = record {
@@ -103,7 +104,7 @@ module _ (kind : Kind) (l : LockList) (s : List ℕ) (h : soundLocks kind highes
     users-good = and-fst _ _ (and-snd _ _ (and-snd _ _ (and-snd _ _ h)));
   }
 
-  places-of : (all (goodPlace kind highest s l) 64 and all (isApart l) 64 and all (keepsLimits l) 16) ≡ true
+  places-of : (all (goodPlace kind s l) 64 and all (isApart l) 64 and all (keepsLimits l) 16) ≡ true
   unfolding soundLocks
   places-of = and-snd _ _ (and-snd _ _ (and-snd _ _ (and-snd _ _ h)))
 
@@ -131,7 +132,7 @@ module _ (kind : Kind) (l : LockList) (s : List ℕ) (h : soundLocks kind highes
     block = eqb-false _ _ (not-true _ (and-snd _ _ (and-snd _ _ g)));
   }
 
-  used-of : (i : ℕ) → eqb (itemAt l i .kind) 0 ≡ false → (ltb i (l .capacity) and leb (itemAt l i .kind) 2 and goodItem kind highest s l (itemAt l i)) ≡ true
+  used-of : (i : ℕ) → eqb (itemAt l i .kind) 0 ≡ false → (ltb i (l .capacity) and leb (itemAt l i .kind) 2 and goodItem kind s l (itemAt l i)) ≡ true
       → Used kind s l i
   unfolding goodItem isPlain _if_else_
   used-of i z g =
@@ -161,7 +162,7 @@ module _ (kind : Kind) (l : LockList) (s : List ℕ) (h : soundLocks kind highes
   place-of : (i : ℕ) → i < 64 → Vacant l i ⊎ Used kind s l i
   unfolding goodPlace _if_else_
   place-of i m =
-      let g = all-at (goodPlace kind highest s l) 64 i (and-fst _ _ places-of) m in
+      let g = all-at (goodPlace kind s l) 64 i (and-fst _ _ places-of) m in
       ⊎-elim
       (λ (q : eqb (itemAt l i .kind) 0 ≡ true). inl (record { kind-zero = eqb-true _ _ q; zeros = rw q at g }))
       (λ (q : eqb (itemAt l i .kind) 0 ≡ false). inr (used-of i q (rw q at g)))
@@ -221,7 +222,7 @@ module _ (kind : Kind) (l : LockList) (s : List ℕ) (g : SoundLocks kind l s) w
       let q = holder-open p f h in
       rw (← q) (and-both _ _ (lt-ltb _ _ (h .below)) (eq-eqb _ _ (h .mode)))
 
-  item-so : (it : Item) → isPlain it ≡ true → GoodOpen kind s l it ⊎ GoodLock kind s l it → (leb (it .kind) 2 and goodItem kind highest s l it) ≡ true
+  item-so : (it : Item) → isPlain kind it ≡ true → GoodOpen kind s l it ⊎ GoodLock kind s l it → (leb (it .kind) 2 and goodItem kind s l it) ≡ true
   unfolding goodItem isPlain goodOpen goodLock missing lookUp _if_else_
   item-so it h c =
       let h₁ = and-snd _ _ h in
@@ -238,7 +239,7 @@ module _ (kind : Kind) (l : LockList) (s : List ℕ) (g : SoundLocks kind l s) w
       (and-both _ _ (eq-eqb _ _ (o .mode-one)) (and-both _ _ (holder-so (it .process) (fileOf l it) (o .holder)) (not-of-false _ (ne-eqb _ _ (o .block)))))))))
       )) c
 
-  place-so : (i : ℕ) → i < 64 → goodPlace kind highest s l i ≡ true
+  place-so : (i : ℕ) → i < 64 → goodPlace kind s l i ≡ true
   unfolding goodPlace _if_else_
   place-so i m =
       ⊎-elim
@@ -250,11 +251,11 @@ module _ (kind : Kind) (l : LockList) (s : List ℕ) (g : SoundLocks kind l s) w
       rw z (and-both _ _ (lt-ltb _ _ (v .below)) (item-so (itemAt l i) (v .plain) (v .good))))
       (g .place i m)
 
-  pub locks-so : soundLocks kind highest l s ≡ true
+  pub locks-so : soundLocks kind l s ≡ true
   unfolding soundLocks isApart
   locks-so =
       and-both _ _ (g .limits .capacity-good) (and-both _ _ (g .limits .open-good) (and-both _ _ (g .limits .lock-good) (and-both _ _ (g .limits .users-good)
-      (and-both _ _ (all-make (goodPlace kind highest s l) 64 place-so)
+      (and-both _ _ (all-make (goodPlace kind s l) 64 place-so)
       (and-both _ _
       (all-make (isApart l) 64 (λ i m. not-of-false _ (any-never (clashAt l i) i (λ j k. g .apart i j m (omega arith) (λ (q : i ≡ j). absurd (omega arith))))))
       (all-make (keepsLimits l) 16 (λ p k. g .keeps p k)))))))
@@ -269,7 +270,8 @@ module _ (kind : Kind) (l : LockList) (s : List ℕ) (g : SoundLocks kind l s) w
       let k = v .kind-zero in
       (omega arith, omega arith))
       (λ (v : Used kind s l i).
-      let n : itemAt l i .number ≤ 262143 = leb-true _ _ (and-snd _ _ (and-snd _ _ (and-snd _ _ (v .plain)))) in (
+      let n : itemAt l i .number ≤ top kind = leb-true _ _ (and-snd _ _ (and-snd _ _ (and-snd _ _ (v .plain)))) in
+      let t = top-fits kind in (
         ⊎-elim (λ (o : GoodOpen kind s l (itemAt l i)). let w = o .kind-one in omega arith)
             (λ (o : GoodLock kind s l (itemAt l i)). let w = o .kind-two in omega arith) (v .good),
         omega arith,
@@ -285,7 +287,7 @@ module _ (kind : Kind) (l : LockList) (s : List ℕ) (g : SoundLocks kind l s) w
 
 -- ---- a list in bytes and its places
 
-pub list-sound-of : (kind : Kind) (list s : List ℕ) → soundList kind highest list s ≡ true → SoundLocks kind (unpack list) s
+pub list-sound-of : (kind : Kind) (list s : List ℕ) → soundList kind list s ≡ true → SoundLocks kind (unpack list) s
 unfolding soundList
 list-sound-of kind list s h = locks-of kind (unpack list) s (and-snd _ _ h)
 
@@ -293,6 +295,6 @@ module _ (kind : Kind) (l : LockList) (s : List ℕ) (g : SoundLocks kind l s) (
   pub unpacked : unpack (pack l) ≡ l
   unpacked = unpack-pack l (in-range kind l s g h)
 
-  pub list-sound-so : soundList kind highest (pack l) s ≡ true
+  pub list-sound-so : soundList kind (pack l) s ≡ true
   unfolding soundList
   list-sound-so = and-both _ _ (zero-packed l (h .items-long)) (rw unpacked (locks-so kind l s g))

@@ -175,13 +175,8 @@ module _ (kind : Kind) (n p c : ℕ) (b : Buffers) where
 
 -- ---- a contract that says `Did` leaves one outcome
 
-pub did-is : (o : Outcome) (a : ℕ) (fcb dma list image : List ℕ) → Did o a fcb dma list image → outcome a (buffers fcb dma list image) ≡ o
-did-is o a fcb dma list image d = λ i. record {
-  answer = d .gives i;
-  left = record { fcb = d .leaves-fcb i; dma = d .leaves-dma i; list = d .leaves-list i; image = d .leaves-image i };
-}
+pub did-is : (o : Outcome) (a : ℕ) (left : Buffers) → Did o a left → outcome a left ≡ o
+did-is o a left d = λ i. record { answer = d .gives i; left = d .leaves i }
 
-module _ (o : Outcome) (a a′ : ℕ) (fcb fcb′ dma dma′ list list′ image image′ : List ℕ) where
-  pub did-one : Did o a fcb dma list image → Did o a′ fcb′ dma′ list′ image′
-      → outcome a (buffers fcb dma list image) ≡ outcome a′ (buffers fcb′ dma′ list′ image′)
-  did-one d e = did-is o a fcb dma list image d ∙ sym (did-is o a′ fcb′ dma′ list′ image′ e)
+pub did-one : (o : Outcome) (a a′ : ℕ) (left left′ : Buffers) → Did o a left → Did o a′ left′ → outcome a left ≡ outcome a′ left′
+did-one o a a′ left left′ d e = did-is o a left d ∙ sym (did-is o a′ left′ e)

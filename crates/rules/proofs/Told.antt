@@ -12,7 +12,7 @@ use Rattle.words.proofs.Sets.{row-yes, row-no}
 use Rattle.rules.specs.declared.kind.Kind.{Kind}
 use Rattle.rules.specs.declared.answer.ImageAnswer.the-variants.{WrongLength}
 use Rattle.rules.specs.Serves.{Buffers, outcome}
-use Rattle.rules.specs.Drive.{highest, goodLength, soundImage, imageCheck}
+use Rattle.rules.specs.Drive.{goodLength, soundImage, imageCheck}
 use Rattle.rules.specs.Look.{mayLook, lookBlock, partAt, lookAt}
 use Rattle.rules.specs.Codes.{badNumbers, rowsInside, rowsAll}
 use Rattle.rules.specs.Several.{servesRun, callRun}
@@ -35,34 +35,34 @@ module _ (kind : Kind) (n p c : ℕ) (b : Buffers) where
   bad-numbers h = barred (255 ∕ 13) (λ q. omega arith) (sym (row-yes _ _ _ _ h refl))
 
 -- no image is sound for both kinds
-pub one-kind : (a b : Kind) (s : List ℕ) → soundImage a highest s ≡ true → soundImage b highest s ≡ true → a ≡ b
-one-kind a b s h g = one-length a b s (sound-length a highest s h) (sound-length b highest s g)
+pub one-kind : (a b : Kind) (s : List ℕ) → soundImage a s ≡ true → soundImage b s ≡ true → a ≡ b
+one-kind a b s h g = one-length a b s (sound-length a s h) (sound-length b s g)
 
 -- told the other kind, ..
-module _ (own kind : Kind) (other : own ≡ kind → ⊥) (s : List ℕ) (sound : soundImage own highest s ≡ true) where
+module _ (own kind : Kind) (other : own ≡ kind → ⊥) (s : List ℕ) (sound : soundImage own s ≡ true) where
   other-length : goodLength kind s ≡ false
   other-length =
-      ⊎-elim (λ (h : goodLength kind s ≡ true). absurd (other (one-length own kind s (sound-length own highest s sound) h)))
+      ⊎-elim (λ (h : goodLength kind s ≡ true). absurd (other (one-length own kind s (sound-length own s sound) h)))
       (λ (h : goodLength kind s ≡ false). h) (either (goodLength kind s))
 
-  other-sound : soundImage kind highest s ≡ false
+  other-sound : soundImage kind s ≡ false
   unfolding soundImage _and_
   other-sound = rw other-length
 
   -- .. the image check answers 1, ..
-  pub other-check : imageCheck kind highest s ≡ WrongLength
+  pub other-check : imageCheck kind s ≡ WrongLength
   unfolding imageCheck _if_else_
   other-check = rw other-length
 
   -- .. Look shows an empty part, ..
-  pub other-look : (user : ℕ) (name : List ℕ) (r : ℕ) → lookAt kind highest user name r s ≡ 0
+  pub other-look : (user : ℕ) (name : List ℕ) (r : ℕ) → lookAt kind user name r s ≡ 0
   unfolding lookAt lookBlock mayLook partAt _and_ _if_else_
   other-look user name r = rw other-sound
 
   -- .. and a call is refused, with 255/13 or 255/1, and changes nothing
   module _ (n p c : ℕ) (b : Buffers) (is : b .image ≡ s) where
-    image-bad : not (soundImage kind highest (b .image)) ≡ true
-    image-bad = ap (λ (t : List ℕ). not (soundImage kind highest t)) is ∙ ap not other-sound
+    image-bad : not (soundImage kind (b .image)) ≡ true
+    image-bad = ap (λ (t : List ℕ). not (soundImage kind t)) is ∙ ap not other-sound
 
     rows-told : (firstOf (rowsAll kind n p c b) ≡ 255 ∕ 13) ⊎ (firstOf (rowsAll kind n p c b) ≡ 255 ∕ 1)
     unfolding rowsInside rowsAll

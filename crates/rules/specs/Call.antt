@@ -16,7 +16,7 @@ use Rattle.rules.specs.declared.routine.Routine.the-variants.{Open, Clos
 use Rattle.rules.specs.declared.routine.Chosen.{Chosen}
 use Rattle.rules.specs.declared.routine.Chosen.the-variants.{Call, Unknown}
 use Rattle.rules.specs.Serves.{Buffers, Outcome, outcome, chosen, fcbSize, dmaSize, listSize}
-use Rattle.rules.specs.Drive.{highest, extentRecords, entrySize, blocks, entryOf, lookUp, soundImage}
+use Rattle.rules.specs.Drive.{extentRecords, entrySize, blocks, entryOf, lookUp, soundImage}
 use Rattle.rules.specs.Locks.{openOf, unpack, soundList}
 use Rattle.rules.specs.Asks.{callerFile, newFile, recordOf}
 use Rattle.rules.specs.Codes.{rowsAll, rows15, rows16, rows19, rows22, rows23, rows33, rows34, rows41, rows42, rows43}
@@ -71,7 +71,7 @@ rowsOf (Call Write) a b = rows34 (a .kind) (a .process) (a .list) (a .place) (a 
 rowsOf (Call WriteZeros) a b = rows34 (a .kind) (a .process) (a .list) (a .place) (a .file) (a .found .entry) (a .entry) (a .recordNumber) (b .image)
 rowsOf (Call TestWrite) a b = rows41 (a .kind) (a .process) (a .list) (a .place) (a .file) (a .found .entry) (a .entry) (a .recordNumber) (b .dma) (b .image)
 rowsOf (Call Lock) a b = rows42 (a .kind) (a .process) (a .list) (a .place) (a .file) (a .recordNumber) (a .count) (b .dma) (b .image)
-rowsOf (Call Unlock) a b = rows43 (a .list) (a .place) (a .recordNumber) (a .count) (b .dma)
+rowsOf (Call Unlock) a b = rows43 (a .kind) (a .list) (a .place) (a .recordNumber) (a .count) (b .dma)
 rowsOf (Call FreeSpace) a b = []
 rowsOf (Call Terminate) a b = []
 rowsOf Unknown a b = []
@@ -113,5 +113,5 @@ pub record Ready (kind : Kind) (b : Buffers) : Type 0 where
   pub list-long : length (b .list) ≡ listSize
   pub image-long : entrySize * entries kind + entrySize ≤ length (b .image)
   pub blocks-few : blocks kind (b .image) ≤ most kind
-  pub image-sound : soundImage kind highest (b .image) ≡ true
-  pub list-sound : soundList kind highest (b .list) (b .image) ≡ true
+  pub image-sound : soundImage kind (b .image) ≡ true
+  pub list-sound : soundList kind (b .list) (b .image) ≡ true

@@ -15,9 +15,10 @@ use Rattle.rules.specs.declared.file.Found.{Found}
 use Rattle.rules.specs.declared.item.Item.{Item}
 use Rattle.rules.specs.declared.list.LockList.{LockList}
 use Rattle.rules.specs.Serves.{Buffers, chosen, isUnknown, processes, fcbSize, dmaSize, listSize}
-use Rattle.rules.specs.Drive.{noEntry, highest, blocks, extentRecords, recordSize, legalName, entryOf, missing, readOnly, freeEntry, freeBlock, blockIn, blockOf, recordAt, soundImage}
+use Rattle.rules.specs.Drive.{noEntry, blocks, extentRecords, recordSize, legalName, entryOf, missing, readOnly, freeEntry, freeBlock, blockIn, blockOf, recordAt, soundImage}
 use Rattle.rules.specs.Locks.{places, itemAt, modeLocked, modeUnlocked, modeReadOnly, isOpened, anyOpen, opensFileAt, lockedByOther, held, opensBy, locksBy, freePlace, freePlaces, soundList}
 use Rattle.rules.specs.Asks.{openMode, lastOf}
+use Rattle.rules.specs.Kinds.{top}
 
 -- ---- The general table
 
@@ -34,8 +35,8 @@ badDrive n fcb = ltb 1 (byte fcb 0) and not (eqb n 46) and not (eqb n 143)
 -- the rows that look into the buffers
 unfoldable pub rowsInside : Kind → ℕ → List ℕ → List ℕ → List ℕ → List Row
 rowsInside kind n fcb list s =
-    255 ∕ 1 when not (soundImage kind highest s)
-    ∷ 255 ∕ 12 when not (soundList kind highest list s)
+    255 ∕ 1 when not (soundImage kind s)
+    ∷ 255 ∕ 12 when not (soundList kind list s)
     ∷ 255 ∕ 4 when badDrive n fcb
     ∷ []
 
@@ -124,16 +125,16 @@ rowsThere kind s e r = 4 ∕ 0 when noEntry kind e ∷ 1 ∕ 0 when eqb (blockIn
 
 -- byte 35 above 3: for bytes, that the record number is 262,144 or more
 unfoldable pub rows33 : Kind → ℕ → ℕ → ℕ → List ℕ → List Row
-rows33 kind o e r s = 10 ∕ 0 when not (isOpened o) ∷ 6 ∕ 0 when ltb highest r ∷ rowsThere kind s e r
+rows33 kind o e r s = 10 ∕ 0 when not (isOpened o) ∷ 6 ∕ 0 when ltb (top kind) r ∷ rowsThere kind s e r
 
 -- ---- 34, 40
 
 -- e₀ is the entry of extent 0
-unfoldable pub rowsMay : ℕ → LockList → ℕ → File → ℕ → ℕ → List ℕ → List Row
-rowsMay p l o f e₀ r s =
+unfoldable pub rowsMay : Kind → ℕ → LockList → ℕ → File → ℕ → ℕ → List ℕ → List Row
+rowsMay kind p l o f e₀ r s =
     10 ∕ 0 when not (isOpened o)
     ∷ 255 ∕ 3 when (readOnly s e₀ or eqb (itemAt l o .mode) modeReadOnly)
-    ∷ 6 ∕ 0 when ltb highest r
+    ∷ 6 ∕ 0 when ltb (top kind) r
     ∷ 8 ∕ 0 when lockedByOther l p f r
     ∷ []
 
@@ -145,7 +146,7 @@ rowsRoom kind s e r =
     ∷ []
 
 unfoldable pub rows34 : Kind → ℕ → LockList → ℕ → File → ℕ → ℕ → ℕ → List ℕ → List Row
-rows34 kind p l o f e₀ e r s = rowsMay p l o f e₀ r s ++ rowsRoom kind s e r
+rows34 kind p l o f e₀ e r s = rowsMay kind p l o f e₀ r s ++ rowsRoom kind s e r
 
 -- ---- 41
 
@@ -158,7 +159,7 @@ unfoldable pub rowsDiffer : Kind → List ℕ → List ℕ → ℕ → ℕ → L
 rowsDiffer kind dma s block r = 7 ∕ 0 when any (differs dma s (recordAt kind block r)) recordSize ∷ []
 
 unfoldable pub rows41 : Kind → ℕ → LockList → ℕ → File → ℕ → ℕ → ℕ → List ℕ → List ℕ → List Row
-rows41 kind p l o f e₀ e r dma s = rowsMay p l o f e₀ r s ++ (rowsThere kind s e r ++ rowsDiffer kind dma s (blockIn kind s e r) r)
+rows41 kind p l o f e₀ e r dma s = rowsMay kind p l o f e₀ r s ++ (rowsThere kind s e r ++ rowsDiffer kind dma s (blockIn kind s e r) r)
 
 -- ---- 42, 43
 
@@ -167,12 +168,12 @@ unfoldable pub isFileId : List ℕ → ℕ → Bool
 isFileId dma o = eqb (byte dma 0) o and eqb (byte dma 1) 0
 
 -- In modes 0 and 2 it is success, and no row after it is looked at.
-unfoldable pub rowsRun : LockList → ℕ → ℕ → ℕ → List ℕ → List Row → List Row
-rowsRun l o r n dma more =
+unfoldable pub rowsRun : Kind → LockList → ℕ → ℕ → ℕ → List ℕ → List Row → List Row
+rowsRun kind l o r n dma more =
     10 ∕ 0 when not (isOpened o)
     ∷ onlyIf (eqb (itemAt l o .mode) modeUnlocked)
     (13 ∕ 0 when not (isFileId dma o)
-    ∷ 6 ∕ 0 when ltb highest (lastOf r n)
+    ∷ 6 ∕ 0 when ltb (top kind) (lastOf r n)
     ∷ more)
 
 -- record r + k lacks its extent; .. its extent or block
@@ -203,7 +204,7 @@ rowsTake p l f r n =
     ∷ []
 
 unfoldable pub rows42 : Kind → ℕ → LockList → ℕ → File → ℕ → ℕ → List ℕ → List ℕ → List Row
-rows42 kind p l o f r n dma s = rowsRun l o r n dma (rowsLacking kind s f r n (firstLacking kind s f r n) ++ rowsTake p l f r n)
+rows42 kind p l o f r n dma s = rowsRun kind l o r n dma (rowsLacking kind s f r n (firstLacking kind s f r n) ++ rowsTake p l f r n)
 
-unfoldable pub rows43 : LockList → ℕ → ℕ → ℕ → List ℕ → List Row
-rows43 l o r n dma = rowsRun l o r n dma []
+unfoldable pub rows43 : Kind → LockList → ℕ → ℕ → ℕ → List ℕ → List Row
+rows43 kind l o r n dma = rowsRun kind l o r n dma []

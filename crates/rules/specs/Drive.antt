@@ -8,7 +8,7 @@ use Rattle.words.specs.Tests.{_and_, _or_, _if_else_, all, any, lowest, count}
 use Rattle.words.specs.Lists.{tab}
 use Rattle.words.specs.Bytes.{byte, lowFrom, numberAt}
 use Rattle.rules.specs.declared.kind.Kind.{Kind}
-use Rattle.rules.specs.Kinds.{blockSize, blockRecords, fewest, most, entries, numbers, width}
+use Rattle.rules.specs.Kinds.{blockSize, blockRecords, fewest, most, entries, numbers, width, lastModule}
 use Rattle.rules.specs.declared.answer.ImageAnswer.{ImageAnswer}
 use Rattle.rules.specs.declared.answer.ImageAnswer.the-variants.{Sound, WrongLength, UnsoundDirectory}
 use Rattle.rules.specs.declared.file.File.{File}
@@ -25,10 +25,6 @@ extentRecords = 128
 
 abbrev pub entrySize : ℕ
 entrySize = 32
-
--- the highest record number: ex 31, module 63, the last of its extent
-abbrev pub highest : ℕ
-highest = 262143
 
 -- The image is 1,024·n bytes, n from 3 to 256; 2,048·n bytes, n from 257 to 4,096, on a drive of the second kind.
 unfoldable pub blocks : Kind → List ℕ → ℕ
@@ -167,20 +163,20 @@ freeBlock kind s = lowest (isFree kind s) (blocks kind s)
 unfoldable pub freeBlocks : Kind → List ℕ → ℕ
 freeBlocks kind s = count (isFree kind s) (blocks kind s)
 
--- ---- Sound image, to a highest record
+-- ---- Sound image
 
 -- the user, 0 to 15
 unfoldable pub goodUser : List ℕ → ℕ → Bool
 goodUser s e = leb (userByte s e) 15
 
 -- ex, 0 to 31; the module, 0 to 63; the record count, 0 to 128
-unfoldable pub goodNumbers : ℕ → List ℕ → ℕ → Bool
-goodNumbers top s e =
-    leb (entryByte s e 12) 31 and leb (entryByte s e 14) (top / (32 * extentRecords)) and leb (entryByte s e 15) 128
+unfoldable pub goodNumbers : Kind → List ℕ → ℕ → Bool
+goodNumbers kind s e =
+    leb (entryByte s e 12) 31 and leb (entryByte s e 14) (lastModule kind) and leb (entryByte s e 15) 128
 
 -- every used entry as above with a legal name
-unfoldable pub goodFields : ℕ → List ℕ → ℕ → Bool
-goodFields top s e = goodUser s e and legalName s (nameAt e) and goodNumbers top s e
+unfoldable pub goodFields : Kind → List ℕ → ℕ → Bool
+goodFields kind s e = goodUser s e and legalName s (nameAt e) and goodNumbers kind s e
 
 -- block numbers 0 or 2 to n−1
 unfoldable pub inRange : Kind → List ℕ → ℕ → ℕ → Bool
@@ -198,26 +194,26 @@ isFirst kind s e k = eqb (mapNumber kind s e k) 0 or not (namedBefore kind s (ma
 unfoldable pub isRepeat : List ℕ → ℕ → Bool
 isRepeat s e = any (isEntry s (fileAt s e) (extentAt s e)) e
 
-unfoldable pub goodEntry : Kind → ℕ → List ℕ → ℕ → Bool
-goodEntry kind top s e =
+unfoldable pub goodEntry : Kind → List ℕ → ℕ → Bool
+goodEntry kind s e =
     isEmpty s e
-    or (goodFields top s e and all (inRange kind s e) (numbers kind) and all (isFirst kind s e) (numbers kind) and not (isRepeat s e))
+    or (goodFields kind s e and all (inRange kind s e) (numbers kind) and all (isFirst kind s e) (numbers kind) and not (isRepeat s e))
 
 -- each file has an extent 0
 unfoldable pub hasFirst : Kind → List ℕ → ℕ → Bool
 hasFirst kind s e = isEmpty s e or any (isEntry s (fileAt s e) 0) (entries kind)
 
-unfoldable pub soundDirectory : Kind → ℕ → List ℕ → Bool
-soundDirectory kind top s = all (goodEntry kind top s) (entries kind) and all (hasFirst kind s) (entries kind)
+unfoldable pub soundDirectory : Kind → List ℕ → Bool
+soundDirectory kind s = all (goodEntry kind s) (entries kind) and all (hasFirst kind s) (entries kind)
 
-unfoldable pub soundImage : Kind → ℕ → List ℕ → Bool
-soundImage kind top s = goodLength kind s and soundDirectory kind top s
+unfoldable pub soundImage : Kind → List ℕ → Bool
+soundImage kind s = goodLength kind s and soundDirectory kind s
 
 -- The image check answers 0 sound, 1 wrong length, 2 unsound directory.
-unfoldable pub imageCheck : Kind → ℕ → List ℕ → ImageAnswer
-imageCheck kind top s =
+unfoldable pub imageCheck : Kind → List ℕ → ImageAnswer
+imageCheck kind s =
     WrongLength if not (goodLength kind s) else
-    UnsoundDirectory if not (soundDirectory kind top s) else
+    UnsoundDirectory if not (soundDirectory kind s) else
     Sound
 
 unfoldable pub imageNumber : ImageAnswer → ℕ

@@ -35,6 +35,16 @@ unfoldable pub entries : Kind → ℕ
 entries Small = 64
 entries Large = 128
 
+-- the highest record number, on either: ex 31, module 63, the last of its extent
+unfoldable pub top : Kind → ℕ
+top Small = 262143
+top Large = 262143
+
+-- its module
+unfoldable pub lastModule : Kind → ℕ
+lastModule Small = 63
+lastModule Large = 63
+
 -- sixteen block numbers of one byte to an entry, or eight of two
 unfoldable pub numbers : Kind → ℕ
 numbers Small = 16

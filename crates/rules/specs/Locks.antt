@@ -14,6 +14,7 @@ use Rattle.rules.specs.declared.item.Item.{Item}
 use Rattle.rules.specs.declared.list.LockList.{LockList}
 use Rattle.rules.specs.Serves.{processes, listSize}
 use Rattle.rules.specs.Drive.{legalName, lookUp, missing, blockOf}
+use Rattle.rules.specs.Kinds.{top}
 
 -- ---- Places and items
 
@@ -206,7 +207,7 @@ freePlace l = lowest (isEmptyAt l) (l .capacity)
 unfoldable pub freePlaces : LockList → ℕ
 freePlaces l = count (isEmptyAt l) (l .capacity)
 
--- ---- Sound list, against the image and a highest record
+-- ---- Sound list, against the image
 
 -- capacity, open limit and lock limit, each 1 to 64
 unfoldable pub isLimit : ℕ → Bool
@@ -242,16 +243,16 @@ goodLock kind s l it =
     and not (eqb (blockOf kind s (fileOf l it) (it .number)) 0)
 
 -- Processes to 15; names legal; records below 262,144.
-unfoldable pub goodItem : Kind → ℕ → List ℕ → LockList → Item → Bool
-goodItem kind top s l it =
-    leb (it .process) 15 and legalName (it .name) 0 and all (isLow (it .name)) 11 and leb (it .number) top
+unfoldable pub goodItem : Kind → List ℕ → LockList → Item → Bool
+goodItem kind s l it =
+    leb (it .process) 15 and legalName (it .name) 0 and all (isLow (it .name)) 11 and leb (it .number) (top kind)
     and (goodOpen kind s l it if eqb (it .kind) anOpen else goodLock kind s l it)
 
 -- Places from the capacity on empty.
-unfoldable pub goodPlace : Kind → ℕ → List ℕ → LockList → ℕ → Bool
-goodPlace kind top s l i =
+unfoldable pub goodPlace : Kind → List ℕ → LockList → ℕ → Bool
+goodPlace kind s l i =
     goodEmpty (itemAt l i) if eqb (itemAt l i .kind) anEmpty else
-    (ltb i (l .capacity) and leb (itemAt l i .kind) aLock and goodItem kind top s l (itemAt l i))
+    (ltb i (l .capacity) and leb (itemAt l i .kind) aLock and goodItem kind s l (itemAt l i))
 
 -- A process has at most one open per file; opens of one file by different processes are all unlocked or all read-only.
 unfoldable pub standBeside : Item → Item → Bool
@@ -274,17 +275,17 @@ isApart l i = not (any (clashAt l i) i)
 unfoldable pub keepsLimits : LockList → ℕ → Bool
 keepsLimits l p = leb (opensBy l p) (l .openlimit) and leb (locksBy l p) (l .locklimit)
 
-unfoldable pub soundLocks : Kind → ℕ → LockList → List ℕ → Bool
-soundLocks kind top l s =
+unfoldable pub soundLocks : Kind → LockList → List ℕ → Bool
+soundLocks kind l s =
     isLimit (l .capacity) and isLimit (l .openlimit) and isLimit (l .locklimit) and all (isUser (l .users)) processes
-    and all (goodPlace kind top s l) places and all (isApart l) places and all (keepsLimits l) processes
+    and all (goodPlace kind s l) places and all (isApart l) places and all (keepsLimits l) processes
 
 -- the zero in each place
 unfoldable pub zeroAt : List ℕ → ℕ → Bool
 zeroAt list i = eqb (byte (part (placeAt i) placeSize list) 15) 0
 
-unfoldable pub soundList : Kind → ℕ → List ℕ → List ℕ → Bool
-soundList kind top list s = all (zeroAt list) places and soundLocks kind top (unpack list) s
+unfoldable pub soundList : Kind → List ℕ → List ℕ → Bool
+soundList kind list s = all (zeroAt list) places and soundLocks kind (unpack list) s
 
 -- ---- Start
 

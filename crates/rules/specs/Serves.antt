@@ -91,9 +91,6 @@ abbrev pub outcome : ℕ → Buffers → Outcome
 outcome a b = record { answer = a; left = b }
 
 -- what a routine answered and left is that outcome
-pub record Did (o : Outcome) (answer : ℕ) (fcb dma list image : List ℕ) : Type 0 where
+pub record Did (o : Outcome) (answer : ℕ) (left : Buffers) : Type 0 where
   pub gives : answer ≡ o .answer
-  pub leaves-fcb : fcb ≡ o .left .fcb
-  pub leaves-dma : dma ≡ o .left .dma
-  pub leaves-list : list ≡ o .left .list
-  pub leaves-image : image ≡ o .left .image
+  pub leaves : left ≡ o .left

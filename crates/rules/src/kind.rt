@@ -1,6 +1,7 @@
 ghost use mathlib.Core.Path.{_≡_};
 ghost use Prim.Native.Nat.{_≤_};
-ghost use Rattle.rules.specs.Kinds.{toldKind, blockSize, blockRecords, fewest, most, entries, numbers};
+ghost use lib.Dec.{ltb};
+ghost use Rattle.rules.specs.Kinds.{toldKind, blockSize, blockRecords, fewest, most, entries, numbers, top, lastModule};
 
 // The kind of a drive: blocks of 1,024 bytes and one-byte block numbers, or of 2,048 bytes and two-byte numbers.
 pub enum Kind {
@@ -81,5 +82,32 @@ pub fn most(kind: Kind) -> usize
     match kind {
         Kind::Small => 256,
         Kind::Large => 4096,
+    }
+}
+
+// The highest record number.
+fn top(kind: Kind) -> usize
+    ensures { λ r. ⌜ r ≡ top kind ⌝ }
+{
+    match kind {
+        Kind::Small => 262143,
+        Kind::Large => 262143,
+    }
+}
+
+// A record number is past the highest.
+pub fn is_past(kind: Kind, r: usize) -> bool
+    ensures { λ t. ⌜ t ≡ ltb (top kind) r ⌝ }
+{
+    top(kind) < r
+}
+
+// The highest record's module.
+pub fn last_module(kind: Kind) -> u8
+    ensures { λ r. ⌜ r ≡ lastModule kind ⌝ }
+{
+    match kind {
+        Kind::Small => 63,
+        Kind::Large => 63,
     }
 }

@@ -32,7 +32,7 @@ fn call(
     list: &mut [u8],
     image: &mut [u8],
 ) -> u32
-    ensures { λ r. ⌜ Did (callTold (toldKind firstKind) function process count (buffers (now (fcb .entry)) (now (dma .entry)) (now (list .entry)) (now (image .entry)))) r (now (fcb .exit)) (now (dma .exit)) (now (list .exit)) (now (image .exit)) ⌝ }
+    ensures { λ r. ⌜ Did (callTold (toldKind firstKind) function process count (buffers (now (fcb .entry)) (now (dma .entry)) (now (list .entry)) (now (image .entry)))) r (buffers (now (fcb .exit)) (now (dma .exit)) (now (list .exit)) (now (image .exit))) ⌝ }
 {
     engine::mpm_call(FIRST_KIND, function, process, count, fcb, dma, list, image)
 }

@@ -132,18 +132,18 @@ module _ (kind : Kind) (p c : ℕ) (f : File) (o r : ℕ) (b : Buffers) (a : Ask
     }
 
     -- the first refusal stops the call
-    pub reading-stops : (answer : ℕ) → (code ≡ 0 → ⊥) → answer ≡ code + 4096 * i → Did (told (several kind 33 p c b)) answer (b .fcb) dma′ (b .list) (b .image)
+    pub reading-stops : (answer : ℕ) → (code ≡ 0 → ⊥) → answer ≡ code + 4096 * i → Did (told (several kind 33 p c b)) answer (withDma b dma′)
     unfolding readAt _if_else_
     reading-stops answer n ha =
         let q : dma′ ≡ dma = hd ∙ rw (ne-eqb (firstOf (rows33 kind o e (r + i) (b .image))) 0 (λ z. n (hc ∙ z))) refl in
         let k = code-is kind p c f o r b a i dma (w .long) below e he code hc in
         let g : told (several kind 33 p c b) ≡ outcome answer (withDma b dma) = stops-told kind 33 p b (withDma b dma) i c (w .so-far)
         (λ z. n (sym k ∙ z)) below ∙ ap (λ (x : ℕ). outcome x (withDma b dma)) (ap (λ (x : ℕ). x + 4096 * i) k ∙ sym ha) in
-        rw q (did-as _ _ answer _ _ _ _ (sym g) (did-none answer (withDma b dma)))
+        rw q (did-as _ _ answer _ (sym g) (did-none answer (withDma b dma)))
 
   -- all went well
-  pub reading-ends : c ≤ i → i ≤ c → Did (told (several kind 33 p c b)) 0 (b .fcb) dma (b .list) (b .image)
-  reading-ends g h = did-as _ _ 0 _ _ _ _ (sym (ends-told kind 33 p b (withDma b dma) i c (w .so-far) g h)) (did-none 0 (withDma b dma))
+  pub reading-ends : c ≤ i → i ≤ c → Did (told (several kind 33 p c b)) 0 (withDma b dma)
+  reading-ends g h = did-as _ _ 0 _ (sym (ends-told kind 33 p b (withDma b dma) i c (w .so-far) g h)) (did-none 0 (withDma b dma))
 
 -- ---- what the call has found
 

@@ -25,7 +25,7 @@ use Rattle.rules.specs.declared.routine.Chosen.the-variants.{Call}
 use Rattle.rules.specs.declared.routine.Routine.{Routine}
 use Rattle.rules.specs.declared.routine.Routine.the-variants.{Write, WriteZeros}
 use Rattle.rules.specs.Serves.{Buffers, Outcome, Did, buffers, outcome, chosen, isUnknown, withImage}
-use Rattle.rules.specs.Drive.{highest, blocks, goodLength, entryOf, lookUp, readOnly, blockIn, freeEntry, freeBlock, soundImage}
+use Rattle.rules.specs.Drive.{blocks, goodLength, entryOf, lookUp, readOnly, blockIn, freeEntry, freeBlock, soundImage}
 use Rattle.rules.specs.Locks.{itemAt, unpack, openOf, lockedByOther}
 use Rattle.rules.specs.Asks.{callerFile, recordOf}
 use Rattle.rules.specs.Codes.{rowsMay, rowsRoom, rows34, isOthers}
@@ -71,8 +71,8 @@ lent-long dma i c h g n₀ =
     rw k (omega arith)
 
 -- a sound image has no more blocks than its kind of drive
-pub few-of : (kind : Kind) (s : List ℕ) → soundImage kind highest s ≡ true → blocks kind s ≤ most kind
-few-of kind s h = length-few kind s (sound-length kind highest s h)
+pub few-of : (kind : Kind) (s : List ℕ) → soundImage kind s ≡ true → blocks kind s ≤ most kind
+few-of kind s h = length-few kind s (sound-length kind s h)
 
 -- ---- another's lock
 
@@ -145,7 +145,7 @@ module _ (kind : Kind) (zeros : Bool) (p c : ℕ) (f : File) (e₀ o r locked : 
   room = let k = a .run-fits in let m = ok .dma-long in omega arith
 
   long : goodLength kind s ≡ true
-  long = sound-length kind highest s (w .image-sound)
+  long = sound-length kind s (w .image-sound)
 
   again : Ready kind b′
   again = record {
@@ -259,8 +259,8 @@ module _ (kind : Kind) (zeros : Bool) (p c : ℕ) (f : File) (e₀ o r locked : 
         same = ap (λ (y : ℕ). written kind zeros (spotAt kind s y q) e₀ f q v s) he
             ∙ ap (λ (y : ℕ). written kind zeros (spotAt kind s here q) y f q v s) (w .first)
 
-        sound₀ : SoundImage kind highest t₀
-        sound₀ = sound-of kind highest t₀ (subst (λ (y : List ℕ). SoundBoth kind (b .list) y) same both .image-sound)
+        sound₀ : SoundImage kind t₀
+        sound₀ = sound-of kind t₀ (subst (λ (y : List ℕ). SoundBoth kind (b .list) y) same both .image-sound)
 
         full : 128 ≤ length v
         full = let k : length v ≡ 128 = part-long (b .dma) (128 * i) 128 room in omega arith
@@ -282,14 +282,16 @@ module _ (kind : Kind) (zeros : Bool) (p c : ℕ) (f : File) (e₀ o r locked : 
 
         at-spot : entryOf kind t₀ f (q / 128) ≡ spotAt kind s here q .entry
         at-spot =
-            let is = written-entry kind zeros s f q v (sound-of kind highest s (w .image-sound)) named (let k = passes .may .fits in omega arith) there full room₀ block₀ in
+            let is = written-entry kind zeros s f q v (sound-of kind s (w .image-sound)) named
+            (let k = passes .may .fits in omega arith) there full room₀ block₀ in
             let k = found-below kind t₀ f (q / 128) (spotAt kind s here q .entry) spot-below is in
             only kind t₀ f (q / 128) (entryOf kind t₀ f (q / 128)) (spotAt kind s here q .entry) (sound₀ .files) k spot-below
             (found-is kind t₀ f (q / 128) named k) is
 
         at-first : entryOf kind t₀ f 0 ≡ entryOf kind s f 0
         at-first =
-            let is = written-first kind zeros s f q v (sound-of kind highest s (w .image-sound)) named (let k = passes .may .fits in omega arith) there full room₀ block₀ in
+            let is = written-first kind zeros s f q v (sound-of kind s (w .image-sound)) named
+            (let k = passes .may .fits in omega arith) there full room₀ block₀ in
             let k = found-below kind t₀ f 0 (entryOf kind s f 0) there is in
             only kind t₀ f 0 (entryOf kind t₀ f 0) (entryOf kind s f 0) (sound₀ .files) k there (found-is kind t₀ f 0 named k) is
 
@@ -325,7 +327,7 @@ module _ (kind : Kind) (zeros : Bool) (p c : ℕ) (f : File) (e₀ o r mode lock
     unfolding rows34
     coded =
         d .gives ∙ ap (λ (m : List Row). firstOf (m ++ rowsRoom kind s e (r + i)))
-        (may-by p (unpack (b .list)) o f e₀ (r + i) s stopped (eqb i locked) (hs ∙ ap (λ (m : ℕ). readOnly s e₀ or eqb m 2) (x .mode-is)) locked-so)
+        (may-by kind p (unpack (b .list)) o f e₀ (r + i) s stopped (eqb i locked) (hs ∙ ap (λ (m : ℕ). readOnly s e₀ or eqb m 2) (x .mode-is)) locked-so)
 
     -- one more
     pub writing-more : code ≡ 0 → length t ≡ length s → Writing kind zeros p f e₀ r locked b (i + 1) entry t
@@ -334,7 +336,8 @@ module _ (kind : Kind) (zeros : Bool) (p c : ℕ) (f : File) (e₀ o r mode lock
         let g : t ≡ written kind zeros (spotAt kind s e (r + i)) e₀ f (r + i) (part (128 * i) 128 (b .dma)) s = d .wrote z
         ∙ ap (λ (m : ℕ). written kind zeros (spotAt kind s e (r + i)) e₀ f (r + i) (take m (drop (128 * i) (b .dma))) s) k in
         let y = subst (λ (m : List ℕ). SoundBoth kind (b .list) m) (sym g) (both kind zeros p c f e₀ o r locked b a i e₁ s w below e he code coded z) in
-        let not-here : i ≡ locked → ⊥ = eqb-false i locked (locked-so ∙ passes kind zeros p c f e₀ o r locked b a i e₁ s w below e he code coded z .may .none-others) in
+        let not-here : i ≡ locked → ⊥ = eqb-false i locked (locked-so
+        ∙ passes kind zeros p c f e₀ o r locked b a i e₁ s w below e he code coded z .may .none-others) in
         let u = w .unlocked in
         record {
           so-far = rw add-one (turn-writes kind zeros p c f e₀ o r locked b a i e₁ s w below e he code coded z
@@ -350,16 +353,16 @@ module _ (kind : Kind) (zeros : Bool) (p c : ℕ) (f : File) (e₀ o r mode lock
 
     -- the first refusal stops the call
     pub writing-stops : (answer : ℕ) → (code ≡ 0 → ⊥) → answer ≡ code + 4096 * i
-        → Did (told (several kind (writeNumber zeros) p c b)) answer (b .fcb) (b .dma) (b .list) t
+        → Did (told (several kind (writeNumber zeros) p c b)) answer (withImage b t)
     writing-stops answer n ha =
         let k = code-is kind zeros p c f e₀ o r locked b a i e₁ s w below e he code coded in
         let g : told (several kind (writeNumber zeros) p c b) ≡ outcome answer (withImage b s) = stops-told kind (writeNumber zeros) p b (withImage b s) i c
         (w .so-far) (λ z. n (sym k ∙ z)) below ∙ ap (λ (m : ℕ). outcome m (withImage b s)) (ap (λ (m : ℕ). m + 4096 * i) k ∙ sym ha) in
-        rw (d .kept n) (did-as _ _ answer _ _ _ _ (sym g) (did-none answer (withImage b s)))
+        rw (d .kept n) (did-as _ _ answer _ (sym g) (did-none answer (withImage b s)))
 
   -- all went well
-  pub writing-ends : c ≤ i → i ≤ c → Did (told (several kind (writeNumber zeros) p c b)) 0 (b .fcb) (b .dma) (b .list) s
-  writing-ends g h = did-as _ _ 0 _ _ _ _ (sym (ends-told kind (writeNumber zeros) p b (withImage b s) i c (w .so-far) g h)) (did-none 0 (withImage b s))
+  pub writing-ends : c ≤ i → i ≤ c → Did (told (several kind (writeNumber zeros) p c b)) 0 (withImage b s)
+  writing-ends g h = did-as _ _ 0 _ (sym (ends-told kind (writeNumber zeros) p b (withImage b s) i c (w .so-far) g h)) (did-none 0 (withImage b s))
 
 -- ---- what the call has found of the list
 

@@ -9,7 +9,7 @@ use Rattle.rules.specs.Kinds.{entries}
 use Rattle.rules.specs.declared.file.File.{File}
 use Rattle.rules.specs.declared.list.LockList.{LockList}
 use Rattle.rules.specs.Serves.{Buffers, withDma, withImage}
-use Rattle.rules.specs.Drive.{highest, entryOf, soundImage}
+use Rattle.rules.specs.Drive.{entryOf, soundImage}
 use Rattle.rules.specs.Locks.{itemAt, unpack, openOf, soundList}
 use Rattle.rules.specs.Asks.{callerFile, recordOf}
 use Rattle.rules.specs.Codes.{badDrive, isOthers}
@@ -51,8 +51,8 @@ pub record StopsAt (l : LockList) (p : ℕ) (f : File) (o r c mode locked : ℕ)
 pub record Writing (kind : Kind) (zeros : Bool) (p : ℕ) (f : File) (e₀ r locked : ℕ) (b : Buffers) (i e : ℕ) (s : List ℕ) : Type 0 where
   pub so-far : several kind (writeNumber zeros) p i b ≡ run 0 i (withImage b s)
   pub long : length s ≡ length (b .image)
-  pub image-sound : soundImage kind highest s ≡ true
-  pub list-sound : soundList kind highest (b .list) s ≡ true
+  pub image-sound : soundImage kind s ≡ true
+  pub list-sound : soundList kind (b .list) s ≡ true
   pub first : e₀ ≡ entryOf kind s f 0
   pub unlocked : i ≤ locked
   pub known : Known kind s f r i e

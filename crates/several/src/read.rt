@@ -30,7 +30,7 @@ fn read_run(
     image: &[u8],
 ) -> u32
     requires { ⌜ (r < 16777216) × Asks kind 33 p count f o r (buffers (now fcb) (now dma) (now list) (now image)) ⌝ }
-    ensures { λ c. ⌜ Did (told (several kind 33 p count (buffers (now (fcb .entry)) (now (dma .entry)) (now (list .entry)) (now (image .entry))))) c (now (fcb .entry)) (now (dma .exit)) (now (list .entry)) (now (image .entry)) ⌝ }
+    ensures { λ c. ⌜ Did (told (several kind 33 p count (buffers (now (fcb .entry)) (now (dma .entry)) (now (list .entry)) (now (image .entry))))) c (buffers (now (fcb .entry)) (now (dma .exit)) (now (list .entry)) (now (image .entry))) ⌝ }
 {
     let mut e = 0;
     let mut i = 0;
@@ -57,7 +57,7 @@ pub fn read_several(
     image: &[u8],
 ) -> u32
     requires { ⌜ (l ≡ unpack (now list)) × (p < 16) × (count ≤ 16) × (badDrive 33 (now fcb) ≡ false) × Ready kind (buffers (now fcb) (now dma) (now list) (now image)) ⌝ }
-    ensures { λ c. ⌜ Did (told (several kind 33 p count (buffers (now (fcb .entry)) (now (dma .entry)) (now (list .entry)) (now (image .entry))))) c (now (fcb .entry)) (now (dma .exit)) (now (list .entry)) (now (image .entry)) ⌝ }
+    ensures { λ c. ⌜ Did (told (several kind 33 p count (buffers (now (fcb .entry)) (now (dma .entry)) (now (list .entry)) (now (image .entry))))) c (buffers (now (fcb .entry)) (now (dma .exit)) (now (list .entry)) (now (image .entry))) ⌝ }
 {
     let f = caller_file(l, p, fcb);
     let o = l.open_of(p, f);

@@ -36,7 +36,7 @@ fn write_run(
     image: &mut [u8],
 ) -> u32
     requires { ⌜ (r < 16777216) × StopsAt (unpack (now list)) p f o r count mode locked × Asks kind (writeNumber zeros) p count f o r (buffers (now fcb) (now dma) (now list) (now image)) ⌝ }
-    ensures { λ c. ⌜ Did (told (several kind (writeNumber zeros) p count (buffers (now (fcb .entry)) (now (dma .entry)) (now (list .entry)) (now (image .entry))))) c (now (fcb .entry)) (now (dma .entry)) (now (list .entry)) (now (image .exit)) ⌝ }
+    ensures { λ c. ⌜ Did (told (several kind (writeNumber zeros) p count (buffers (now (fcb .entry)) (now (dma .entry)) (now (list .entry)) (now (image .entry))))) c (buffers (now (fcb .entry)) (now (dma .entry)) (now (list .entry)) (now (image .exit))) ⌝ }
 {
     let first = entry_of(kind, &*image, f, 0);
     let mut e = 0;
@@ -81,7 +81,7 @@ pub fn write_several(
     image: &mut [u8],
 ) -> u32
     requires { ⌜ (l ≡ unpack (now list)) × (p < 16) × (count ≤ 16) × (badDrive (writeNumber zeros) (now fcb) ≡ false) × Ready kind (buffers (now fcb) (now dma) (now list) (now image)) ⌝ }
-    ensures { λ c. ⌜ Did (told (several kind (writeNumber zeros) p count (buffers (now (fcb .entry)) (now (dma .entry)) (now (list .entry)) (now (image .entry))))) c (now (fcb .entry)) (now (dma .entry)) (now (list .entry)) (now (image .exit)) ⌝ }
+    ensures { λ c. ⌜ Did (told (several kind (writeNumber zeros) p count (buffers (now (fcb .entry)) (now (dma .entry)) (now (list .entry)) (now (image .entry))))) c (buffers (now (fcb .entry)) (now (dma .entry)) (now (list .entry)) (now (image .exit))) ⌝ }
 {
     let f = caller_file(l, p, fcb);
     let o = l.open_of(p, f);

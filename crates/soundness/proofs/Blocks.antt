@@ -13,7 +13,7 @@ use Rattle.words.proofs.Tests.{either, equal?, any-found, lowest-below}
 use Rattle.rules.specs.declared.kind.Kind.{Kind}
 use Rattle.rules.specs.Kinds.{entries}
 use Rattle.rules.specs.declared.file.File.{File}
-use Rattle.rules.specs.Drive.{highest, mapNumber, mapPlace, isEntry, entryOf, blockIn, blockOf}
+use Rattle.rules.specs.Drive.{mapNumber, mapPlace, isEntry, entryOf, blockIn, blockOf}
 use Rattle.rules.proofs.Sizes.{place-fits}
 use Rattle.rules.proofs.Sound.{Is, Entries, Names, SoundImage, entry-so, found-is, block-is, block-named}
 use Rattle.rules.proofs.Frames.{Same, head-of, same-back, is-same, map-same}
@@ -42,7 +42,7 @@ unfolding entryOf
 found-below kind s f x e l h = lowest-below (isEntry s f x) (entries kind) (any-found (isEntry s f x) (entries kind) e l (entry-so s f x e h))
 
 -- an extent of a file stands at one entry only
-pub only : (kind : Kind) (s : List ℕ) (f : File) (x e d : ℕ) → Entries kind highest s → e < entries kind → d < entries kind → Is s f x e → Is s f x d → e ≡ d
+pub only : (kind : Kind) (s : List ℕ) (f : File) (x e d : ℕ) → Entries kind s → e < entries kind → d < entries kind → Is s f x e → Is s f x d → e ≡ d
 only kind s f x e d g l k a b =
     ⊎-elim
     (λ (c : ltb e d ≡ true). absurd (g .single e d (ltb-true e d c) k (b .used)
@@ -56,17 +56,17 @@ only kind s f x e d g l k a b =
 -- a block that is found is the one that the record has, ..
 pub at-of : (kind : Kind) (s : List ℕ) (f : File) (r : ℕ) → length (f .name) ≡ 11 → (blockOf kind s f r ≡ 0 → ⊥) → At kind s f r (blockOf kind s f r)
 at-of kind s f r n h =
-    let m = block-named kind highest s f r h in
+    let m = block-named kind s f r h in
     record {
       entry = entryOf kind s f (r / 128);
       below = m .entry-there;
       is = found-is kind s f (r / 128) n (m .entry-there);
-      number = sym (block-is kind highest s f r h);
+      number = sym (block-is kind s f r h);
       some = h;
     }
 
 -- .. and the one that it has is found
-pub of-at : (kind : Kind) (s : List ℕ) (f : File) (r b : ℕ) → length (f .name) ≡ 11 → SoundImage kind highest s → At kind s f r b → blockOf kind s f r ≡ b
+pub of-at : (kind : Kind) (s : List ℕ) (f : File) (r b : ℕ) → length (f .name) ≡ 11 → SoundImage kind s → At kind s f r b → blockOf kind s f r ≡ b
 unfolding blockOf blockIn _if_else_
 of-at kind s f r b n g a =
     let e = entryOf kind s f (r / 128) in
@@ -75,7 +75,7 @@ of-at kind s f r b n g a =
     rw (lt-leb (entries kind) e l, ← q) (a .number)
 
 -- two images in which the record has the same block, or both none
-pub blocks-same : (kind : Kind) (s t : List ℕ) (f : File) (r : ℕ) → length (f .name) ≡ 11 → SoundImage kind highest s → SoundImage kind highest t
+pub blocks-same : (kind : Kind) (s t : List ℕ) (f : File) (r : ℕ) → length (f .name) ≡ 11 → SoundImage kind s → SoundImage kind t
     → ((b : ℕ) → At kind s f r b → At kind t f r b) → ((b : ℕ) → At kind t f r b → At kind s f r b) → blockOf kind t f r ≡ blockOf kind s f r
 blocks-same kind s t f r n g h forth back =
     ⊎-elim

@@ -9,7 +9,7 @@ use Rattle.words.specs.Bytes.{byte}
 use Rattle.rules.specs.declared.kind.Kind.{Kind}
 use Rattle.rules.specs.Kinds.{entries}
 use Rattle.rules.specs.declared.file.File.{File}
-use Rattle.rules.specs.Drive.{highest, isEmpty, fileAt, mapNumber}
+use Rattle.rules.specs.Drive.{isEmpty, fileAt, mapNumber}
 use Rattle.rules.proofs.Sound.{Names, SoundImage}
 use Rattle.rules.proofs.Frames.{Head, Same, head-of, head-then, same-refl, same-then, empty-same, file-same, map-same}
 use Rattle.soundness.proofs.Steps.{Stays}
@@ -35,7 +35,7 @@ pub record Data (kind : Kind) (s t : List ℕ) (a m : ℕ) : Type 0 where
 
 -- a new number stands at place q of entry n at most
 pub record Change (kind : Kind) (s t : List ℕ) (f : File) (a m n q : ℕ) : Type 0 where
-  pub sound : SoundImage kind highest t
+  pub sound : SoundImage kind t
   pub rest : (e k : ℕ) → Names kind t e k → ((e ≡ n) × (k ≡ q)) ⊎ Stays kind s t e k
   pub grown : Grown kind s t
   pub touches : Touches kind s t f f
@@ -62,7 +62,7 @@ names-grown kind s t g e k w = record {
 }
 
 -- a sound image that stays as it is
-pub no-change : (kind : Kind) (s : List ℕ) (f : File) (a m n q : ℕ) → SoundImage kind highest s → Change kind s s f a m n q
+pub no-change : (kind : Kind) (s : List ℕ) (f : File) (a m n q : ℕ) → SoundImage kind s → Change kind s s f a m n q
 no-change kind s f a m n q g = record {
   sound = g;
   rest = λ e k w. inr (record { named = w; number = refl });

@@ -13,7 +13,7 @@ use Rattle.rules.specs.declared.kind.Kind.{Kind}
 use Rattle.rules.specs.Kinds.{entries}
 use Rattle.rules.specs.declared.file.File.{File}
 use Rattle.rules.specs.Serves.{Buffers}
-use Rattle.rules.specs.Drive.{highest, isEmpty, fileFrom, fileAt, entryOf, freeEntry, legalName, isOf}
+use Rattle.rules.specs.Drive.{isEmpty, fileFrom, fileAt, entryOf, freeEntry, legalName, isOf}
 use Rattle.rules.specs.Locks.{userOf, isLow}
 use Rattle.rules.specs.Asks.{callerFile, newFile, recordOf}
 use Rattle.rules.specs.Effects.{made, renamed}
@@ -31,8 +31,8 @@ use Rattle.soundness.proofs.Leaves.{listOf, fileBy, newBy, MayMake, May
 
 module _ (kind : Kind) (p c : ℕ) (b : Buffers) (ok : Passed kind p c b) where
   -- the image that was lent is sound, ..
-  pub image-of : SoundImage kind highest (b .image)
-  image-of = sound-of kind highest (b .image) (ok .ready .image-sound)
+  pub image-of : SoundImage kind (b .image)
+  image-of = sound-of kind (b .image) (ok .ready .image-sound)
 
   -- .. the list has its shape, ..
   pub shape-of : Shape (listOf b)
@@ -83,7 +83,7 @@ module _ (kind : Kind) (p c : ℕ) (b : Buffers) (ok : Passed kind p c b) where
       (record { used = k .2 .used; file = k .2 .file ∙ e ∙ new-is; extent = k .2 .extent })
 
   -- the image with the file renamed is sound; ..
-  pub renamed-of : MayRename kind p b → SoundImage kind highest (renamed kind (fileBy p b) (new .name) (b .image))
+  pub renamed-of : MayRename kind p b → SoundImage kind (renamed kind (fileBy p b) (new .name) (b .image))
   renamed-of w = renamed-sound kind (b .image) (fileBy p b) (new .name) image-of (caller-long p (listOf b) (b .fcb)) (new-long p (listOf b) (b .fcb)) new-low
       (new-legal w) (new-none w)
 

@@ -18,11 +18,11 @@ use Rattle.words.proofs.Lists.{tab-ext}
 use Rattle.words.proofs.Bytes.{put-in, put-out, length-put}
 use Rattle.words.proofs.Sets.{and-both}
 use Rattle.rules.specs.declared.kind.Kind.{Kind}
-use Rattle.rules.specs.Kinds.{entries}
+use Rattle.rules.specs.Kinds.{entries, top, lastModule}
 use Rattle.rules.specs.declared.file.File.{File}
-use Rattle.rules.specs.Drive.{highest, isEmpty, nameAt, extentAt, mapNumber, fileFrom, fileAt, isEntry, entryOf, freeEntry, legalByte, legalAt, legalName, goodUser, goodNumbers, goodFields}
+use Rattle.rules.specs.Drive.{isEmpty, nameAt, extentAt, mapNumber, fileFrom, fileAt, isEntry, entryOf, freeEntry, legalByte, legalAt, legalName, goodUser, goodNumbers, goodFields}
 use Rattle.rules.specs.Effects.{madeEntry, made, newEntry}
-use Rattle.rules.proofs.Sizes.{map-bytes}
+use Rattle.rules.proofs.Sizes.{map-bytes, module-last}
 use Rattle.rules.proofs.Sound.{Is, Names, SoundImage, entry-so, found-is, length-long}
 use Rattle.rules.proofs.Frames.{Same, head-of, empty-same, extent-same, file-same, fields-same, map-same, names-same, user-good, user-is, long-same}
 use Rattle.soundness.proofs.Numbers.{map-none}
@@ -31,7 +31,7 @@ use Rattle.soundness.proofs.Changes.{Change}
 
 -- ---- an entry v in place n
 
-module _ (kind : Kind) (s v : List ℕ) (n : ℕ) (g : SoundImage kind highest s) (below : n < entries kind) (size : length v ≡ 32) where
+module _ (kind : Kind) (s v : List ℕ) (n : ℕ) (g : SoundImage kind s) (below : n < entries kind) (size : length v ≡ 32) where
   fits : 32 * n + length v ≤ length s
   fits = omega (arith, length-long kind s (g .long))
 
@@ -61,7 +61,7 @@ module _ (kind : Kind) (s v : List ℕ) (n : ℕ) (g : SoundImage kind highest s
       (equal? e n)
 
   -- a good entry of a missing extent, which is 0 or whose file has its extent 0, enters: the image stays sound, and nothing is taken away
-  pub entry-put : isEmpty s n ≡ true → isEmpty v 0 ≡ false → goodFields highest v 0 ≡ true
+  pub entry-put : isEmpty s n ≡ true → isEmpty v 0 ≡ false → goodFields kind v 0 ≡ true
       → ((k : ℕ) → k < 16 → byte v (16 + k) ≡ 0)
       → ((d : ℕ) → d < entries kind → Is s (fileAt v 0) (extentAt v 0) d → ⊥)
       → ((extentAt v 0 ≡ 0) ⊎ ((d : ℕ) × (d < entries kind) × Is s (fileAt v 0) 0 d))
@@ -76,7 +76,7 @@ module _ (kind : Kind) (s v : List ℕ) (n : ℕ) (g : SoundImage kind highest s
       record {
         sound = record {
           long = long-same kind s t len (g .long);
-          files = enters kind s t n below was (λ e l q. around e q) (fields-same v 0 t n within good)
+          files = enters kind s t n below was (λ e l q. around e q) (fields-same kind v 0 t n within good)
               (rw (f, x) new) (rw (f, x) begun) (empty-same v 0 t n h ∙ u) (g .files);
           maps = fewer kind s t len (put-stays zs) (g .maps);
         };
@@ -115,7 +115,7 @@ not-229 u h = ne-eqb u 229 (λ (q : u ≡ 229). absurd (omega arith))
 pub low-low : (b : ℕ) → b % 128 % 128 ≡ b % 128
 low-low b = omega arith
 
-module _ (kind : Kind) (s fcb : List ℕ) (u : ℕ) (g : SoundImage kind highest s) (user : u ≤ 15) (legal : legalName fcb 1 ≡ true)
+module _ (kind : Kind) (s fcb : List ℕ) (u : ℕ) (g : SoundImage kind s) (user : u ≤ 15) (legal : legalName fcb 1 ≡ true)
     (gone : entries kind ≤ entryOf kind s (fileFrom u fcb 1) 0) (room : freeEntry kind s < entries kind) where
   abbrev newcomer : List ℕ
   newcomer = fileFrom u fcb 1 .user ∷ (fileFrom u fcb 1 .name ++ replicate 20 0)
@@ -124,9 +124,10 @@ module _ (kind : Kind) (s fcb : List ℕ) (u : ℕ) (g : SoundImage kind highest
   unfolding fileAt fileFrom tab
   new-file = λ i. record { user = u; name = tab-ext (λ (k : ℕ). byte fcb (1 + k) % 128 % 128) (lowFrom fcb 1) 11 (λ k l. low-low (byte fcb (1 + k))) i }
 
-  new-good : goodFields highest newcomer 0 ≡ true
+  new-good : goodFields kind newcomer 0 ≡ true
   unfolding goodFields goodUser goodNumbers fileFrom tab legalName legalAt legalByte all
-  new-good = and-both _ _ (le-leb u 15 user) (and-both _ _ (simp low-low legal) (and-both _ _ refl (and-both _ _ refl refl)))
+  new-good = and-both _ _ (le-leb u 15 user) (and-both _ _ (simp low-low legal) (and-both _ _ refl (and-both _ _ (le-leb 0 (lastModule kind)
+      (omega arith)) refl)))
 
   -- Make's entry has a map of zeros; ..
   pub new-zeros : (k : ℕ) → k < 16 → byte newcomer (16 + k) ≡ 0
@@ -156,7 +157,7 @@ module _ (kind : Kind) (s fcb : List ℕ) (u : ℕ) (g : SoundImage kind highest
 
 -- ---- a missing extent
 
-module _ (kind : Kind) (s : List ℕ) (f : File) (x : ℕ) (g : SoundImage kind highest s) (named : length (f .name) ≡ 11) (far : x < 2048)
+module _ (kind : Kind) (s : List ℕ) (f : File) (x : ℕ) (g : SoundImage kind s) (named : length (f .name) ≡ 11) (far : x ≤ top kind / 128)
     (there : entryOf kind s f 0 < entries kind) (gone : entries kind ≤ entryOf kind s f x) (room : freeEntry kind s < entries kind) where
   abbrev fresh : List ℕ
   fresh = newEntry s (entryOf kind s f 0) f x
@@ -164,7 +165,7 @@ module _ (kind : Kind) (s : List ℕ) (f : File) (x : ℕ) (g : SoundImage kind 
   zeroth : Is s f 0 (entryOf kind s f 0)
   zeroth = found-is kind s f 0 named there
 
-  zeroth-good : goodFields highest s (entryOf kind s f 0) ≡ true
+  zeroth-good : goodFields kind s (entryOf kind s f 0) ≡ true
   zeroth-good = g .files .fields (entryOf kind s f 0) there (zeroth .used)
 
   ext-file : fileAt fresh 0 ≡ f
@@ -176,18 +177,18 @@ module _ (kind : Kind) (s : List ℕ) (f : File) (x : ℕ) (g : SoundImage kind 
   ext-extent = omega arith
 
   user-fits : f .user ≤ 15
-  user-fits = let q = user-good s (entryOf kind s f 0) zeroth-good in omega (arith, user-is s f (entryOf kind s f 0) (zeroth .file))
+  user-fits = let q = user-good kind s (entryOf kind s f 0) zeroth-good in omega (arith, user-is s f (entryOf kind s f 0) (zeroth .file))
 
   ext-legal : legalName fresh 1 ≡ legalName s (nameAt (entryOf kind s f 0))
   unfolding newEntry legalName legalAt tab all
   ext-legal = simp add-zero
 
-  ext-good : goodFields highest fresh 0 ≡ true
+  ext-good : goodFields kind fresh 0 ≡ true
   unfolding newEntry goodFields goodUser goodNumbers tab
   ext-good =
       and-both _ _ (le-leb _ _ user-fits)
       (and-both _ _ (ext-legal ∙ and-fst _ _ (and-snd _ _ zeroth-good))
-      (and-both _ _ (le-leb (x % 32) 31 (omega arith)) (and-both _ _ (le-leb (x / 32) 63 (omega arith)) refl)))
+      (and-both _ _ (le-leb (x % 32) 31 (omega arith)) (and-both _ _ (le-leb (x / 32) (lastModule kind) (let m = module-last kind in omega arith)) refl)))
 
   ext-zeros : (k : ℕ) → k < 16 → byte fresh (16 + k) ≡ 0
   unfolding newEntry tab

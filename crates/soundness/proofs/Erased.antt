@@ -14,7 +14,7 @@ use Rattle.words.proofs.Tests.{either, equal?, never}
 use Rattle.rules.specs.declared.kind.Kind.{Kind}
 use Rattle.rules.specs.Kinds.{entries}
 use Rattle.rules.specs.declared.file.File.{File}
-use Rattle.rules.specs.Drive.{highest, isEmpty, fileAt, isOf}
+use Rattle.rules.specs.Drive.{isEmpty, fileAt, isOf}
 use Rattle.rules.specs.Effects.{erasedAt, erased}
 use Rattle.rules.proofs.Sound.{Names, SoundImage, length-long}
 use Rattle.rules.proofs.Frames.{Head, Same, head-of, first, empty-same, extent-same, file-same, fields-same, map-same, of-same, of-file, file-of, long-same}
@@ -23,7 +23,7 @@ use Rattle.soundness.proofs.Stored.{stays-same}
 use Rattle.soundness.proofs.Changes.{Touches}
 use Rattle.soundness.proofs.Turns.{Turned, turned}
 
-module _ (kind : Kind) (s : List ℕ) (f : File) (g : SoundImage kind highest s) (size : length (f .name) ≡ 11) where
+module _ (kind : Kind) (s : List ℕ) (f : File) (g : SoundImage kind s) (size : length (f .name) ≡ 11) where
   erase-same : (t : List ℕ) (e : ℕ) → isOf t f e ≡ false → erasedAt f e t ≡ t
   unfolding erasedAt _if_else_
   erase-same t e h = rw h
@@ -98,12 +98,12 @@ module _ (kind : Kind) (s : List ℕ) (f : File) (g : SoundImage kind highest s)
       stays-same kind s (erased kind f s) e k (head-of s e (erased kind f s) e w) (map-same kind s (erased kind f s) e k w (n .place-there)) n
 
   -- .. the image is sound, ..
-  pub erased-sound : SoundImage kind highest (erased kind f s)
+  pub erased-sound : SoundImage kind (erased kind f s)
   erased-sound =
       let t = erased kind f s in
       record {
         long = long-same kind s t (all-erased .len) (g .long);
-        files = moves kind s t (λ e l u. sym (empty-same s e t e (heads e l u)) ∙ u) (λ e l u q. fields-same s e t e (still e l u) q)
+        files = moves kind s t (λ e l u. sym (empty-same s e t e (heads e l u)) ∙ u) (λ e l u q. fields-same kind s e t e (still e l u) q)
             (λ e l u. extent-same s e t e (heads e l u)) (λ d e k l u v q. sym (files d k u) ∙ q ∙ files e l v)
             (λ d e k l u v q.
             let p = ⊎-elim (λ (h : isOf s f d ≡ true).

@@ -7,7 +7,7 @@ use Rattle.rules.specs.declared.kind.Kind.{Kind}
 use Rattle.rules.specs.Kinds.{entries}
 use Rattle.rules.specs.declared.file.File.{File}
 use Rattle.rules.specs.declared.list.LockList.{LockList}
-use Rattle.rules.specs.Drive.{highest, entryOf, blockOf}
+use Rattle.rules.specs.Drive.{entryOf, blockOf}
 use Rattle.rules.specs.Locks.{itemAt, fileOf}
 use Rattle.rules.proofs.Sound.{Is, SoundImage, found-is}
 use Rattle.rules.proofs.SoundList.{Shape, GoodOpen, GoodLock, Used, Vacant, SoundLocks}
@@ -45,7 +45,7 @@ module _ (kind : Kind) (s t : List ℕ) (l : LockList) (g : SoundLocks kind l s)
 
 -- ---- an image that has grown
 
-module _ (kind : Kind) (s t : List ℕ) (l : LockList) (h : Shape l) (a : SoundImage kind highest t) (g : SoundLocks kind l s) where
+module _ (kind : Kind) (s t : List ℕ) (l : LockList) (h : Shape l) (a : SoundImage kind t) (g : SoundLocks kind l s) where
   there-so : (i : ℕ) → i < 64 → (e : ℕ) → e < entries kind → Is t (fileOf l (itemAt l i)) 0 e → entryOf kind t (fileOf l (itemAt l i)) 0 < entries kind
   there-so i m e k w = found-below kind t (fileOf l (itemAt l i)) 0 e k w
 

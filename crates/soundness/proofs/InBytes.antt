@@ -16,7 +16,7 @@ use Rattle.words.proofs.Tests.{either, all-at, and-fst, and-snd}
 use Rattle.words.proofs.Lists.{tab-at}
 use Rattle.words.proofs.AreBytes.{bytes-cons, bytes-append, bytes-take, bytes-part, bytes-put, bytes-set, byte-small, bytes-replicate, bytes-tab, bytes-flat, bytes-le, bytes-turns}
 use Rattle.rules.specs.declared.kind.Kind.{Kind}
-use Rattle.rules.specs.Kinds.{entries, blockSize, width}
+use Rattle.rules.specs.Kinds.{entries, blockSize, width, top}
 use Rattle.rules.specs.declared.file.File.{File}
 use Rattle.rules.specs.declared.item.Item.{Item}
 use Rattle.rules.specs.declared.list.LockList.{LockList}
@@ -35,6 +35,7 @@ use Rattle.rules.proofs.SoundList.{Shape, GoodOpen, GoodLock, Used, Vacant, Sou
 use Rattle.soundness.proofs.Shapes.{SoundShape, emptied-shape, locked-shape}
 use Rattle.soundness.proofs.Leaves.{listOf, fileBy, newBy}
 use Rattle.soundness.proofs.Left.{ListLeft, ImageLeft, list-same, one-set, run-set, emptied, image-same, entry-made, record-stored, file-erased, file-renamed, left}
+use Rattle.rules.proofs.Sizes.{top-fits}
 
 bytes-if : (t : Bool) (a b : List ℕ) → areBytes a ≡ true → areBytes b ≡ true → areBytes (a if t else b) ≡ true
 unfolding _if_else_
@@ -82,10 +83,11 @@ renamed-bytes kind f h s w g =
     low : (e : ℕ) (t : List ℕ) → areBytes t ≡ true → (j : ℕ) → j < 11 → byte t (nameAt e + j) / 128 * 128 + byte (h .name) j < 256
     low e t k j m = let a = byte-small t (nameAt e + j) k in let b = w .name-low j m in omega arith
 
-module _ (kind : Kind) (w : Spot) (f : File) (r : ℕ) (named : Sayable f) (fits : r ≤ 262143) where
+module _ (kind : Kind) (w : Spot) (f : File) (r : ℕ) (named : Sayable f) (fits : r ≤ top kind) where
   entered-bytes : (e₀ : ℕ) (s : List ℕ) → areBytes s ≡ true → areBytes (entered w e₀ f r s) ≡ true
   unfolding entered newEntry
   entered-bytes e₀ s h =
+      let small = top-fits kind in
       let ends = bytes-cons (r / 128 % 32) _ (omega arith) (bytes-cons 0 _ (omega arith)
       (bytes-cons (r / 128 / 32) (replicate 17 0) (omega arith) (bytes-replicate 17 0 (omega arith)))) in
       let name = bytes-tab (byteFrom s (nameAt e₀)) 11 (λ k m. byte-small s (nameAt e₀ + k) h) in

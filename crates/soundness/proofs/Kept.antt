@@ -11,7 +11,7 @@ use Rattle.rules.specs.declared.kind.Kind.{Kind}
 use Rattle.rules.specs.declared.file.File.{File}
 use Rattle.rules.specs.declared.list.LockList.{LockList}
 use Rattle.rules.specs.Serves.{Buffers}
-use Rattle.rules.specs.Drive.{highest, soundImage}
+use Rattle.rules.specs.Drive.{soundImage}
 use Rattle.rules.specs.Locks.{pack, soundList, anyOpen}
 use Rattle.rules.specs.Asks.{recordOf}
 use Rattle.rules.specs.Call.{call}
@@ -32,25 +32,25 @@ use Rattle.soundness.proofs.Shapes.{SoundShape, emptied-shape, locked-s
 use Rattle.soundness.proofs.Left.{ListLeft, ImageLeft, list-same, one-set, run-set, emptied, image-same, entry-made, record-stored, file-erased, file-renamed, left}
 
 pub record SoundBoth (kind : Kind) (list image : List ℕ) : Type 0 where
-  pub image-sound : soundImage kind highest image ≡ true
+  pub image-sound : soundImage kind image ≡ true
   pub list-long : length list ≡ 1299
-  pub list-sound : soundList kind highest list image ≡ true
+  pub list-sound : soundList kind list image ≡ true
 
-packed : (kind : Kind) (l : LockList) (s : List ℕ) → SoundShape kind l s → soundImage kind highest s ≡ true → SoundBoth kind (pack l) s
+packed : (kind : Kind) (l : LockList) (s : List ℕ) → SoundShape kind l s → soundImage kind s ≡ true → SoundBoth kind (pack l) s
 packed kind l s h g = record { image-sound = g; list-long = pack-long l (h .shape .items-long); list-sound = list-sound-so kind l s (h .sound) (h .shape) }
 
 -- ---- the image changed, the list stays
 
 module _ (kind : Kind) (p c : ℕ) (b : Buffers) (ok : Passed kind p c b) where
-  list-follows : (t : List ℕ) → SoundImage kind highest t → SoundLocks kind (listOf b) t → SoundBoth kind (b .list) t
+  list-follows : (t : List ℕ) → SoundImage kind t → SoundLocks kind (listOf b) t → SoundBoth kind (b .list) t
   unfolding soundList
   list-follows t g h = record {
-    image-sound = sound-so kind highest t g;
+    image-sound = sound-so kind t g;
     list-long = ok .ready .list-long;
     list-sound = and-both _ _ (and-fst _ _ (ok .ready .list-sound)) (locks-so kind (listOf b) t h);
   }
 
-  grown : (t : List ℕ) → SoundImage kind highest t → Grown kind (b .image) t → SoundBoth kind (b .list) t
+  grown : (t : List ℕ) → SoundImage kind t → Grown kind (b .image) t → SoundBoth kind (b .list) t
   grown t g w = list-follows t g (follow-grown kind (b .image) t (listOf b) (shape-of kind p c b ok) g (list-of kind p c b ok) w)
 
   written : (t : List ℕ) → Old kind (b .image) t (fileBy p b) (recordOf (b .fcb)) ⊎ New kind (b .image) t (fileBy p b) (recordOf (b .fcb))
@@ -59,7 +59,7 @@ module _ (kind : Kind) (p c : ℕ) (b : Buffers) (ok : Passed kind p c b) where
       ⊎-elim (λ (k : Old kind (b .image) t (fileBy p b) (recordOf (b .fcb))). grown t (k .wrote .change .sound) (k .wrote .change .grown))
       (λ (k : New kind (b .image) t (fileBy p b) (recordOf (b .fcb))). grown t (k .wrote .change .sound) (k .wrote .change .grown)) w
 
-  touched : (t : List ℕ) (h : File) → SoundImage kind highest t → Touches kind (b .image) t (fileBy p b) h → anyOpen (listOf b) (fileBy p b) ≡ false
+  touched : (t : List ℕ) (h : File) → SoundImage kind t → Touches kind (b .image) t (fileBy p b) h → anyOpen (listOf b) (fileBy p b) ≡ false
       → SoundBoth kind (b .list) t
   touched t h g w none =
       list-follows t g (follow-touched kind (b .image) t (listOf b) (shape-of kind p c b ok) g (list-of kind p c b ok) (fileBy p b) h w

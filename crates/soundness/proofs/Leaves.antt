@@ -9,7 +9,7 @@ use Rattle.words.specs.Bytes.{part}
 use lib.Dec.{eqb, leb}
 use Rattle.words.specs.Tests.{_and_, any, count}
 use Rattle.rules.specs.declared.kind.Kind.{Kind}
-use Rattle.rules.specs.Kinds.{entries}
+use Rattle.rules.specs.Kinds.{entries, top}
 use Rattle.rules.specs.declared.file.File.{File}
 use Rattle.rules.specs.declared.list.LockList.{LockList}
 use Rattle.rules.specs.declared.routine.Routine.the-variants.{Open, Close, Delete, Make, Rename, Read, Write, WriteZeros, TestWrite, Lock, Unlock, FreeSpace, Terminate}
@@ -77,7 +77,7 @@ pub record MayRename (kind : Kind) (p : ℕ) (b : Buffers) : Type 0 where
 
 pub record MayWrite (kind : Kind) (p : ℕ) (b : Buffers) : Type 0 where
   pub is-open : openBy p b < 64
-  pub fits : recordOf (b .fcb) ≤ 262143
+  pub fits : recordOf (b .fcb) ≤ top kind
   pub unlocked-by-others : lockedByOther (listOf b) p (fileBy p b) (recordOf (b .fcb)) ≡ false
   pub entry-room : (leb (entries kind) (entryOf kind (b .image) (fileBy p b) (recordOf (b .fcb) / 128)) and leb (entries kind)
       (freeEntry kind (b .image))) ≡ false
@@ -87,7 +87,7 @@ pub record MayWrite (kind : Kind) (p : ℕ) (b : Buffers) : Type 0 where
 pub record MayLock (kind : Kind) (p c : ℕ) (b : Buffers) : Type 0 where
   pub is-open : openBy p b < 64
   pub is-unlocked : modeBy p b ≡ 1
-  pub fits : recordOf (b .fcb) + c - 1 ≤ 262143
+  pub fits : recordOf (b .fcb) + c - 1 ≤ top kind
   pub have-blocks : (k : ℕ) → k < c → blockOf kind (b .image) (fileBy p b) (recordOf (b .fcb) + k) ≡ 0 → ⊥
   pub none-others : (k : ℕ) → k < c → lockedByOther (listOf b) p (fileBy p b) (recordOf (b .fcb) + k) ≡ false
   pub within : locksBy (listOf b) p + c ≤ listOf b .locklimit

@@ -111,7 +111,7 @@ module _ (l : LockList) (j : ℕ) (it : Item) (h : Shape l) (inside : j < 64) wh
 -- the item is good, clashes with none, and its process keeps its limits
 pub record Fits (kind : Kind) (s : List ℕ) (l : LockList) (j : ℕ) (it : Item) : Type 0 where
   pub name-long : length (it .name) ≡ 11
-  pub plain : isPlain it ≡ true
+  pub plain : isPlain kind it ≡ true
   pub good : GoodOpen kind s l it ⊎ GoodLock kind s l it
   pub no-clash : (i : ℕ) → i < 64 → (i ≡ j → ⊥) → (clash it (itemAt l i) and sameFile (fileOf l it) (fileOf l (itemAt l i))) ≡ false
   pub opens-fit : (p : ℕ) → isKindBy 1 p it ≡ true → opensBy l p < l .openlimit

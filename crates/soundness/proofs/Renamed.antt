@@ -17,9 +17,9 @@ use Rattle.words.proofs.Lists.{tab-ext, tab-getD, tab-at, length-tab}
 use Rattle.words.proofs.Bytes.{put-in, put-out, length-put}
 use Rattle.words.proofs.Sets.{and-both}
 use Rattle.rules.specs.declared.kind.Kind.{Kind}
-use Rattle.rules.specs.Kinds.{entries, numbers}
+use Rattle.rules.specs.Kinds.{entries, numbers, top}
 use Rattle.rules.specs.declared.file.File.{File}
-use Rattle.rules.specs.Drive.{highest, isEmpty, nameAt, fileFrom, fileAt, extentAt, mapNumber, isOf, legalByte, legalAt, legalName, goodUser, goodNumbers, goodFields}
+use Rattle.rules.specs.Drive.{isEmpty, nameAt, fileFrom, fileAt, extentAt, mapNumber, isOf, legalByte, legalAt, legalName, goodUser, goodNumbers, goodFields}
 use Rattle.rules.specs.Effects.{lowChanged, renamedAt, renamed}
 use Rattle.rules.proofs.Sound.{Names, SoundImage, length-long}
 use Rattle.rules.proofs.Frames.{Same, head-of, name-byte, file-same, fields-same, of-same, of-file, file-of, names-same, long-same}
@@ -80,7 +80,7 @@ fresh-local kind name s t e l a b h = record {
       (where? k);
 }
 
-module _ (kind : Kind) (s : List ℕ) (f : File) (name : List ℕ) (g : SoundImage kind highest s) where
+module _ (kind : Kind) (s : List ℕ) (f : File) (name : List ℕ) (g : SoundImage kind s) where
   w : 32 * entries kind + 32 ≤ length s
   w = length-long kind s (g .long)
 
@@ -187,7 +187,7 @@ module _ (kind : Kind) (s : List ℕ) (f : File) (name : List ℕ) (g : SoundIma
               (λ k m. ap (λ (b : ℕ). leb 32 b and leb b 126 and not (eqb b 63)) (low k m)),
         ) legal
 
-    good-now : (e : ℕ) → e < entries kind → goodFields highest s e ≡ true → goodFields highest (renamed kind f name s) e ≡ true
+    good-now : (e : ℕ) → e < entries kind → goodFields kind s e ≡ true → goodFields kind (renamed kind f name s) e ≡ true
     unfolding goodFields goodUser goodNumbers
     good-now e l g′ =
         ⊎-elim
@@ -199,7 +199,7 @@ module _ (kind : Kind) (s : List ℕ) (f : File) (name : List ℕ) (g : SoundIma
         (and-both _ _ (rw (outside e 14 l (omega arith) (inr (omega arith))) (and-fst _ _ (and-snd _ _ n)))
         (rw (outside e 15 l (omega arith) (inr (omega arith))) (and-snd _ _ (and-snd _ _ n))))))
         )
-        (λ (h : isOf s f e ≡ false). fields-same s e (renamed kind f name s) e (renamed-kept e l h) g′) (either (isOf s f e))
+        (λ (h : isOf s f e ≡ false). fields-same kind s e (renamed kind f name s) e (renamed-kept e l h) g′) (either (isOf s f e))
 
     -- the block numbers that stand there then stood there before, ..
     pub renamed-stays : (e k : ℕ) → Names kind (renamed kind f name s) e k → Stays kind s (renamed kind f name s) e k
@@ -230,7 +230,7 @@ module _ (kind : Kind) (s : List ℕ) (f : File) (name : List ℕ) (g : SoundIma
         (either (isOf s f d))
 
     -- .. the image is sound, ..
-    pub renamed-sound : SoundImage kind highest (renamed kind f name s)
+    pub renamed-sound : SoundImage kind (renamed kind f name s)
     renamed-sound =
         let t = renamed kind f name s in
         let was : (e : ℕ) → e < entries kind → isEmpty (renamed kind f name s) e ≡ false → isEmpty s e ≡ false = λ e l u. sym (renamed-empty e l) ∙ u in

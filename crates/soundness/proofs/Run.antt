@@ -25,6 +25,7 @@ use Rattle.rules.proofs.Items.{name-sym}
 use Rattle.rules.proofs.SoundList.{Shape, Holder, isPlain, SoundLocks, capacity-fits}
 use Rattle.soundness.proofs.Placed.{Room, free-room, Fits, at-here, at-other, set-shape, set-sound, kind-more}
 use Rattle.soundness.proofs.Held.{IsLock, held-found, held-some, others-found}
+use Rattle.rules.specs.Kinds.{top}
 
 clash-two : (p : ℕ) (name : List ℕ) (k : ℕ) (x : Item) → clash (freshLock p name k) x ≡ true → (eqb (x .kind) 2 and eqb k (x .number)) ≡ true
 unfolding clash _and_ _or_
@@ -38,7 +39,7 @@ pub record Takes (kind : Kind) (s : List ℕ) (l : LockList) (p : ℕ) (f : File
   pub legal : legalName (f .name) 0 ≡ true
   pub low : all (isLow (f .name)) 11 ≡ true
   pub holder : Holder l p (f .name)
-  pub fits : (k : ℕ) → k < n → r + k ≤ 262143
+  pub fits : (k : ℕ) → k < n → r + k ≤ top kind
   pub have-blocks : (k : ℕ) → k < n → blockOf kind s f (r + k) ≡ 0 → ⊥
   pub none-others : (k : ℕ) → k < n → lockedByOther l p f (r + k) ≡ false
   pub within : locksBy l p + n ≤ l .locklimit
@@ -159,9 +160,9 @@ module _ (kind : Kind) (s : List ℕ) (l₀ : LockList) (p : ℕ) (f : File) (r 
           (equal? (itemAt l i .process) p))
           (λ q. q) (either (clash it (itemAt l i) and sameFile (fileOf l it) (fileOf l (itemAt l i))))
 
-      it-plain : isPlain it ≡ true
+      it-plain : isPlain kind it ≡ true
       unfolding isPlain
-      it-plain = and-both _ _ (le-leb p 15 (t .process-fits)) (and-both _ _ (t .legal) (and-both _ _ (t .low) (le-leb (r + k) 262143 (t .fits k below))))
+      it-plain = and-both _ _ (le-leb p 15 (t .process-fits)) (and-both _ _ (t .legal) (and-both _ _ (t .low) (le-leb (r + k) (top kind) (t .fits k below))))
 
       it-fits : Fits kind s l j it
       unfolding isKindBy _and_

@@ -8,16 +8,16 @@ use native.Mathlib.Omega.{arith}
 use lib.ListN.{length}
 use Rattle.words.proofs.Tests.{equal?}
 use Rattle.rules.specs.declared.kind.Kind.{Kind}
-use Rattle.rules.specs.Kinds.{entries}
+use Rattle.rules.specs.Kinds.{entries, top}
 use Rattle.rules.specs.declared.file.File.{File}
-use Rattle.rules.specs.Drive.{highest, blocks, isEmpty, fileAt, extentAt, mapNumber, goodFields}
+use Rattle.rules.specs.Drive.{blocks, isEmpty, fileAt, extentAt, mapNumber, goodFields}
 use Rattle.rules.proofs.Sound.{Is, Entries, Names, Maps}
 use Rattle.rules.proofs.Frames.{Head, Same, head-of, head-back, empty-same, extent-same, file-same, fields-same, is-same}
 
 -- an empty entry filled
 module _ (kind : Kind) (s t : List ℕ) (n : ℕ) (below : n < entries kind) (was : isEmpty s n ≡ true)
     (others : (e : ℕ) → e < entries kind → (e ≡ n → ⊥) → Same s e t e)
-    (good : goodFields highest t n ≡ true)
+    (good : goodFields kind t n ≡ true)
     (new : (d : ℕ) → d < entries kind → Is s (fileAt t n) (extentAt t n) d → ⊥)
     (begun : (extentAt t n ≡ 0) ⊎ ((d : ℕ) × (d < entries kind) × Is s (fileAt t n) 0 d)) where
   heads : (e : ℕ) → e < entries kind → (e ≡ n → ⊥) → Head s e t e
@@ -33,11 +33,11 @@ module _ (kind : Kind) (s t : List ℕ) (n : ℕ) (below : n < entries kind) (wa
   comes f x d l q h = is-same t s f x d (head-back s t d (heads d l q)) h
 
   -- an entry that enters leaves the directory good
-  pub enters : isEmpty t n ≡ false → Entries kind highest s → Entries kind highest t
+  pub enters : isEmpty t n ≡ false → Entries kind s → Entries kind t
   enters u₀ g = record {
     fields = λ e l u.
         ⊎-elim (λ (q : e ≡ n). rw q good)
-        (λ (q : e ≡ n → ⊥). fields-same s e t e (others e l q) (g .fields e l (sym (empty-same s e t e (heads e l q)) ∙ u))) (equal? e n);
+        (λ (q : e ≡ n → ⊥). fields-same kind s e t e (others e l q) (g .fields e l (sym (empty-same s e t e (heads e l q)) ∙ u))) (equal? e n);
     single = λ d e m l u w.
         ⊎-elim
         (λ (q : e ≡ n).
@@ -75,13 +75,13 @@ module _ (kind : Kind) (s t : List ℕ) (n : ℕ) (below : n < entries kind) (wa
 -- used entries of t are those of s, under another name perhaps, and with their extent 0
 module _ (kind : Kind) (s t : List ℕ)
     (used : (e : ℕ) → e < entries kind → isEmpty t e ≡ false → isEmpty s e ≡ false)
-    (good : (e : ℕ) → e < entries kind → isEmpty t e ≡ false → goodFields highest s e ≡ true → goodFields highest t e ≡ true)
+    (good : (e : ℕ) → e < entries kind → isEmpty t e ≡ false → goodFields kind s e ≡ true → goodFields kind t e ≡ true)
     (extent : (e : ℕ) → e < entries kind → isEmpty t e ≡ false → extentAt t e ≡ extentAt s e)
     (back : (d e : ℕ) → d < entries kind → e < entries kind → isEmpty t d ≡ false → isEmpty t e ≡ false → fileAt t d ≡ fileAt t e → fileAt s d ≡ fileAt s e)
     (forth : (d e : ℕ) → d < entries kind → e < entries kind → isEmpty s d ≡ false → isEmpty t e ≡ false → fileAt s d ≡ fileAt s e → (isEmpty t d ≡ false)
     × (fileAt t d ≡ fileAt t e)) where
   -- entries that go, or get another name, leave the directory good
-  pub moves : Entries kind highest s → Entries kind highest t
+  pub moves : Entries kind s → Entries kind t
   moves g = record {
     fields = λ e l u. good e l u (g .fields e l (used e l u));
     single = λ d e m l u w.

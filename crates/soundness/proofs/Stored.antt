@@ -14,9 +14,9 @@ use Rattle.words.proofs.Tests.{either, equal?, never, and-fst, and-snd, any-at,
 use Rattle.words.proofs.Bytes.{put-out, length-put}
 use Rattle.words.proofs.Sets.{and-both, not-of-false}
 use Rattle.rules.specs.declared.kind.Kind.{Kind}
-use Rattle.rules.specs.Kinds.{entries, numbers}
+use Rattle.rules.specs.Kinds.{entries, numbers, top}
 use Rattle.rules.specs.declared.file.File.{File}
-use Rattle.rules.specs.Drive.{highest, blocks, isEmpty, fileAt, mapNumber, goodFields, holdsNumber, namesBlock, isUsed, isFree}
+use Rattle.rules.specs.Drive.{blocks, isEmpty, fileAt, mapNumber, goodFields, holdsNumber, namesBlock, isUsed, isFree}
 use Rattle.rules.proofs.Sound.{Names, Maps, SoundImage, length-long, length-few}
 use Rattle.rules.proofs.Frames.{Head, Same, head-of, empty-same, extent-same, file-same, fields-so, map-same, names-same, count-good, long-same}
 use Rattle.soundness.proofs.Numbers.{map-later, numbered, number-there, number-else, number-out, number-long}
@@ -26,7 +26,7 @@ use Rattle.soundness.proofs.Changes.{Change, grown-same, touches-same}
 -- ---- changes that leave the entries' heads
 
 module _ (kind : Kind) (s t : List ℕ) (len : length t ≡ length s) (heads : (e : ℕ) → e < entries kind → Head s e t e)
-    (counts : (e : ℕ) → e < entries kind → goodFields highest s e ≡ true → byte t (32 * e + 15) ≤ 128) where
+    (counts : (e : ℕ) → e < entries kind → goodFields kind s e ≡ true → byte t (32 * e + 15) ≤ 128) where
   empties : (e : ℕ) → e < entries kind → isEmpty t e ≡ false → isEmpty s e ≡ false
   empties e l u = sym (empty-same s e t e (heads e l)) ∙ u
 
@@ -34,10 +34,10 @@ module _ (kind : Kind) (s t : List ℕ) (len : length t ≡ length s) (heads : (
   files e l = file-same s e t e (heads e l)
 
   -- the image stays sound where the maps do and each count is at most 128
-  pub heads-sound : (Maps kind s → Maps kind t) → SoundImage kind highest s → SoundImage kind highest t
+  pub heads-sound : (Maps kind s → Maps kind t) → SoundImage kind s → SoundImage kind t
   heads-sound m g = record {
     long = long-same kind s t len (g .long);
-    files = moves kind s t empties (λ e l u q. fields-so s e t e (heads e l) (counts e l q) q) (λ e l u. extent-same s e t e (heads e l))
+    files = moves kind s t empties (λ e l u q. fields-so s e t e (heads e l) kind (counts e l q) q) (λ e l u. extent-same s e t e (heads e l))
         (λ d e k l u v q. sym (files d k) ∙ q ∙ files e l)
         (λ d e k l u v q. (empty-same s d t d (heads d k) ∙ u, files d k ∙ q ∙ sym (files e l))) (g .files);
     maps = m (g .maps);
@@ -49,7 +49,7 @@ stays-same kind s t e k h y n = record { named = names-same kind s t e k (empty-
 
 -- ---- a record's or a block's bytes
 
-module _ (kind : Kind) (s v : List ℕ) (at : ℕ) (f : File) (low : 32 * entries kind ≤ at) (fits : at + length v ≤ length s) (g : SoundImage kind highest s) where
+module _ (kind : Kind) (s v : List ℕ) (at : ℕ) (f : File) (low : 32 * entries kind ≤ at) (fits : at + length v ≤ length s) (g : SoundImage kind s) where
   -- all entries stay as they are, ..
   pub entries-same : (e : ℕ) → e < entries kind → Same s e (put at v s) e
   entries-same e l = record { at = λ k m. put-out at v s fits (32 * e + k) (inl (omega arith)) }
@@ -63,7 +63,7 @@ module _ (kind : Kind) (s v : List ℕ) (at : ℕ) (f : File) (low : 32 * entrie
       let stays : (e k : ℕ) → Names kind t e k → Stays kind s t e k = λ e k n.
       stays-same kind s t e k (h e (n .entry-there)) (map-same kind s t e k (entries-same e (n .entry-there)) (n .place-there)) n in
       record {
-        sound = heads-sound kind s t len h (λ e l q. rw (entries-same e l .at 15 (omega arith)) (count-good s e q)) (fewer kind s t len stays) g;
+        sound = heads-sound kind s t len h (λ e l q. rw (entries-same e l .at 15 (omega arith)) (count-good kind s e q)) (fewer kind s t len stays) g;
         rest = λ e k n. inr (stays e k n);
         grown = grown-same kind s t entries-same;
         touches = touches-same kind s t f f len entries-same;
@@ -88,7 +88,7 @@ module _ (kind : Kind) (s t : List ℕ) (n : ℕ) (below : n < entries kind) (le
       (λ (q : e ≡ n → ⊥). head-of s e t e (tail-others e q)) (equal? e n)
 
   -- .. and where the image is still sound and keeps its block numbers nothing is taken away
-  pub tail-change : (f : File) → fileAt s n ≡ f → SoundImage kind highest t → ((e k : ℕ) → Names kind s e k → mapNumber kind t e k ≡ mapNumber kind s e k)
+  pub tail-change : (f : File) → fileAt s n ≡ f → SoundImage kind t → ((e k : ℕ) → Names kind s e k → mapNumber kind t e k ≡ mapNumber kind s e k)
       → (a m x y : ℕ) → ((e k : ℕ) → Names kind t e k → ((e ≡ x) × (k ≡ y)) ⊎ Stays kind s t e k) → Change kind s t f a m x y
   tail-change f file g stays a m x y rest = record {
     sound = g;
@@ -108,7 +108,7 @@ module _ (kind : Kind) (s t : List ℕ) (n : ℕ) (below : n < entries kind) (le
   }
 
 -- the count set, to 128 at most: the image stays sound, and nothing is taken away
-pub count-change : (kind : Kind) (s : List ℕ) (n b : ℕ) (f : File) → n < entries kind → b ≤ 128 → fileAt s n ≡ f → SoundImage kind highest s
+pub count-change : (kind : Kind) (s : List ℕ) (n b : ℕ) (f : File) → n < entries kind → b ≤ 128 → fileAt s n ≡ f → SoundImage kind s
     → (a m x y : ℕ) → Change kind s (set s (32 * n + 15) b) f a m x y
 count-change kind s n b f below small file g a m x y =
     let t = set s (32 * n + 15) b in
@@ -125,7 +125,7 @@ count-change kind s n b f below small file g a m x y =
     (heads-sound kind s t len (λ e l. h e)
     (λ e l q. ⊎-elim
     (λ (z : e ≡ n). rw (z, getD-set-same s (32 * n + 15) b 0 (omega arith)) small)
-    (λ (z : e ≡ n → ⊥). rw (o (32 * e + 15) (λ (y : 32 * e + 15 ≡ 32 * n + 15). z (omega arith))) (count-good s e q))
+    (λ (z : e ≡ n → ⊥). rw (o (32 * e + 15) (λ (y : 32 * e + 15 ≡ 32 * n + 15). z (omega arith))) (count-good kind s e q))
     (equal? e n))
     (fewer kind s t len stays) g)
     (λ e k w. maps e k (w .place-there)) a m x y (λ e k w. inr (stays e k w))
@@ -146,7 +146,7 @@ unfolding isFree
 free-low kind s b h = leb-true 2 b (and-fst _ _ h)
 
 module _ (kind : Kind) (s : List ℕ) (n q b : ℕ) (f : File) (below : n < entries kind) (short : q < numbers kind) (file : fileAt s n ≡ f)
-    (was : mapNumber kind s n q ≡ 0) (high : b < blocks kind s) (free : isFree kind s b ≡ true) (g : SoundImage kind highest s) where
+    (was : mapNumber kind s n q ≡ 0) (high : b < blocks kind s) (free : isFree kind s b ≡ true) (g : SoundImage kind s) where
   fits : 32 * n + 32 ≤ length s
   fits = omega (arith, length-long kind s (g .long))
 
@@ -191,6 +191,6 @@ module _ (kind : Kind) (s : List ℕ) (n q b : ℕ) (f : File) (below : n < entr
   block-change a m =
       let t = numbered kind n q b s in
       tail-change kind s t n below taken-long far f file
-      (heads-sound kind s t taken-long (λ e l. heads e) (λ e l c. rw (count-kept e) (count-good s e c))
+      (heads-sound kind s t taken-long (λ e l. heads e) (λ e l c. rw (count-kept e) (count-good kind s e c))
       (takes kind s t n q b taken-long taken-there (free-low kind s b free) high (free-unnamed kind s b free) taken-rest) g)
       taken-number a m n q taken-rest

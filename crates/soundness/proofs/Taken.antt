@@ -15,7 +15,7 @@ use Rattle.words.proofs.Tests.{and-rest, either, never, and-fst, and-snd, or-fs
 use Rattle.words.proofs.Lists.{tab-at}
 use Rattle.words.proofs.Sets.{and-both, not-of-false}
 use Rattle.rules.specs.declared.kind.Kind.{Kind}
-use Rattle.rules.specs.Kinds.{entries}
+use Rattle.rules.specs.Kinds.{entries, top}
 use Rattle.rules.specs.declared.file.File.{File}
 use Rattle.rules.specs.declared.item.Item.{Item}
 use Rattle.rules.specs.declared.list.LockList.{LockList}
@@ -120,7 +120,7 @@ module _ (kind : Kind) (s : List ℕ) (p c : ℕ) (b : Buffers) (ok : Passed kin
   open-fits mode small legal there within beside = record {
     name-long = caller-long p l (b .fcb);
     plain = and-both _ _ (le-leb p 15 (let m = ok .process-fits in omega arith))
-        (and-both _ _ (caller-legal p l (b .fcb) legal) (and-both _ _ (caller-low p l (b .fcb)) refl));
+        (and-both _ _ (caller-legal p l (b .fcb) legal) (and-both _ _ (caller-low p l (b .fcb)) (le-leb 0 (top kind) (omega arith))));
     good = inl (record { kind-one = refl; mode-fits = small; number-zero = refl; there = rw (caller-mine p l (b .fcb)) there });
     no-clash = λ i m q.
         ⊎-elim

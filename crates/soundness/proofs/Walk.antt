@@ -119,7 +119,7 @@ module _ (kind : Kind) (n p c : ℕ) (b : Buffers) (ok : Passed kind p c b) wher
       → Leaf kind n p c b (effectOf (Call Lock) (asked kind p c b) b)
   unfolding rowsOf effectOf asked askedBy rows42 does42 _if_else_
   lock-leaf k h =
-      let o = run-open (listOf b) (openBy p b) (recordOf (b .fcb)) c (b .dma) _ h in
+      let o = run-open kind (listOf b) (openBy p b) (recordOf (b .fcb)) c (b .dma) _ h in
       ⊎-elim
       (λ (q : eqb (modeBy p b) 1 ≡ true).
       let m = eqb-true _ _ q in
@@ -140,7 +140,7 @@ module _ (kind : Kind) (n p c : ℕ) (b : Buffers) (ok : Passed kind p c b) wher
       → Leaf kind n p c b (effectOf (Call Unlock) (asked kind p c b) b)
   unfolding rowsOf effectOf asked askedBy rows43 does43 _if_else_
   unlock-leaf k h =
-      let o = run-open (listOf b) (openBy p b) (recordOf (b .fcb)) c (b .dma) _ h in
+      let o = run-open kind (listOf b) (openBy p b) (recordOf (b .fcb)) c (b .dma) _ h in
       ⊎-elim
       (λ (q : eqb (modeBy p b) 1 ≡ true). rw q (nowUnlocked k ok (record { is-open = o; is-unlocked = eqb-true _ _ q })))
       (λ (q : eqb (modeBy p b) 1 ≡ false). rw q (unlockIdle k ok (record { is-open = o; not-unlocked = eqb-false _ _ q })))

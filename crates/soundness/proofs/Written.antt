@@ -14,10 +14,10 @@ use Rattle.words.specs.Bytes.{byte, put}
 use Rattle.words.proofs.Tests.{either, never, any-never, any-some, lowest-holds, and-fst, and-snd}
 use Rattle.words.proofs.Sets.{and-both, not-of-false}
 use Rattle.rules.specs.declared.kind.Kind.{Kind}
-use Rattle.rules.specs.Kinds.{blockSize, entries, numbers}
+use Rattle.rules.specs.Kinds.{blockSize, entries, numbers, top}
 use Rattle.rules.specs.declared.file.File.{File}
 use Rattle.rules.specs.declared.spot.Spot.{Spot}
-use Rattle.rules.specs.Drive.{highest, blocks, fileAt, mapNumber, mapPlace, entryOf, freeEntry, holdsNumber, namesBlock, isUsed, isFree, freeBlock, blockIn, recordAt}
+use Rattle.rules.specs.Drive.{blocks, fileAt, mapNumber, mapPlace, entryOf, freeEntry, holdsNumber, namesBlock, isUsed, isFree, freeBlock, blockIn, recordAt}
 use Rattle.rules.specs.Effects.{spot, spotAt, newEntry, entered, mapped, counted, cleared, stored, written, countTo}
 use Rattle.rules.proofs.Sizes.{directory-size, place-fits, record-past, record-inside, block-inside, record-over, record-room}
 use Rattle.rules.proofs.Sound.{Is, Names, SoundImage, found-is, length-whole}
@@ -35,14 +35,14 @@ if-true x y t h = rw h
 -- ---- count, clear, store
 
 module _ (kind : Kind) (f : File) (a m i j : ℕ) where
-  count-step : (w : Spot) (r : ℕ) (s : List ℕ) → w .entry < entries kind → fileAt s (w .entry) ≡ f → SoundImage kind highest s
+  count-step : (w : Spot) (r : ℕ) (s : List ℕ) → w .entry < entries kind → fileAt s (w .entry) ≡ f → SoundImage kind s
       → Change kind s (counted w r s) f a m i j
   unfolding counted _if_else_
   count-step w r s l file g =
       ⊎-elim (λ h. rw h (count-change kind s (w .entry) (countTo r) f l (omega arith) file g a m i j)) (λ h. rw h (no-change kind s f a m i j g))
       (either (ltb (byte s (32 * w .entry + 15)) (countTo r)))
 
-  module _ (w : Spot) (s : List ℕ) (low : 2 ≤ w .block) (high : w .block < blocks kind s) (g : SoundImage kind highest s) where
+  module _ (w : Spot) (s : List ℕ) (low : 2 ≤ w .block) (high : w .block < blocks kind s) (g : SoundImage kind s) where
     clear-fits : blockSize kind * w .block + length {A = ℕ} (replicate (blockSize kind) 0) ≤ length s
     clear-fits =
         let k : length {A = ℕ} (replicate (blockSize kind) 0) ≡ blockSize kind = length-replicate {A = ℕ} (blockSize kind) 0 in
@@ -75,7 +75,7 @@ module _ (kind : Kind) (f : File) (a m i j : ℕ) where
 
   -- all after the block is in the map
   ends-step : (zeros : Bool) (w : Spot) (r : ℕ) (v s : List ℕ) → w .entry < entries kind → fileAt s (w .entry) ≡ f → 2 ≤ w .block → w .block < blocks kind s
-      → 128 ≤ length v → SoundImage kind highest s
+      → 128 ≤ length v → SoundImage kind s
       → (w .taken ≡ true → (a ≤ blockSize kind * w .block) × (blockSize kind * w .block + blockSize kind ≤ a + m)) → a ≤ recordAt kind (w .block) r
       → recordAt kind (w .block) r + 128 ≤ a + m
       → Change kind s (stored kind w r v (cleared kind zeros w (counted w r s))) f a m i j
@@ -134,8 +134,8 @@ free-stays kind s t b h u =
     absurd (free-unnamed kind s b u e (w .0) (z .named) (sym (z .number) ∙ q)))
     (λ (y : namesBlock kind t b e ≡ false). y) (either (namesBlock kind t b e)))))
 
-module _ (kind : Kind) (zeros : Bool) (s : List ℕ) (f : File) (r : ℕ) (v : List ℕ) (g : SoundImage kind highest s) (named : length (f .name) ≡ 11)
-    (far : r < 262144) (there : entryOf kind s f 0 < entries kind) (full : 128 ≤ length v) where
+module _ (kind : Kind) (zeros : Bool) (s : List ℕ) (f : File) (r : ℕ) (v : List ℕ) (g : SoundImage kind s) (named : length (f .name) ≡ 11)
+    (far : r ≤ top kind) (there : entryOf kind s f 0 < entries kind) (full : 128 ≤ length v) where
   free-so : freeBlock kind s < blocks kind s → isFree kind s (freeBlock kind s) ≡ true
   unfolding freeBlock
   free-so h = lowest-holds (isFree kind s) (blocks kind s) h
@@ -143,7 +143,7 @@ module _ (kind : Kind) (zeros : Bool) (s : List ℕ) (f : File) (r : ℕ) (v : L
   -- a free block b into place r's of entry n of t, and what follows
   take-step : (w : Spot) (t : List ℕ) → w .taken ≡ true → w .entry < entries kind → Is t f (r / 128) (w .entry)
       → mapNumber kind t (w .entry) (mapPlace kind r) ≡ 0
-      → w .block < blocks kind t → isFree kind t (w .block) ≡ true → SoundImage kind highest t
+      → w .block < blocks kind t → isFree kind t (w .block) ≡ true → SoundImage kind t
       → Wrote kind t (stored kind w r v (cleared kind zeros w (counted w r (mapped kind w r t)))) f r (blockSize kind * w .block) (blockSize kind) (w .entry)
       (w .block)
   unfolding mapped blocks
@@ -179,7 +179,7 @@ module _ (kind : Kind) (zeros : Bool) (s : List ℕ) (f : File) (r : ℕ) (v : L
   unfolding written entered blocks _if_else_
   fresh-step gone room high =
       let w = spot (freeEntry kind s) true (freeBlock kind s) true in
-      let x : r / 128 < 2048 = omega arith in
+      let x : r / 128 ≤ top kind / 128 = omega arith in
       let n = freeEntry kind s in
       let b = freeBlock kind s in
       let t = put (32 * n) (newEntry s (entryOf kind s f 0) f (r / 128)) s in

@@ -49,6 +49,9 @@ less-as r x a e = rw e
 pub most-as : (r x a : ℕ) → r ≡ x → leb r a ≡ leb x a
 most-as r x a e = rw e
 
+pub up-to-as : (r x a : ℕ) → r ≡ x → leb a r ≡ leb a x
+up-to-as r x a e = rw e
+
 -- handed on, negated
 pub not-answer : (r x : Bool) → r ≡ x → not r ≡ not x
 not-answer r x e = rw e
@@ -272,8 +275,8 @@ pub ruleset choices = (
   answers,
 )
 
--- .. where a byte was made wider
-pub ruleset wides = (less-as, most-as, and-first, and-then, or-first, or-then, tests)
+-- .. where a byte was made wider, or a bound is another function's
+pub ruleset wides = (less-as, most-as, up-to-as, and-first, and-then, or-first, or-then, tests)
 
 -- a table of codes
 pub ruleset codes = (

@@ -1,7 +1,6 @@
 -- `engine::mpm_look` meets its contract.
 use borrow.Author.Needs.{needs}
-use Rattle.engine.proofs.Passing.{look-small}
-use Rattle.engine.proofs.Told.{look-known, look-other}
+use Rattle.engine.proofs.Told.{look-known, look-other, look-small}
 use Rattle.engine.proofs.mpm_look.Statement.{statement}
 use Rattle.engine.proofs.mpm_look.Tie as tie
 

@@ -11,10 +11,10 @@ use Rattle.drive.proofs.check.judge_all.Statement.{statement}
 use Rattle.drive.proofs.check.judge_all.Tie as tie
 
 abbrev Inv-loop : tie.InvT-loop
-Inv-loop kind image top seen₀ n e₀ seen e = (e ≤ n) × (length seen ≡ length seen₀) × (all (goodEntry kind top image) e ≡ true) × Marks kind 1 image e 0 seen
+Inv-loop kind image seen₀ n e₀ seen e = (e ≤ n) × (length seen ≡ length seen₀) × (all (goodEntry kind image) e ≡ true) × Marks kind 1 image e 0 seen
 
 abbrev μ-loop : tie.MeasureT-loop
-μ-loop kind image top seen₀ n e₀ seen e = n - e
+μ-loop kind image seen₀ n e₀ seen e = n - e
 
 pub judge-all-spec : {M : Type 1} → statement M
 judge-all-spec =

@@ -8,7 +8,7 @@ pub module-fits-spec : {M : Type 1} → statement M
 module-fits-spec =
     tie.close
     (tie.spec
-    -- wide-requires
+    -- last-module-requires
     (λ c κs. search needs)
     -- returns
     (λ c. search wides depth 8 fits 20000))

@@ -21,12 +21,12 @@ look-spec =
     -- returns
     (λ c. search look-none)
     -- add-end
-    (λ c. omega (arith, look-room _ _ _ _ _ _ _ (c .before .look-at .ensures) (c .if1 .left)))
+    (λ c. omega (arith, look-room _ _ _ _ _ _ (c .before .look-at .ensures) (c .if1 .left)))
     -- sub-result-2
     (λ c. search needs)
     -- part-result-start-2
     (λ c. search needs)
     -- part-result-end-2
-    (λ c. let h = look-room _ _ _ _ _ _ _ (c .before .look-at .ensures) (c .if1 .left) in search needs)
+    (λ c. let h = look-room _ _ _ _ _ _ (c .before .look-at .ensures) (c .if1 .left) in search needs)
     -- returns-2
-    (λ c. look-some _ _ _ _ _ _ _ (c .before .before .look-at .ensures) (c .before .if1 .left) _ refl))
+    (λ c. look-some _ _ _ _ _ _ (c .before .before .look-at .ensures) (c .before .if1 .left) _ refl))

@@ -14,7 +14,7 @@ look-block-spec =
     -- returns
     (λ c. search (looked-not, needs))
     -- cast-file-from
-    (λ c. omega (arith, looked-user _ _ _ _ _ _ (c .before .may-look .ensures) (c .if1 .left)))
+    (λ c. omega (arith, looked-user _ _ _ _ _ (c .before .may-look .ensures) (c .if1 .left)))
     -- file-from-requires
     (λ c κs. search looked-long)
     -- block-of-requires

@@ -23,6 +23,8 @@ item-alone-spec =
     (λ c κs. search needs)
     -- returns-3
     (λ c. search choices depth 8 fits 20000)
+    -- number-fits-requires
+    (λ c κs. search needs)
     -- returns-4
     (λ c. search choices depth 8 fits 20000)
     -- kind-alone-requires

@@ -21,10 +21,14 @@ unlock-refusal-spec =
     (λ c κs. search needs)
     -- returns-3
     (λ c. search codes depth 8 fits 20000)
-    -- add-if4
+    -- add-is-past
     (λ c. search needs)
-    -- sub-if4
+    -- sub-is-past
     (λ c. search needs)
+    -- cast-is-past
+    (λ c. search needs)
+    -- is-past-requires
+    (λ c κs. search needs)
     -- returns-4
     (λ c. search codes depth 8 fits 20000)
     -- returns-5

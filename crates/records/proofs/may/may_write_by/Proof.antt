@@ -1,4 +1,5 @@
 -- `records::may::may_write_by` meets its contract.
+use borrow.Author.Needs.{needs}
 use Rattle.words.proofs.Sets.{codes}
 use Rattle.rules.specs.Locks.{isOpened}
 use Rattle.records.specs.By.{rowsMayBy}
@@ -14,6 +15,8 @@ may-write-by-spec =
     (λ c. search codes depth 8 fits 20000)
     -- returns-2
     (λ c. search codes depth 8 fits 20000)
+    -- is-past-requires
+    (λ c κs. search needs)
     -- returns-3
     (λ c. search codes depth 8 fits 20000)
     -- returns-4

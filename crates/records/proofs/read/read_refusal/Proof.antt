@@ -13,6 +13,8 @@ read-refusal-spec =
     (tie.spec
     -- returns
     (λ c. search codes depth 8 fits 20000)
+    -- is-past-requires
+    (λ c κs. search needs)
     -- returns-2
     (λ c. search codes depth 8 fits 20000)
     -- not-there-requires

@@ -1,7 +1,6 @@
 -- `records::test::test_by` meets its contract.
 use borrow.Author.Needs.{needs}
 use native.Mathlib.Omega.{arith}
-use Rattle.rules.specs.Drive.{highest}
 use Rattle.rules.proofs.Room.{there-within}
 use Rattle.writing.proofs.Entries.{record-lies}
 use Rattle.records.proofs.Testing.{record-at-room, test-refused, test-lacking, test-differs, test-done}
@@ -32,11 +31,11 @@ test-by-spec =
     -- spot-at-requires
     (λ c κs. search needs)
     -- record-at-requires
-    (λ c κs. let h = there-within _ highest _ (c .before .before .before .before .before .before .before .before .before .before .before .before .before .before
+    (λ c κs. let h = there-within _ _ (c .before .before .before .before .before .before .before .before .before .before .before .before .before .before
     .before .before .before .pre .image-sound) _ _ _ _ _ (c .before .before .before .before .before .before .entry-of2 .ensures .0)
     (c .before .spot-at .ensures) (c .before .before .before .before .not-there .ensures) (c .before .before .before .if2 .left) in search needs)
     -- any-differs-requires
-    (λ c κs. let h = there-within _ highest _ (c .before .before .before .before .before .before .before .before .before .before .before .before .before .before
+    (λ c κs. let h = there-within _ _ (c .before .before .before .before .before .before .before .before .before .before .before .before .before .before
     .before .before .before .before .pre .image-sound) _ _ _ _ _ (c .before .before .before .before .before .before .before .entry-of2 .ensures .0)
     (c .before .before .spot-at .ensures) (c .before .before .before .before .before .not-there .ensures) (c .before .before .before .before .if2 .left) in
     search (needs, record-lies))
@@ -53,13 +52,13 @@ test-by-spec =
     .before .before .before .before .pre .dma-long in search needs)
     -- write-record-requires
     (λ c κs.
-    let h = there-within _ highest _ (c .before .before .before .before .before .before .before .before .before .before .before .before .before .before .before
+    let h = there-within _ _ (c .before .before .before .before .before .before .before .before .before .before .before .before .before .before .before
     .before .before .before .before .before .before .before .pre .image-sound) _ _ _ _ _
     (c .before .before .before .before .before .before .before .before .before .before .before .entry-of2 .ensures .0)
     (c .before .before .before .before .before .before .spot-at .ensures)
     (c .before .before .before .before .before .before .before .before .before .not-there .ensures)
     (c .before .before .before .before .before .before .before .before .if2 .left) in
-    let n = may-number _ _ _ _ _ _ _ _ (c .before .before .before .before .before .before .before .before .before .before .before .before .before .before
+    let n = may-number _ _ _ _ _ _ _ _ _ (c .before .before .before .before .before .before .before .before .before .before .before .before .before .before
     .may-write .ensures) (c .before .before .before .before .before .before .before .before .before .before .before .before .before .if1 .left) in
     let i = c .before .before .before .before .before .before .before .before .before .before .before .before .before .before .before .before .before .before
     .before .before .before .before .pre .image-long in

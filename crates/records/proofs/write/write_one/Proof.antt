@@ -1,6 +1,5 @@
 -- `records::write::write_one` meets its contract.
 use borrow.Author.Needs.{needs}
-use Rattle.rules.specs.Drive.{highest}
 use Rattle.rules.proofs.Sizes.{record-room}
 use Rattle.rules.proofs.Room.{room-within}
 use Rattle.records.proofs.Writing.{write-number, write-stays, write-full, write-put}
@@ -25,10 +24,10 @@ write-one-spec =
     (λ c. search write-full)
     -- write-record-requires
     (λ c κs.
-    let h = room-within _ highest _ (c .before .before .before .before .before .before .before .before .before .before .pre .5) _ _ _ _ _
+    let h = room-within _ _ (c .before .before .before .before .before .before .before .before .before .before .pre .5) _ _ _ _ _
     (c .before .before .before .before .before .before .before .before .before .before .pre .6) (c .before .before .before .before .spot-at .ensures)
     (c .before .before .no-room .ensures) (c .before .if2 .left) in
-    let n = write-number _ _ _ _ _ (c .before .before .before .before .before .before .before .may-write-by .ensures)
+    let n = write-number _ _ _ _ _ _ (c .before .before .before .before .before .before .before .may-write-by .ensures)
     (c .before .before .before .before .before .before .if1 .left) in
     search (needs, record-room))
     -- same-length-2

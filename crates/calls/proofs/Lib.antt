@@ -1,0 +1,3 @@
+-- The proofs of `calls`.
+pub mod Passing
+pub mod Serving

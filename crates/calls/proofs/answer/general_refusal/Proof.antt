@@ -1,0 +1,28 @@
+-- `calls::answer::general_refusal` meets its contract.
+use borrow.Author.Needs.{needs}
+use Rattle.calls.proofs.Passing.{is-call, fcb-there, list-there, all-rows, code-unknown, code-bad}
+use Rattle.calls.proofs.answer.general_refusal.Statement.{statement}
+use Rattle.calls.proofs.answer.general_refusal.Tie as tie
+
+pub general-refusal-spec : {M : Type 1} → statement M
+general-refusal-spec =
+    tie.close
+    (tie.spec
+    -- routine-of-requires
+    (λ c κs. search needs)
+    -- enum-known-chosen
+    (λ c. search needs)
+    -- enum-told
+    (λ c. search needs)
+    -- returns
+    (λ c. search code-unknown)
+    -- bad-numbers-requires
+    (λ c κs. search is-call)
+    -- returns-2
+    (λ c. search code-bad)
+    -- unpack-requires
+    (λ c κs. search list-there)
+    -- refusal-requires
+    (λ c κs. (search is-call, search needs, search fcb-there, search list-there))
+    -- returns-3
+    (λ c. search all-rows))
