@@ -13,7 +13,3 @@ pub begun-self : (s : List ℕ) (e : ℕ) (r : Bool) (x n : ℕ) → e < n → r
     → true ≡ any (isEntry s (fileAt s e) 0) n
 begun-self s e r x n l h t g z =
     sym (any-found (isEntry s (fileAt s e) 0) n e l (entry-so s (fileAt s e) 0 e (record { used = sym h ∙ t; file = refl; extent = sym g ∙ z })))
-
--- .. with a bound that a callee answered
-pub first-as : (f : ℕ → Bool) (m n : ℕ) (r : Bool) → m ≡ n → r ≡ any f m → r ≡ any f n
-first-as f m n r q h = rw (← q) h

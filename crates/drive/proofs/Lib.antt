@@ -1,4 +1,5 @@
 -- The proofs of `drive`.
+pub mod Walks
 pub mod Marks
 pub mod Begun
 pub mod Looking

@@ -9,19 +9,24 @@ use native.Mathlib.Omega.{arith}
 use lib.Dec.{eqb, leb, ltb}
 use lib.ListN.{length, replicate, length-replicate}
 use borrow.Author.Needs.{needs}
-use borrow.Author.Tests.{eq-eqb, ne-eqb, leb-true, leb-false, ltb-true, not-false}
+use borrow.Author.Tests.{eq-eqb, ne-eqb, leb-true, leb-false, ltb-true, not-true, not-false}
 use Rattle.words.specs.Tests.{_and_, _or_, all, any, lowest, count}
 use Rattle.words.specs.Bits.{isSet, isClear, withBit}
 use Rattle.words.proofs.Tests.{either, equal?, and-snd, or-so, all-none, all-more, all-at, any-skip, any-here, lowest-ext}
 use Rattle.words.proofs.Counts.{count-ext}
 use Rattle.words.proofs.Sets.{all-stops, all-ends, all-stops-as, all-ends-as, is-no, or-first, and-first, and-then, or-then, answers, not-answer}
 use Rattle.words.proofs.Bitwise.{length-bit, set-here, set-there, set-stays, set-none}
+use Rattle.words.specs.Hints.{Hints}
 use Rattle.rules.specs.declared.kind.Kind.{Kind}
 use Rattle.rules.specs.declared.kind.Kind.the-variants.{Small, Large}
 use Rattle.rules.specs.Kinds.{most, entries, numbers}
 use Rattle.rules.specs.Drive.{blocks, inRange, isEmpty, mapNumber, holdsNumber, namesBlock, namedBefore, isFirst, goodEntry, isUsed, isFree, freeBlock, freeBlocks}
 use Rattle.rules.proofs.Sizes.{most-some}
+use Rattle.index.specs.Slots.{slotAt, inUse}
+use Rattle.index.proofs.Slots.{known-empty}
 use Rattle.drive.specs.Marks.{Marks, Marked, Judged, InUse}
+use Rattle.drive.specs.Walks.{Repeats, Walked}
+use Rattle.drive.proofs.Walks.{repeat-answer, entry-byte, walked-stops, walked-ends}
 
 -- ---- zeros
 
@@ -163,20 +168,38 @@ marks-used kind low s e k seen m q u = record {
 
 -- ---- the ends of judging an entry
 
-module _ (kind : Kind) (s : List ℕ) (e : ℕ) (seen : List ℕ) where
-  pub judged-empty : (r : Bool) → Marks kind 1 s e 0 seen → r ≡ isEmpty s e → r ≡ true → Judged kind s e true seen
+module _ (kind : Kind) (s : List ℕ) (e : ℕ) (seen hints : List ℕ) where
+  pub judged-empty : (r : Bool) → Marks kind 1 s e 0 seen → Hints (slotAt s) (inUse s) e hints → r ≡ isEmpty s e → r ≡ true → Judged kind s e true seen hints
   unfolding goodEntry
-  judged-empty r m h t = record { good = or-first _ _ (sym h ∙ t); marks = λ q. marks-empty kind 1 s e seen r m h t }
+  judged-empty r m k h t = record {
+    good = or-first _ _ (sym h ∙ t);
+    marks = λ q. marks-empty kind 1 s e seen r m h t;
+    knows = λ q. known-empty s e hints k (sym h ∙ t);
+  }
 
-  pub judged-bad : false ≡ goodEntry kind s e → Judged kind s e false seen
-  judged-bad h = record { good = h; marks = λ q. absurd (true≢false (sym q)) }
+  pub judged-bad : false ≡ goodEntry kind s e → Judged kind s e false seen hints
+  judged-bad h = record { good = h; marks = λ q. absurd (true≢false (sym q)); knows = λ q. absurd (true≢false (sym q)) }
 
-  pub judged-last : (r m t : Bool) → r ≡ isEmpty s e → r ≡ false → Marked kind s e m seen → not m ≡ false → not t ≡ goodEntry kind s e
-      → Judged kind s e (not t) seen
-  judged-last r m t h u k n g = record { good = g; marks = λ q. marks-used kind 1 s e (numbers kind) seen (k .marks (not-false m n)) refl (sym h ∙ u) }
+  pub judged-last : (r m t : Bool) → r ≡ isEmpty s e → r ≡ false → Marked kind s e m seen → not m ≡ false → Repeats s e t hints → not t ≡ goodEntry kind s e
+      → Judged kind s e (not t) seen hints
+  judged-last r m t h u k n w g = record {
+    good = g;
+    marks = λ q. marks-used kind 1 s e (numbers kind) seen (k .marks (not-false m n)) refl (sym h ∙ u);
+    knows = λ q. w .knows;
+  }
 
-  pub judged-marks : (r : Bool) → Judged kind s e r seen → not r ≡ false → Marks kind 1 s (e + 1) 0 seen
-  judged-marks r j n = j .marks (not-false r n)
+  module _ (r : Bool) (j : Judged kind s e r seen hints) where
+    pub judged-marks : not r ≡ false → Marks kind 1 s (e + 1) 0 seen
+    judged-marks n = j .marks (not-false r n)
+
+    pub judged-knows : not r ≡ false → Hints (slotAt s) (inUse s) (e + 1) hints
+    judged-knows n = j .knows (not-false r n)
+
+    pub judged-yes : not r ≡ false → goodEntry kind s e ≡ true
+    judged-yes n = sym (j .good) ∙ not-false r n
+
+    pub judged-no : not r ≡ true → goodEntry kind s e ≡ false
+    judged-no n = sym (j .good) ∙ not-true r n
 
 -- ---- the blocks in use
 
@@ -283,8 +306,9 @@ module _ (kind one : Kind) (s : List ℕ) (q : kind ≡ one) where
   pub one-marked : (e : ℕ) (r : Bool) (seen : List ℕ) → Marked one s e r seen → Marked kind s e r seen
   one-marked e r seen m = rw q m
 
-  pub one-good : (r : Bool) → r ≡ all (goodEntry one s) (entries one) → r ≡ all (goodEntry kind s) (entries kind)
-  one-good r h = rw q h
+  pub one-good : (r : Bool) (hints : List ℕ) → Walked (all (goodEntry one s) (entries one)) s (entries one) r hints
+      → Walked (all (goodEntry kind s) (entries kind)) s (entries kind) r hints
+  one-good r hints h = rw q h
 
   pub one-lowest : (r : ℕ) → r ≡ freeBlock one s → r ≡ freeBlock kind s
   one-lowest r h = rw q h
@@ -316,8 +340,8 @@ pub ruleset noting = (needs, is-no, small-none, large-none, none-long, used-none
 
 pub ruleset freeing = (needs, one-kind, lowest-free, count-free, free-room)
 
-pub ruleset judging = (judged-empty, judged-bad, judged-last, and-first, and-then, or-first, or-then, not-answer, answers)
+pub ruleset judging = (judged-empty, judged-bad, judged-last, repeat-answer, and-first, and-then, or-first, or-then, not-answer, answers)
 
-pub ruleset entering = (needs, small-none, large-none, answers, all-none, all-more, all-stops-as, all-ends-as, judged-marks)
+pub ruleset entering = (needs, all-none, all-more, judged-marks, judged-knows, judged-yes, judged-no, entry-byte, walked-stops, walked-ends)
 
 pub ruleset ranging = (needs, answers, all-none, all-more, all-stops-as, all-ends-as, range-as)

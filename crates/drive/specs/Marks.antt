@@ -6,9 +6,11 @@ use mathlib.Core.List.{List}
 use lib.ListN.{length}
 use Rattle.words.specs.Tests.{all}
 use Rattle.words.specs.Bits.{isSet}
+use Rattle.words.specs.Hints.{Hints}
 use Rattle.rules.specs.declared.kind.Kind.{Kind}
 use Rattle.rules.specs.Kinds.{most, numbers}
 use Rattle.rules.specs.Drive.{namedBefore, isFirst, goodEntry}
+use Rattle.index.specs.Slots.{slotAt, inUse}
 
 -- a bit for each block that the kind of drive may have: block x, of those from `low` on, is marked where an entry before e names
 -- it, or entry e before place k
@@ -22,9 +24,10 @@ pub record Marked (kind : Kind) (s : List ℕ) (e : ℕ) (r : Bool) (seen : List
   pub marks : r ≡ true → Marks kind 1 s e (numbers kind) seen
 
 -- what judging entry e answers and leaves
-pub record Judged (kind : Kind) (s : List ℕ) (e : ℕ) (r : Bool) (seen : List ℕ) : Type 0 where
+pub record Judged (kind : Kind) (s : List ℕ) (e : ℕ) (r : Bool) (seen hints : List ℕ) : Type 0 where
   pub good : r ≡ goodEntry kind s e
   pub marks : r ≡ true → Marks kind 1 s (e + 1) 0 seen
+  pub knows : r ≡ true → Hints (slotAt s) (inUse s) (e + 1) hints
 
 -- the blocks in use: 0 and 1 are the directory, the others are marked as they are named
 pub record InUse (kind : Kind) (s : List ℕ) (e k : ℕ) (used : List ℕ) : Type 0 where

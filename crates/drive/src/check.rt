@@ -2,9 +2,11 @@ use directory::entry::extent_at;
 use directory::entry::file_at;
 use directory::entry::is_empty;
 use directory::entry::map_number;
-use directory::find::any_entry;
 use directory::name::legal_name;
 use directory::place::blocks_in;
+use index::find::entry_below;
+use index::find::entry_by;
+use index::slot::slot_of;
 use rules::answer::ImageAnswer;
 use rules::kind::Kind;
 use rules::kind::block_size;
@@ -15,16 +17,20 @@ use rules::kind::most;
 use rules::kind::numbers;
 use words::bits::is_set;
 use words::bits::set;
+use words::hint::note;
 ghost use mathlib.Core.Path.{_≡_};
 ghost use mathlib.Core.Bool.{true};
 ghost use Prim.Native.Nat.{_+_, _*_, _/_, _<_, _≤_};
 ghost use lib.ListN.{length};
 ghost use lib.Dec.{leb, ltb, eqb};
 ghost use Rattle.words.specs.Tests.{_and_, _or_, all, any};
+ghost use Rattle.words.specs.Hints.{Hints};
 ghost use Rattle.rules.specs.declared.kind.Kind.the-variants.{Small, Large};
 ghost use Rattle.rules.specs.Kinds.{entries, numbers, most, lastModule};
 ghost use Rattle.rules.specs.Drive.{goodLength, blocks, goodNumbers, goodFields, inRange, isRepeat, fileAt, isEntry, goodEntry, hasFirst, soundDirectory, soundImage, imageCheck};
+ghost use Rattle.index.specs.Slots.{slotAt, inUse};
 ghost use Rattle.drive.specs.Marks.{Marks, Marked, Judged};
+ghost use Rattle.drive.specs.Walks.{Repeats, Walked};
 
 // A length that the kind of drive has.
 fn good_length(kind: Kind, image: &[u8]) -> bool
@@ -181,20 +187,23 @@ fn mark_entry(kind: Kind, image: &[u8], e: usize, seen: &mut [u8]) -> bool
     }
 }
 
-// An entry before `e` has its file and extent.
-fn is_repeat(image: &[u8], e: usize) -> bool
-    requires { ⌜ 32 * e + 32 ≤ length (now image) ⌝ }
-    ensures { λ r. ⌜ r ≡ isRepeat (now (image .entry)) e ⌝ }
+// An entry before `e` has its file and extent; the hints, which know the entries before `e`, then know `e` too.
+fn is_repeat(image: &[u8], e: usize, hints: &mut [u8; 256]) -> bool
+    requires { ⌜ (32 * e + 32 ≤ length (now image)) × (e < 256) × Hints (slotAt (now image)) (inUse (now image)) e (now hints) ⌝ }
+    ensures { λ r. ⌜ Repeats (now (image .entry)) e r (now (hints .exit)) ⌝ }
 {
     let f = file_at(image, e);
     let extent = extent_at(image, e);
-    any_entry(image, f, extent, e)
+    let h = slot_of(f, extent);
+    let d = entry_below(image, &*hints, h, f, extent, e);
+    note(hints, h, e as u8);
+    d < e
 }
 
-// Entry `e` is empty or as it should be, the blocks seen before it being marked.
-fn good_entry(kind: Kind, image: &[u8], e: usize, seen: &mut [u8]) -> bool
-    requires { ⌜ (32 * e + 32 ≤ length (now image)) × (blocks kind (now image) ≤ most kind) × Marks kind 1 (now image) e 0 (now seen) ⌝ }
-    ensures { λ r. ⌜ Judged kind (now (image .entry)) e r (now (seen .exit)) ⌝ }
+// Entry `e` is empty or as it should be, the blocks seen before it being marked and the entries before it known.
+fn good_entry(kind: Kind, image: &[u8], e: usize, seen: &mut [u8], hints: &mut [u8; 256]) -> bool
+    requires { ⌜ (32 * e + 32 ≤ length (now image)) × (e < 256) × (blocks kind (now image) ≤ most kind) × Marks kind 1 (now image) e 0 (now seen) × Hints (slotAt (now image)) (inUse (now image)) e (now hints) ⌝ }
+    ensures { λ r. ⌜ Judged kind (now (image .entry)) e r (now (seen .exit)) (now (hints .exit)) ⌝ }
 {
     if is_empty(image, e) {
         return true;
@@ -208,18 +217,18 @@ fn good_entry(kind: Kind, image: &[u8], e: usize, seen: &mut [u8]) -> bool
     if !mark_entry(kind, image, e, seen) {
         return false;
     }
-    !is_repeat(image, e)
+    !is_repeat(image, e, hints)
 }
 
-// Every entry is, no block having a mark yet.
-fn judge_all(kind: Kind, image: &[u8], seen: &mut [u8]) -> bool
-    requires { ⌜ (32 * entries kind ≤ length (now image)) × (blocks kind (now image) ≤ most kind) × Marks kind 1 (now image) 0 0 (now seen) ⌝ }
-    ensures { λ r. ⌜ r ≡ all (goodEntry kind (now (image .entry))) (entries kind) ⌝ }
+// Every entry is, no block having a mark yet and no entry being known.
+fn judge_all(kind: Kind, image: &[u8], seen: &mut [u8], hints: &mut [u8; 256]) -> bool
+    requires { ⌜ (32 * entries kind ≤ length (now image)) × (blocks kind (now image) ≤ most kind) × Marks kind 1 (now image) 0 0 (now seen) × Hints (slotAt (now image)) (inUse (now image)) 0 (now hints) ⌝ }
+    ensures { λ r. ⌜ Walked (all (goodEntry kind (now (image .entry))) (entries kind)) (now (image .entry)) (entries kind) r (now (hints .exit)) ⌝ }
 {
     let n = entries(kind);
     let mut e = 0;
     while e < n {
-        if !good_entry(kind, image, e, &mut *seen) {
+        if !good_entry(kind, image, e, &mut *seen, &mut *hints) {
             return false;
         }
         e += 1;
@@ -228,44 +237,45 @@ fn judge_all(kind: Kind, image: &[u8], seen: &mut [u8]) -> bool
 }
 
 // The marks are 32 bytes on a drive of the first kind, 512 on one of the second.
-fn small_entries(image: &[u8]) -> bool
-    requires { ⌜ (32 * entries Small ≤ length (now image)) × (blocks Small (now image) ≤ most Small) ⌝ }
-    ensures { λ r. ⌜ r ≡ all (goodEntry Small (now (image .entry))) (entries Small) ⌝ }
+fn small_entries(image: &[u8], hints: &mut [u8; 256]) -> bool
+    requires { ⌜ (32 * entries Small ≤ length (now image)) × (blocks Small (now image) ≤ most Small) × Hints (slotAt (now image)) (inUse (now image)) 0 (now hints) ⌝ }
+    ensures { λ r. ⌜ Walked (all (goodEntry Small (now (image .entry))) (entries Small)) (now (image .entry)) (entries Small) r (now (hints .exit)) ⌝ }
 {
     let mut seen = [0u8; 32];
-    judge_all(Kind::Small, image, &mut seen)
+    judge_all(Kind::Small, image, &mut seen, hints)
 }
 
-fn large_entries(image: &[u8]) -> bool
-    requires { ⌜ (32 * entries Large ≤ length (now image)) × (blocks Large (now image) ≤ most Large) ⌝ }
-    ensures { λ r. ⌜ r ≡ all (goodEntry Large (now (image .entry))) (entries Large) ⌝ }
+fn large_entries(image: &[u8], hints: &mut [u8; 256]) -> bool
+    requires { ⌜ (32 * entries Large ≤ length (now image)) × (blocks Large (now image) ≤ most Large) × Hints (slotAt (now image)) (inUse (now image)) 0 (now hints) ⌝ }
+    ensures { λ r. ⌜ Walked (all (goodEntry Large (now (image .entry))) (entries Large)) (now (image .entry)) (entries Large) r (now (hints .exit)) ⌝ }
 {
     let mut seen = [0u8; 512];
-    judge_all(Kind::Large, image, &mut seen)
+    judge_all(Kind::Large, image, &mut seen, hints)
 }
 
-fn good_entries(kind: Kind, image: &[u8]) -> bool
-    requires { ⌜ (32 * entries kind ≤ length (now image)) × (blocks kind (now image) ≤ most kind) ⌝ }
-    ensures { λ r. ⌜ r ≡ all (goodEntry kind (now (image .entry))) (entries kind) ⌝ }
+fn good_entries(kind: Kind, image: &[u8], hints: &mut [u8; 256]) -> bool
+    requires { ⌜ (32 * entries kind ≤ length (now image)) × (blocks kind (now image) ≤ most kind) × Hints (slotAt (now image)) (inUse (now image)) 0 (now hints) ⌝ }
+    ensures { λ r. ⌜ Walked (all (goodEntry kind (now (image .entry))) (entries kind)) (now (image .entry)) (entries kind) r (now (hints .exit)) ⌝ }
 {
     match kind {
-        Kind::Small => small_entries(image),
-        Kind::Large => large_entries(image),
+        Kind::Small => small_entries(image, hints),
+        Kind::Large => large_entries(image, hints),
     }
 }
 
-// The file of entry `e` has an extent 0 in one of `n` entries.
-fn has_first(image: &[u8], e: usize, n: usize) -> bool
-    requires { ⌜ (32 * e + 32 ≤ length (now image)) × (32 * n ≤ length (now image)) ⌝ }
-    ensures { λ r. ⌜ r ≡ any (isEntry (now (image .entry)) (fileAt (now (image .entry)) e) 0) n ⌝ }
+// The file of entry `e` has an extent 0.
+fn has_first(kind: Kind, image: &[u8], hints: &[u8; 256], e: usize) -> bool
+    requires { ⌜ (32 * e + 32 ≤ length (now image)) × (32 * entries kind ≤ length (now image)) × Hints (slotAt (now image)) (inUse (now image)) (entries kind) (now hints) ⌝ }
+    ensures { λ r. ⌜ r ≡ any (isEntry (now (image .entry)) (fileAt (now (image .entry)) e) 0) (entries kind) ⌝ }
 {
     let f = file_at(image, e);
-    any_entry(image, f, 0, n)
+    let first = entry_by(kind, image, hints, f, 0);
+    first < entries(kind)
 }
 
 // The same of an entry that may be empty; one that is extent 0 itself needs no search.
-fn is_begun(kind: Kind, image: &[u8], e: usize) -> bool
-    requires { ⌜ (e < entries kind) × (32 * entries kind ≤ length (now image)) ⌝ }
+fn is_begun(kind: Kind, image: &[u8], hints: &[u8; 256], e: usize) -> bool
+    requires { ⌜ (e < entries kind) × (32 * entries kind ≤ length (now image)) × Hints (slotAt (now image)) (inUse (now image)) (entries kind) (now hints) ⌝ }
     ensures { λ r. ⌜ r ≡ hasFirst kind (now (image .entry)) e ⌝ }
 {
     if is_empty(image, e) {
@@ -274,17 +284,17 @@ fn is_begun(kind: Kind, image: &[u8], e: usize) -> bool
     if extent_at(image, e) == 0 {
         return true;
     }
-    has_first(image, e, entries(kind))
+    has_first(kind, image, hints, e)
 }
 
-fn all_begun(kind: Kind, image: &[u8]) -> bool
-    requires { ⌜ 32 * entries kind ≤ length (now image) ⌝ }
+fn all_begun(kind: Kind, image: &[u8], hints: &[u8; 256]) -> bool
+    requires { ⌜ (32 * entries kind ≤ length (now image)) × Hints (slotAt (now image)) (inUse (now image)) (entries kind) (now hints) ⌝ }
     ensures { λ r. ⌜ r ≡ all (hasFirst kind (now (image .entry))) (entries kind) ⌝ }
 {
     let n = entries(kind);
     let mut e = 0;
     while e < n {
-        if !is_begun(kind, image, e) {
+        if !is_begun(kind, image, hints, e) {
             return false;
         }
         e += 1;
@@ -292,14 +302,14 @@ fn all_begun(kind: Kind, image: &[u8]) -> bool
     true
 }
 
-fn sound_directory(kind: Kind, image: &[u8]) -> bool
-    requires { ⌜ (32 * entries kind ≤ length (now image)) × (blocks kind (now image) ≤ most kind) ⌝ }
-    ensures { λ r. ⌜ r ≡ soundDirectory kind (now (image .entry)) ⌝ }
+fn sound_directory(kind: Kind, image: &[u8], hints: &mut [u8; 256]) -> bool
+    requires { ⌜ (32 * entries kind ≤ length (now image)) × (blocks kind (now image) ≤ most kind) × Hints (slotAt (now image)) (inUse (now image)) 0 (now hints) ⌝ }
+    ensures { λ r. ⌜ Walked (soundDirectory kind (now (image .entry))) (now (image .entry)) (entries kind) r (now (hints .exit)) ⌝ }
 {
-    if !good_entries(kind, image) {
+    if !good_entries(kind, image, &mut *hints) {
         return false;
     }
-    all_begun(kind, image)
+    all_begun(kind, image, &*hints)
 }
 
 // The image check.
@@ -309,18 +319,28 @@ pub fn image_check(kind: Kind, image: &[u8]) -> ImageAnswer
     if !good_length(kind, image) {
         return ImageAnswer::WrongLength;
     }
-    if !sound_directory(kind, image) {
+    let mut hints = [255u8; 256];
+    if !sound_directory(kind, image, &mut hints) {
         return ImageAnswer::UnsoundDirectory;
     }
     ImageAnswer::Sound
+}
+
+// The image is sound; the hints then know its entries.
+pub fn sound_index(kind: Kind, image: &[u8], hints: &mut [u8; 256]) -> bool
+    requires { ⌜ Hints (slotAt (now image)) (inUse (now image)) 0 (now hints) ⌝ }
+    ensures { λ r. ⌜ Walked (soundImage kind (now (image .entry))) (now (image .entry)) (entries kind) r (now (hints .exit)) ⌝ }
+{
+    if !good_length(kind, image) {
+        return false;
+    }
+    sound_directory(kind, image, hints)
 }
 
 // The image is sound.
 pub fn sound_image(kind: Kind, image: &[u8]) -> bool
     ensures { λ r. ⌜ r ≡ soundImage kind (now (image .entry)) ⌝ }
 {
-    if !good_length(kind, image) {
-        return false;
-    }
-    sound_directory(kind, image)
+    let mut hints = [255u8; 256];
+    sound_index(kind, image, &mut hints)
 }

@@ -10,3 +10,4 @@ pub mod Sums
 pub mod Sets
 pub mod Items
 pub mod Bitwise
+pub mod Hints

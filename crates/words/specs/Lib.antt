@@ -3,3 +3,4 @@ pub mod Lists
 pub mod Bytes
 pub mod Tables
 pub mod Bits
+pub mod Hints

@@ -1,2 +1,3 @@
-// The vocabulary of the rules and the proofs, and bits of bytes.
+// The vocabulary of the rules and the proofs, bits of bytes, and hints.
 pub mod bits;
+pub mod hint;

@@ -9,10 +9,10 @@ use Rattle.drive.proofs.check.all_begun.Statement.{statement}
 use Rattle.drive.proofs.check.all_begun.Tie as tie
 
 abbrev Inv-loop : tie.InvT-loop
-Inv-loop kind image n e₀ e = (e ≤ n) × (all (hasFirst kind image) e ≡ true)
+Inv-loop kind image hints n e₀ e = (e ≤ n) × (all (hasFirst kind image) e ≡ true)
 
 abbrev μ-loop : tie.MeasureT-loop
-μ-loop kind image n e₀ e = n - e
+μ-loop kind image hints n e₀ e = n - e
 
 pub all-begun-spec : {M : Type 1} → statement M
 all-begun-spec =

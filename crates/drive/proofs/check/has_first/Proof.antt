@@ -1,5 +1,6 @@
 -- `drive::check::has_first` meets its contract.
 use borrow.Author.Needs.{needs}
+use Rattle.drive.proofs.Walks.{begun-by}
 use Rattle.drive.proofs.check.has_first.Statement.{statement}
 use Rattle.drive.proofs.check.has_first.Tie as tie
 
@@ -9,7 +10,9 @@ has-first-spec =
     (tie.spec
     -- file-at-requires
     (λ c κs. search needs)
-    -- any-entry-requires
+    -- entry-by-requires
+    (λ c κs. search needs)
+    -- entries-requires
     (λ c κs. search needs)
     -- returns
-    (λ c. cc))
+    (λ c. search begun-by))

@@ -2,7 +2,7 @@
 use borrow.Author.Needs.{needs}
 use Rattle.words.proofs.Sets.{choices}
 use Rattle.rules.specs.Drive.{hasFirst}
-use Rattle.drive.proofs.Begun.{begun-self, first-as}
+use Rattle.drive.proofs.Begun.{begun-self}
 use Rattle.drive.proofs.check.is_begun.Statement.{statement}
 use Rattle.drive.proofs.check.is_begun.Tie as tie
 
@@ -14,14 +14,12 @@ is-begun-spec =
     -- is-empty-requires
     (λ c κs. search needs)
     -- returns
-    (λ c. search (choices, begun-self, first-as) depth 8 fits 20000)
+    (λ c. search (choices, begun-self) depth 8 fits 20000)
     -- extent-at-requires
     (λ c κs. search needs)
     -- returns-2
-    (λ c. search (choices, begun-self, first-as) depth 8 fits 20000)
-    -- entries-requires
-    (λ c κs. search needs)
+    (λ c. search (choices, begun-self) depth 8 fits 20000)
     -- has-first-requires
     (λ c κs. search needs)
     -- returns-3
-    (λ c. search (choices, begun-self, first-as) depth 8 fits 20000))
+    (λ c. search (choices, begun-self) depth 8 fits 20000))

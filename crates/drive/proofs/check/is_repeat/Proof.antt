@@ -1,11 +1,10 @@
 -- `drive::check::is_repeat` meets its contract.
 use borrow.Author.Needs.{needs}
-use Rattle.rules.specs.Drive.{isRepeat}
+use Rattle.drive.proofs.Walks.{repeats-by}
 use Rattle.drive.proofs.check.is_repeat.Statement.{statement}
 use Rattle.drive.proofs.check.is_repeat.Tie as tie
 
 pub is-repeat-spec : {M : Type 1} → statement M
-unfolding isRepeat
 is-repeat-spec =
     tie.close
     (tie.spec
@@ -13,7 +12,13 @@ is-repeat-spec =
     (λ c κs. search needs)
     -- extent-at-requires
     (λ c κs. search needs)
-    -- any-entry-requires
+    -- slot-of-requires
+    (λ c κs. search needs)
+    -- entry-below-requires
+    (λ c κs. search needs)
+    -- cast-note
+    (λ c. search needs)
+    -- note-requires
     (λ c κs. search needs)
     -- returns
-    (λ c. cc))
+    (λ c. search repeats-by))

@@ -1,7 +1,7 @@
 -- `drive::check::sound_directory` meets its contract.
 use borrow.Author.Needs.{needs}
-use Rattle.words.proofs.Sets.{choices}
 use Rattle.rules.specs.Drive.{soundDirectory}
+use Rattle.drive.proofs.Walks.{walking}
 use Rattle.drive.proofs.check.sound_directory.Statement.{statement}
 use Rattle.drive.proofs.check.sound_directory.Tie as tie
 
@@ -13,8 +13,8 @@ sound-directory-spec =
     -- good-entries-requires
     (λ c κs. search needs)
     -- returns
-    (λ c. search choices depth 8 fits 20000)
+    (λ c. search walking)
     -- all-begun-requires
-    (λ c κs. search needs)
+    (λ c κs. search walking)
     -- returns-2
-    (λ c. search choices depth 8 fits 20000))
+    (λ c. search walking))

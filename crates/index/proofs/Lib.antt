@@ -1,0 +1,2 @@
+-- The proofs of `index`.
+pub mod Slots
