@@ -30,12 +30,15 @@ use Rattle.rules.proofs.Told.{other-call, other-check, other-look}
 use Rattle.session.specs.Open.{rules}
 use Rattle.session.specs.Session.{firstList}
 use Rattle.session.proofs.Session.{the-session}
+use Rattle.unlocking.proofs.All.{unlocking-told}
+use Rattle.unlocking.proofs.Tried.{wrong-unlocks}
 use Rattle.history.specs.History.{Ask, State, Engine, isWord, isPossible, isKept, lent, outcomeOf, withCount}
 use Rattle.history.specs.Deeds.{doneIn}
 use Rattle.history.specs.Demands.{NoTrace, Demand1, Demand2}
 use Rattle.history.specs.Claims.{Claims, KeepsContract, Refuses, ToldClaims, TheSession, LookClaims, AllClaims}
 use Rattle.history.proofs.First.{leaves-no-trace, counted-possible, fewer-possible}
 use Rattle.history.proofs.Alike.{meets-third}
+use Rattle.history.proofs.Unlocks.{unlock-order}
 use Rattle.history.proofs.Wrong.{refusing-differs, accepting-differs, idle-differs, not-idle, not-pretending, made-up-differs, not-made-up, not-unbitted, not-lavish, not-promoting}
 
 -- ---- of an engine that serves as the rules do
@@ -68,6 +71,7 @@ module _ (kind : Kind) (e : Engine) (serves : Demand2 kind e) where
         ∙ same-code kind (q .function) (q .process) (q .count) (lent q s);
     one-record = λ before q s may h. so before (withCount 1 q) s (counted-possible q 1 may (omega arith)) h
         ∙ one-record kind (q .function) (q .process) (lent q s);
+    unlock-order = unlock-order kind e serves;
   }
 
 -- ---- of an engine that keeps the contract, told the kind by a number
@@ -175,4 +179,5 @@ all-claims = record {
     unpack-pack = λ kind list s sound. unpacked kind _ s (list-sound-of kind list s sound) (unpack-shape list);
   };
   looks = look-claims;
+  unlocks = record { unlocking = unlocking-told; wrong-fall = wrong-unlocks };
 }

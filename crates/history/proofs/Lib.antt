@@ -29,7 +29,9 @@ pub mod Plain
 pub mod Spared
 pub mod First
 pub mod Demands
+pub mod Lendable
 pub mod Alike
+pub mod Unlocks
 pub mod Histories
 pub mod Wrong
 pub mod Claims

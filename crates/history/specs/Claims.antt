@@ -10,6 +10,7 @@ use Rattle.words.specs.Bytes.{areBytes}
 use Rattle.words.specs.Tables.{_∕_, firstOf, anyRow}
 use Rattle.rules.specs.declared.kind.Kind.{Kind}
 use Rattle.rules.specs.declared.kind.Kind.the-variants.{Small, Large}
+use Rattle.rules.specs.declared.kind.Told.{Told}
 use Rattle.rules.specs.declared.kind.Told.the-variants.{Known}
 use Rattle.rules.specs.Kinds.{toldKind, entries}
 use Rattle.rules.specs.Serves.{Buffers, outcome, Did, chosen, listSize}
@@ -20,8 +21,11 @@ use Rattle.rules.specs.Several.{callSingly}
 use Rattle.rules.specs.Look.{lookAt}
 use Rattle.rules.specs.Told.{callTold, checkTold, lookTold}
 use Rattle.session.specs.Session.{AsListed, session, firstImage, firstList}
+use Rattle.unlocking.specs.Unlocks.{locksTold, unlocksTold, Unlocking}
+use Rattle.unlocking.specs.Wrong.{WrongUnlocks}
 use Rattle.history.specs.History.{Ask, State, Engine, isWord, EachCall, lent, outcomeOf, withCount}
 use Rattle.history.specs.Demands.{Demand1, Demand2, Demand3}
+use Rattle.history.specs.Unlocks.{UnlockOrder}
 use Rattle.history.specs.Wrong.{refusing, accepting, idle, pretending, madeUp, unbitted, lavish, promoting}
 
 -- ---- Of an engine on drives of one kind
@@ -39,6 +43,9 @@ pub record Claims (kind : Kind) (e : Engine) : Type 0 where
   pub as-singly-code : EachCall (λ (before : List Ask) (q : Ask) (s : State). outcomeOf (e before) q s .answer % (0 ∕ 16) ≡ outcomeOf (callSingly kind) q s .answer)
   -- .. + and with count 1 it is the single call.
   pub one-record : EachCall (λ (before : List Ask) (q : Ask) (s : State). outcomeOf (e before) (withCount 1 q) s ≡ outcomeOf (call kind) (withCount 1 q) s)
+  -- T-13: "two Unlock calls .. give the same answers and bytes in either order; one repeated adds nothing; an accepted Lock .. followed by
+  -- the Unlock of that run, gives back the list byte for byte."
+  pub unlock-order : UnlockOrder e
 
 -- ---- Of an engine that is told the kind by a number
 
@@ -112,6 +119,12 @@ pub record LookClaims : Type 0 where
   pub other-look : (own other : Kind) → (own ≡ other → ⊥) → (s : List ℕ) → soundImage own s ≡ true
       → (user : ℕ) (name : List ℕ) (r : ℕ) → lookTold (Known other) user name r s ≡ 0
 
+-- T-13, of what `mpm_call` promises, told whatever number: the three statements, + any number of Unlocks in any order, and that a Lock and the
+-- Unlock of its run never give back a list in which the caller held a record of the run. + Three other Unlocks fall.
+pub record UnlockClaims : Type 0 where
+  pub unlocking : (t : Told) → Unlocking (locksTold t) (unlocksTold t)
+  pub wrong-fall : WrongUnlocks
+
 -- ---- All of it
 
 pub record AllClaims : Type 0 where
@@ -121,3 +134,4 @@ pub record AllClaims : Type 0 where
   pub tables : Tables
   pub round-trips : RoundTrips
   pub looks : LookClaims
+  pub unlocks : UnlockClaims

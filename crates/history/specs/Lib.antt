@@ -4,4 +4,5 @@ pub mod Held
 pub mod Groups
 pub mod Demands
 pub mod Wrong
+pub mod Unlocks
 pub mod Claims

@@ -1,0 +1,6 @@
+pub mod Opens
+pub mod Taken
+pub mod Orders
+pub mod Back
+pub mod All
+pub mod Tried

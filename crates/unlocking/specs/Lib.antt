@@ -1,0 +1,2 @@
+pub mod Unlocks
+pub mod Wrong
