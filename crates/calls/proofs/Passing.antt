@@ -28,6 +28,7 @@ use Rattle.rules.proofs.Passed.{GoodNumbers, Passed, good-numbers, passed, driv
 use Rattle.rules.proofs.Several.{run-plain, run-refused, run-told}
 use Rattle.rules.proofs.Sound.{sound-length, length-long}
 use Rattle.rules.proofs.Ends.{did-as, did-none}
+use Rattle.drive.specs.Walks.{Walked}
 use Rattle.calls.specs.Calls.{callBy, servedBy}
 use Rattle.calls.specs.Drives.{readsDrive}
 use Rattle.rules.specs.declared.kind.Kind.{Kind}
@@ -104,13 +105,10 @@ module _ (n p c : ℕ) (fcb dma list : List ℕ) (r : Bool) (e : r ≡ badNumber
         let q = zero-none (rowsAll kind n p c (buffers fcb dma list image)) (nonzero-all kind n p c (buffers fcb dma list image)) (sym all-rows ∙ z) in
         (passed kind n p c (buffers fcb dma list image) q, drive-good kind n p c (buffers fcb dma list image) q)
 
--- after `if !sound_image(..) { return .. }`
-module _ (kind : Kind) (r : Bool) (s : List ℕ) (e : r ≡ soundImage kind s) (t : not r ≡ false) where
-  pub image-there : soundImage kind s ≡ true
-  image-there = sym e ∙ not-false r t
-
-  pub image-enough : 32 * entries kind ≤ length s
-  image-enough = let k = length-long kind s (sound-length kind s image-there) in omega arith
+-- after `if !sound_index(..) { return .. }`
+pub image-enough : (kind : Kind) (r : Bool) (s hints : List ℕ) → Walked (soundImage kind s) s (entries kind) r hints → not r ≡ false
+    → 32 * entries kind ≤ length s
+image-enough kind r s hints w t = let k = length-long kind s (sound-length kind s (sym (w .answer) ∙ not-false r t)) in omega arith
 
 -- ---- the ends of the general table, and of a call by the fast path and by the plain engine
 

@@ -1,4 +1,4 @@
-use drive::check::sound_image;
+use drive::check::sound_index;
 use listcheck::check::sound_list;
 use rules::code::BAD_DRIVE;
 use rules::code::BAD_IMAGE;
@@ -92,10 +92,11 @@ pub fn refusal(
     requires { ⌜ (chosen function ≡ Call routine) × (l ≡ unpack (now list)) × (length (now fcb) ≡ 36) × (length (now list) ≡ 1299) ⌝ }
     ensures { λ c. ⌜ c ≡ firstOf (rowsInside kind function (now (fcb .entry)) (now (list .entry)) (now (image .entry))) ⌝ }
 {
-    if !sound_image(kind, image) {
+    let mut hints = [255u8; 256];
+    if !sound_index(kind, image, &mut hints) {
         return BAD_IMAGE;
     }
-    if !sound_list(kind, l, list, image) {
+    if !sound_list(kind, l, list, image, &hints) {
         return BAD_LIST;
     }
     if bad_drive(function, routine, fcb) {

@@ -20,7 +20,8 @@ use Rattle.words.specs.Hints.{Hints}
 use Rattle.rules.specs.declared.kind.Kind.{Kind}
 use Rattle.rules.specs.declared.kind.Kind.the-variants.{Small, Large}
 use Rattle.rules.specs.Kinds.{most, entries, numbers}
-use Rattle.rules.specs.Drive.{blocks, inRange, isEmpty, mapNumber, holdsNumber, namesBlock, namedBefore, isFirst, goodEntry, isUsed, isFree, freeBlock, freeBlocks}
+use Rattle.rules.specs.Drive.{blocks, inRange, isEmpty, mapNumber, holdsNumber, namesBlock, namedBefore, isFirst, goodEntry}
+use Rattle.rules.specs.Drive.{isUsed, isFree, freeBlock, freeBlocks}
 use Rattle.rules.proofs.Sizes.{most-some}
 use Rattle.index.specs.Slots.{slotAt, inUse}
 use Rattle.index.proofs.Slots.{known-empty}
@@ -169,7 +170,8 @@ marks-used kind low s e k seen m q u = record {
 -- ---- the ends of judging an entry
 
 module _ (kind : Kind) (s : List ℕ) (e : ℕ) (seen hints : List ℕ) where
-  pub judged-empty : (r : Bool) → Marks kind 1 s e 0 seen → Hints (slotAt s) (inUse s) e hints → r ≡ isEmpty s e → r ≡ true → Judged kind s e true seen hints
+  pub judged-empty : (r : Bool) → Marks kind 1 s e 0 seen → Hints (slotAt s) (inUse s) e hints → r ≡ isEmpty s e → r ≡ true
+      → Judged kind s e true seen hints
   unfolding goodEntry
   judged-empty r m k h t = record {
     good = or-first _ _ (sym h ∙ t);
@@ -180,8 +182,8 @@ module _ (kind : Kind) (s : List ℕ) (e : ℕ) (seen hints : List ℕ) where
   pub judged-bad : false ≡ goodEntry kind s e → Judged kind s e false seen hints
   judged-bad h = record { good = h; marks = λ q. absurd (true≢false (sym q)); knows = λ q. absurd (true≢false (sym q)) }
 
-  pub judged-last : (r m t : Bool) → r ≡ isEmpty s e → r ≡ false → Marked kind s e m seen → not m ≡ false → Repeats s e t hints → not t ≡ goodEntry kind s e
-      → Judged kind s e (not t) seen hints
+  pub judged-last : (r m t : Bool) → r ≡ isEmpty s e → r ≡ false → Marked kind s e m seen → not m ≡ false → Repeats s e t hints
+      → not t ≡ goodEntry kind s e → Judged kind s e (not t) seen hints
   judged-last r m t h u k n w g = record {
     good = g;
     marks = λ q. marks-used kind 1 s e (numbers kind) seen (k .marks (not-false m n)) refl (sym h ∙ u);

@@ -30,8 +30,8 @@ entry-byte Small n e q l = omega arith
 entry-byte Large n e q l = omega arith
 
 -- it was looked for among those before it, then noted
-pub repeats-by : (s : List ℕ) (e d h x : ℕ) (f : File) (hints after : List ℕ) → Hints (slotAt s) (inUse s) e hints → f ≡ fileAt s e → x ≡ extentAt s e → h ≡ slotOf f x
-    → d ≡ lowest (isEntry s f x) e → Noted h e hints after → Repeats s e (ltb d e) after
+pub repeats-by : (s : List ℕ) (e d h x : ℕ) (f : File) (hints after : List ℕ) → Hints (slotAt s) (inUse s) e hints → f ≡ fileAt s e → x ≡ extentAt s e
+    → h ≡ slotOf f x → d ≡ lowest (isEntry s f x) e → Noted h e hints after → Repeats s e (ltb d e) after
 unfolding isRepeat
 repeats-by s e d h x f hints after k is at slot found w = record {
   answer = lowest-any (isEntry s f x) e d found ∙ ap (λ (y : File). any (isEntry s y x) e) is ∙ ap (λ (y : ℕ). any (isEntry s (fileAt s e) y) e) at;
@@ -76,11 +76,12 @@ module _ (x y r : Bool) (s : List ℕ) (n : ℕ) (hints : List ℕ) where
   pub walked-good : Walked x s n r hints → not r ≡ false → (t : Bool) → t ≡ y → Walked (x and y) s n t hints
   walked-good w z t h = record { answer = and-then t x y (sym (w .answer) ∙ not-false r z) h; knows = λ q. w .knows (not-false r z) }
 
-  pub walked-knows : Walked x s n r hints → not r ≡ false → Hints (slotAt s) (inUse s) n hints
-  walked-knows w z = w .knows (not-false r z)
+module _ (x r : Bool) (s : List ℕ) (n : ℕ) (hints : List ℕ) (w : Walked x s n r hints) where
+  pub walked-answer : r ≡ x
+  walked-answer = w .answer
 
-pub walked-answer : (x r : Bool) (s : List ℕ) (n : ℕ) (hints : List ℕ) → Walked x s n r hints → r ≡ x
-walked-answer x r s n hints w = w .answer
+  pub walked-knows : not r ≡ false → Hints (slotAt s) (inUse s) n hints
+  walked-knows z = w .knows (not-false r z)
 
 pub known-none : (s : List ℕ) (v : ℕ) → Hints (slotAt s) (inUse s) 0 (replicate 256 v)
 known-none s v = hints-none (slotAt s) (inUse s) v

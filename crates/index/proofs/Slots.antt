@@ -6,16 +6,20 @@ use mathlib.Core.List.{List}
 use native.Mathlib.Omega.{arith}
 use lib.ListN.{length, getD}
 use borrow.Author.Needs.{needs}
+use borrow.Author.Tests.{eqb-true}
 use Rattle.words.specs.Tests.{any, lowest}
+use Rattle.words.specs.Bytes.{byte}
 use Rattle.words.specs.Hints.{Hints, Noted}
+use Rattle.words.proofs.Tests.{all-at, and-fst, and-snd}
 use Rattle.words.proofs.Sets.{not-of-false}
 use Rattle.words.proofs.Hints.{hints-below, hints-skip, hints-more}
 use Rattle.rules.specs.declared.file.File.{File}
 use Rattle.rules.specs.declared.kind.Kind.{Kind}
 use Rattle.rules.specs.Kinds.{entries}
 use Rattle.rules.specs.Drive.{isEmpty, extentAt, fileAt, isEntry, entryOf}
+use Rattle.rules.specs.Locks.{sameByte, sameName, sameFile}
 use Rattle.rules.proofs.Sound.{Is, entry-is}
-use Rattle.index.specs.Slots.{slotOf, slotAt, inUse}
+use Rattle.index.specs.Slots.{mix, slotOf, slotAt, inUse}
 
 pub below-256 : (x : ℕ) → x % 256 < 256
 below-256 x = omega arith
@@ -23,6 +27,33 @@ below-256 x = omega arith
 same-slot : (s : List ℕ) (f : File) (x e : ℕ) → Is s f x e → slotAt s e ≡ slotOf f x
 unfolding slotAt
 same-slot s f x e h = rw (h .file, h .extent)
+
+-- ---- the slots of the same file
+
+mix-same : (a b : List ℕ) → sameName a b ≡ true → mix a ≡ mix b
+unfolding mix sameName sameByte
+mix-same a b h =
+    let at : (k : ℕ) → k < 11 → byte a k ≡ byte b k = λ k l. eqb-true _ _ (all-at (sameByte a b) 11 k h l) in
+    rw (
+      at 0 (omega arith),
+      at 1 (omega arith),
+      at 2 (omega arith),
+      at 3 (omega arith),
+      at 4 (omega arith),
+      at 5 (omega arith),
+      at 6 (omega arith),
+      at 7 (omega arith),
+      at 8 (omega arith),
+      at 9 (omega arith),
+      at 10 (omega arith),
+    )
+
+pub slot-same : (f g : File) (x y : ℕ) → sameFile f g ≡ true → x ≡ y → slotOf f x ≡ slotOf g y
+unfolding slotOf sameFile
+slot-same f g x y h e =
+    let u : f .user ≡ g .user = eqb-true _ _ (and-fst _ _ h) in
+    let m : mix (f .name) ≡ mix (g .name) = mix-same (f .name) (g .name) (and-snd _ _ h) in
+    rw (u, m, e)
 
 -- ---- looking
 

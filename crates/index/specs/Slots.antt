@@ -9,8 +9,8 @@ use Rattle.rules.specs.Drive.{isEmpty, extentAt, fileAt}
 
 unfoldable pub mix : List ℕ → ℕ
 mix n =
-    byte n 0 + 37 * byte n 1 + 89 * byte n 2 + 221 * byte n 3 + 241 * byte n 4 + 213 * byte n 5 + 201 * byte n 6 + 13 * byte n 7
-    + 225 * byte n 8 + 133 * byte n 9 + 57 * byte n 10
+    byte n 0 + 11 * byte n 1 + 121 * byte n 2 + 51 * byte n 3 + 49 * byte n 4 + 27 * byte n 5 + 41 * byte n 6 + 195 * byte n 7
+    + 97 * byte n 8 + 43 * byte n 9 + 217 * byte n 10
 
 unfoldable pub slotOf : File → ℕ → ℕ
 slotOf f x = (mix (f .name) + 85 * f .user + 17 * (x % 256)) % 256

@@ -4,21 +4,21 @@ ghost use mathlib.Core.Path.{_≡_};
 ghost use Prim.Native.Nat.{_<_};
 ghost use Rattle.index.specs.Slots.{mix, slotOf};
 
-// A number made of a name.
+// A number made of a name. The weights are powers of 11, so that names numbered 00 to 99 have slots of their own.
 fn mixed(n: [u8; 11]) -> usize
     ensures { λ r. ⌜ (r ≡ mix n) × (r < 1048576) ⌝ }
 {
     wide(n[0])
-        + 37 * wide(n[1])
-        + 89 * wide(n[2])
-        + 221 * wide(n[3])
-        + 241 * wide(n[4])
-        + 213 * wide(n[5])
-        + 201 * wide(n[6])
-        + 13 * wide(n[7])
-        + 225 * wide(n[8])
-        + 133 * wide(n[9])
-        + 57 * wide(n[10])
+        + 11 * wide(n[1])
+        + 121 * wide(n[2])
+        + 51 * wide(n[3])
+        + 49 * wide(n[4])
+        + 27 * wide(n[5])
+        + 41 * wide(n[6])
+        + 195 * wide(n[7])
+        + 97 * wide(n[8])
+        + 43 * wide(n[9])
+        + 217 * wide(n[10])
 }
 
 // The slot of an extent of a file.

@@ -13,7 +13,7 @@ use Rattle.words.specs.Tests.{_and_, _if_else_, all, any, lowest}
 use Rattle.words.specs.Bytes.{byte, part}
 use Rattle.words.proofs.Bytes.{part-byte}
 use Rattle.words.proofs.Tests.{either, all-none, all-more, any-none, any-found, any-never}
-use Rattle.words.proofs.Sets.{alls, answers, choices, and-first, and-then, and-left, or-none, not-of-false, not-of-true, not-yes, any-goes, all-stops, all-ends, lowest-stops, lowest-ends}
+use Rattle.words.proofs.Sets.{alls, answers, choices, and-first, and-then, and-left, or-none, not-of-false, not-of-true, not-yes, not-no, any-goes, all-stops, all-ends, lowest-stops, lowest-ends}
 use Rattle.rules.specs.declared.file.File.{File}
 use Rattle.rules.specs.declared.file.Found.{Found}
 use Rattle.rules.specs.declared.item.Item.{Item}
@@ -196,6 +196,14 @@ pub sound-after : (kind : Kind) (s list : List ℕ) (l : LockList) (a b c d r : 
 sound-after kind s list l a b c d r e ea ha eb hb ec hc ed hd h =
     sound-as kind s list l r e (and-then r _ _ (not-yes a _ ea ha)
     (and-then r _ _ (not-yes b _ eb hb) (and-then r _ _ (not-yes c _ ec hc) (and-then r _ _ (not-yes d _ ed hd) h))))
+
+-- its first three were, the fourth was not
+pub sound-fourth : (kind : Kind) (s list : List ℕ) (l : LockList) (a b c d : Bool) → l ≡ unpack list → a ≡ all (zeroAt list) 64 → not a ≡ false
+    → b ≡ goodHead (l .capacity) (l .openlimit) (l .locklimit) (l .users) → not b ≡ false → c ≡ all (placeAloneAt kind s l) 64 → not c ≡ false
+    → d ≡ all (lockOpenedAt l) 64 → not d ≡ true → false ≡ soundList kind list s
+sound-fourth kind s list l a b c d e ea ha eb hb ec hc ed hd =
+    sound-as kind s list l false e (and-then false _ _ (not-yes a _ ea ha)
+    (and-then false _ _ (not-yes b _ eb hb) (and-then false _ _ (not-yes c _ ec hc) (and-first _ _ (not-no d _ ed hd)))))
 
 pub ruleset sounds = (and-first, and-then, answers, sound-as)
 

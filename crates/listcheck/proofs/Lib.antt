@@ -1,3 +1,4 @@
 -- The proofs of `listcheck`.
 pub mod Checks
+pub mod Clashes
 pub mod Tallies

@@ -14,6 +14,7 @@ use Rattle.rules.specs.Drive.{legalName, lookUp, missing, blockOf}
 use Rattle.rules.specs.Locks.{anEmpty, anOpen, aLock, modeUnlocked, itemAt, fileOf, isLow, goodEmpty, openOf, opensUnlocked, isKindByAt, isLimit, isUser}
 use Rattle.rules.specs.declared.kind.Kind.{Kind}
 use Rattle.rules.specs.Kinds.{top}
+use Rattle.index.specs.Slots.{slotOf}
 
 -- the file that an item names, of each process's user
 abbrev pub fileBy : List ℕ → Item → File
@@ -51,6 +52,22 @@ lockOpenedAt l i = lockOpened l (itemAt l i)
 -- the three limits and each process's user
 unfoldable pub goodHead : ℕ → ℕ → ℕ → List ℕ → Bool
 goodHead capacity openlimit locklimit users = isLimit capacity and isLimit openlimit and isLimit locklimit and all (isUser users) 16
+
+-- the record of a lock, 0 for an open
+unfoldable pub lockNumber : Item → ℕ
+lockNumber it = it .number if eqb (it .kind) aLock else 0
+
+-- the slot of an item: items that clash have the same
+unfoldable pub itemSlot : List ℕ → Item → ℕ
+itemSlot users it = slotOf (fileBy users it) (lockNumber it)
+
+-- that of the item in place i
+unfoldable pub itemSlotAt : LockList → ℕ → ℕ
+itemSlotAt l i = itemSlot (l .users) (itemAt l i)
+
+-- there is one
+unfoldable pub isItem : LockList → ℕ → Bool
+isItem l i = not (eqb (itemAt l i .kind) anEmpty)
 
 -- how many items of that kind each process has, of the first n places
 pub record Tally (l : LockList) (kind : ℕ) (counts : List ℕ) (n : ℕ) : Type 0 where

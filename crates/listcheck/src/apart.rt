@@ -1,14 +1,18 @@
 use crate::place::file_by;
+use index::slot::slot_of;
 use rules::file::File;
 use rules::item::Item;
 use rules::list::LockList;
 use rules::tests::same_name;
+use words::hint::hint;
+use words::hint::note;
 ghost use mathlib.Core.Path.{_≡_};
+ghost use Prim.Native.Nat.{_<_};
 ghost use mathlib.Core.Bool.{not};
 ghost use lib.Dec.{eqb};
 ghost use Rattle.words.specs.Tests.{_and_, all};
 ghost use Rattle.rules.specs.Locks.{sameFile, standBeside, clash, isApart};
-ghost use Rattle.listcheck.specs.Check.{fileBy};
+ghost use Rattle.listcheck.specs.Check.{fileBy, lockNumber, itemSlot};
 
 // Two files are the same.
 fn same_file(f: File, g: File) -> bool
@@ -83,11 +87,30 @@ fn file_clash(a: Item, b: Item, users: [u8; 16]) -> bool
     same_file(f, g)
 }
 
+// The record of a lock, 0 for an open.
+fn lock_number(it: Item) -> u32
+    ensures { λ r. ⌜ r ≡ lockNumber it ⌝ }
+{
+    if it.kind == 2 {
+        return it.number;
+    }
+    0
+}
+
+// The slot of an item; items that clash have the same.
+fn item_slot(users: [u8; 16], it: Item) -> usize
+    ensures { λ r. ⌜ (r ≡ itemSlot users it) × (r < 256) ⌝ }
+{
+    let f = file_by(users, it);
+    slot_of(f, lock_number(it) as usize)
+}
+
 // No item clashes with one before it.
 pub fn all_apart(l: LockList) -> bool
     ensures { λ r. ⌜ r ≡ all (isApart l) 64 ⌝ }
 {
     let users = l.users;
+    let mut hints = [255u8; 256];
     let mut i: usize = 0;
     while i < 64 {
         let it = l.items[i];
@@ -95,7 +118,9 @@ pub fn all_apart(l: LockList) -> bool
             i += 1;
             continue;
         }
-        let mut j: usize = 0;
+        let h = item_slot(users, it);
+        let mut j = hint(&hints, h, i);
+        note(&mut hints, h, i as u8);
         while j < i {
             if l.items[j].kind != it.kind {
                 j += 1;

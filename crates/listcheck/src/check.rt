@@ -9,8 +9,10 @@ ghost use mathlib.Core.Path.{_≡_};
 ghost use Prim.Native.Nat.{_*_, _≤_, _<_};
 ghost use lib.ListN.{length};
 ghost use Rattle.words.specs.Tests.{all};
+ghost use Rattle.words.specs.Hints.{Hints};
 ghost use Rattle.rules.specs.Kinds.{entries};
 ghost use Rattle.rules.specs.Locks.{unpack, zeroAt, soundList};
+ghost use Rattle.index.specs.Slots.{slotAt, inUse};
 ghost use Rattle.listcheck.specs.Check.{placeAloneAt, lockOpenedAt, goodHead};
 
 // The zero in each place.
@@ -29,8 +31,8 @@ fn all_zero(list: &[u8]) -> bool
 }
 
 // Each place, by itself.
-fn places_alone(kind: Kind, l: LockList, image: &[u8]) -> bool
-    requires { ⌜ 32 * entries kind ≤ length (now image) ⌝ }
+fn places_alone(kind: Kind, l: LockList, image: &[u8], hints: &[u8; 256]) -> bool
+    requires { ⌜ (32 * entries kind ≤ length (now image)) × Hints (slotAt (now image)) (inUse (now image)) (entries kind) (now hints) ⌝ }
     ensures { λ r. ⌜ r ≡ all (placeAloneAt kind (now (image .entry)) l) 64 ⌝ }
 {
     let users = l.users;
@@ -38,7 +40,7 @@ fn places_alone(kind: Kind, l: LockList, image: &[u8]) -> bool
     let mut i: usize = 0;
     while i < 64 {
         let it = l.items[i];
-        if !place_alone(kind, image, users, capacity, i, it) {
+        if !place_alone(kind, image, hints, users, capacity, i, it) {
             return false;
         }
         i += 1;
@@ -92,9 +94,9 @@ fn good_head(capacity: u8, openlimit: u8, locklimit: u8, users: [u8; 16]) -> boo
     all_users(&users)
 }
 
-// The list check: the list, unpacked and as it stands in its bytes, is sound against a sound image.
-pub fn sound_list(kind: Kind, l: LockList, list: &[u8], image: &[u8]) -> bool
-    requires { ⌜ (l ≡ unpack (now list)) × (length (now list) ≡ 1299) × (32 * entries kind ≤ length (now image)) ⌝ }
+// The list check: the list, unpacked and as it stands in its bytes, is sound against a sound image, whose entries the hints know.
+pub fn sound_list(kind: Kind, l: LockList, list: &[u8], image: &[u8], hints: &[u8; 256]) -> bool
+    requires { ⌜ (l ≡ unpack (now list)) × (length (now list) ≡ 1299) × (32 * entries kind ≤ length (now image)) × Hints (slotAt (now image)) (inUse (now image)) (entries kind) (now hints) ⌝ }
     ensures { λ r. ⌜ r ≡ soundList kind (now (list .entry)) (now (image .entry)) ⌝ }
 {
     if !all_zero(list) {
@@ -104,7 +106,7 @@ pub fn sound_list(kind: Kind, l: LockList, list: &[u8], image: &[u8]) -> bool
     if !good_head(l.capacity, l.openlimit, l.locklimit, users) {
         return false;
     }
-    if !places_alone(kind, l, image) {
+    if !places_alone(kind, l, image, hints) {
         return false;
     }
     if !locks_opened(l) {

@@ -1,7 +1,7 @@
-use directory::find::block_of;
 use directory::find::is_missing;
-use directory::find::look_up;
 use directory::name::legal_name;
+use index::find::block_by;
+use index::find::look_up_by;
 use rules::file::File;
 use rules::item::Item;
 use rules::kind::Kind;
@@ -12,8 +12,10 @@ ghost use Prim.Native.Nat.{_*_, _≤_};
 ghost use lib.ListN.{length};
 ghost use lib.Dec.{leb, eqb};
 ghost use Rattle.words.specs.Tests.{_if_else_, all};
+ghost use Rattle.words.specs.Hints.{Hints};
 ghost use Rattle.rules.specs.Kinds.{entries, top};
 ghost use Rattle.rules.specs.Locks.{isLow, isZero, goodEmpty};
+ghost use Rattle.index.specs.Slots.{slotAt, inUse};
 ghost use Rattle.listcheck.specs.Check.{fileBy, openAlone, lockAlone, itemAlone, placeAlone};
 
 // Eleven zeros.
@@ -74,8 +76,8 @@ pub fn file_by(users: [u8; 16], it: Item) -> File
 }
 
 // An open: its mode and record, and its file on the image.
-fn open_alone(kind: Kind, image: &[u8], users: [u8; 16], it: Item) -> bool
-    requires { ⌜ 32 * entries kind ≤ length (now image) ⌝ }
+fn open_alone(kind: Kind, image: &[u8], hints: &[u8; 256], users: [u8; 16], it: Item) -> bool
+    requires { ⌜ (32 * entries kind ≤ length (now image)) × Hints (slotAt (now image)) (inUse (now image)) (entries kind) (now hints) ⌝ }
     ensures { λ r. ⌜ r ≡ openAlone kind (now (image .entry)) users it ⌝ }
 {
     if 2 < it.mode {
@@ -85,31 +87,31 @@ fn open_alone(kind: Kind, image: &[u8], users: [u8; 16], it: Item) -> bool
         return false;
     }
     let f = file_by(users, it);
-    let found = look_up(kind, image, f);
+    let found = look_up_by(kind, image, hints, f);
     !is_missing(kind, found)
 }
 
 // A lock: its mode, and that its record has a block.
-fn lock_alone(kind: Kind, image: &[u8], users: [u8; 16], it: Item) -> bool
-    requires { ⌜ 32 * entries kind ≤ length (now image) ⌝ }
+fn lock_alone(kind: Kind, image: &[u8], hints: &[u8; 256], users: [u8; 16], it: Item) -> bool
+    requires { ⌜ (32 * entries kind ≤ length (now image)) × Hints (slotAt (now image)) (inUse (now image)) (entries kind) (now hints) ⌝ }
     ensures { λ r. ⌜ r ≡ lockAlone kind (now (image .entry)) users it ⌝ }
 {
     if it.mode != 1 {
         return false;
     }
     let f = file_by(users, it);
-    block_of(kind, image, f, it.number as usize) != 0
+    block_by(kind, image, hints, f, it.number as usize) != 0
 }
 
 // An open or a lock, by its kind.
-fn kind_alone(kind: Kind, image: &[u8], users: [u8; 16], it: Item) -> bool
-    requires { ⌜ 32 * entries kind ≤ length (now image) ⌝ }
+fn kind_alone(kind: Kind, image: &[u8], hints: &[u8; 256], users: [u8; 16], it: Item) -> bool
+    requires { ⌜ (32 * entries kind ≤ length (now image)) × Hints (slotAt (now image)) (inUse (now image)) (entries kind) (now hints) ⌝ }
     ensures { λ r. ⌜ r ≡ (openAlone kind (now (image .entry)) users it if eqb (it .kind) 1 else lockAlone kind (now (image .entry)) users it) ⌝ }
 {
     if it.kind == 1 {
-        return open_alone(kind, image, users, it);
+        return open_alone(kind, image, hints, users, it);
     }
-    lock_alone(kind, image, users, it)
+    lock_alone(kind, image, hints, users, it)
 }
 
 // A record number is at most the highest.
@@ -120,8 +122,8 @@ fn number_fits(kind: Kind, number: u32) -> bool
 }
 
 // An item, by itself.
-fn item_alone(kind: Kind, image: &[u8], users: [u8; 16], it: Item) -> bool
-    requires { ⌜ 32 * entries kind ≤ length (now image) ⌝ }
+fn item_alone(kind: Kind, image: &[u8], hints: &[u8; 256], users: [u8; 16], it: Item) -> bool
+    requires { ⌜ (32 * entries kind ≤ length (now image)) × Hints (slotAt (now image)) (inUse (now image)) (entries kind) (now hints) ⌝ }
     ensures { λ r. ⌜ r ≡ itemAlone kind (now (image .entry)) users it ⌝ }
 {
     if 15 < it.process {
@@ -137,19 +139,20 @@ fn item_alone(kind: Kind, image: &[u8], users: [u8; 16], it: Item) -> bool
     if !number_fits(kind, it.number) {
         return false;
     }
-    kind_alone(kind, image, users, it)
+    kind_alone(kind, image, hints, users, it)
 }
 
 // A place, by itself: empty, or below the capacity with an item.
 pub fn place_alone(
     kind: Kind,
     image: &[u8],
+    hints: &[u8; 256],
     users: [u8; 16],
     capacity: u8,
     i: usize,
     it: Item,
 ) -> bool
-    requires { ⌜ 32 * entries kind ≤ length (now image) ⌝ }
+    requires { ⌜ (32 * entries kind ≤ length (now image)) × Hints (slotAt (now image)) (inUse (now image)) (entries kind) (now hints) ⌝ }
     ensures { λ r. ⌜ r ≡ placeAlone kind (now (image .entry)) users capacity i it ⌝ }
 {
     if it.kind == 0 {
@@ -161,5 +164,5 @@ pub fn place_alone(
     if 2 < it.kind {
         return false;
     }
-    item_alone(kind, image, users, it)
+    item_alone(kind, image, hints, users, it)
 }

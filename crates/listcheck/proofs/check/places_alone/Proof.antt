@@ -9,10 +9,10 @@ use Rattle.listcheck.proofs.check.places_alone.Statement.{statement}
 use Rattle.listcheck.proofs.check.places_alone.Tie as tie
 
 abbrev Inv-loop : tie.InvT-loop
-Inv-loop kind image l users capacity i₀ i = (i ≤ 64) × (all (placeAloneAt kind image l) i ≡ true)
+Inv-loop kind image hints l users capacity i₀ i = (i ≤ 64) × (all (placeAloneAt kind image l) i ≡ true)
 
 abbrev μ-loop : tie.MeasureT-loop
-μ-loop kind image l users capacity i₀ i = 64 - i
+μ-loop kind image hints l users capacity i₀ i = 64 - i
 
 pub places-alone-spec : {M : Type 1} → statement M
 unfolding placeAloneAt
@@ -34,6 +34,6 @@ places-alone-spec =
     -- loop-less
     (λ c. search alls)
     -- loop-again
-    (λ c. search alls)
+    (λ c. (search alls, search alls))
     -- returns-2
     (λ c. search alls))

@@ -1,7 +1,7 @@
 -- `listcheck::check::sound_list` meets its contract.
 use borrow.Author.Needs.{needs}
 use Rattle.words.proofs.Sets.{and-first, and-then, answers}
-use Rattle.listcheck.proofs.Checks.{sounds, sound-after}
+use Rattle.listcheck.proofs.Checks.{sounds, sound-fourth, sound-after}
 use Rattle.listcheck.proofs.check.sound_list.Statement.{statement}
 use Rattle.listcheck.proofs.check.sound_list.Tie as tie
 
@@ -24,7 +24,7 @@ sound-list-spec =
     -- locks-opened-requires
     (λ c κs. search needs)
     -- returns-4
-    (λ c. search sounds depth 8 fits 20000)
+    (λ c. search sound-fourth)
     -- all-apart-requires
     (λ c κs. search needs)
     -- returns-5
