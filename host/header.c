@@ -67,6 +67,7 @@ uint32_t header_kind(uint32_t kind, size_t image_len);
 uint32_t header_function(uint32_t number);
 uint32_t header_answer(uint32_t answer);
 uint32_t header_records(uint32_t answer);
+uint32_t header_capacity(uint32_t processes);
 
 uint32_t header_kind(uint32_t kind, size_t image_len) {
     switch (kind) {
@@ -99,3 +100,5 @@ uint32_t header_answer(uint32_t answer) {
 }
 
 uint32_t header_records(uint32_t answer) { return mpm_done(answer, MPM_MAX_COUNT) + mpm_code(answer); }
+
+uint32_t header_capacity(uint32_t processes) { return mpm_capacity_for(processes, MPM_PLACES, MPM_PLACES); }

@@ -134,6 +134,71 @@ static void try_book(void) {
     want(mpm_book_call(&book, MPM_FN_FREE_SPACE, 3, 1, fcb, dma) == MPM_ERR_BAD_CALL, "a short list is taken");
 }
 
+/* ---- The capacity ---- */
+
+/* An image with 64 files, of which the first has 64 records. Returns 0 if a call was refused. */
+static int make_files(struct mpm_book *book) {
+    static const uint8_t users[MPM_USERS_LEN] = {0};
+    static uint8_t dma[MPM_DMA_LEN], fcb[MPM_FCB_LEN];
+    char name[] = "A0";
+    memset(book->image, MPM_EMPTY, book->image_len);
+    if (mpm_start(book->kind, 1, 1, 1, users, sizeof users, book->list, book->list_len) != MPM_OK) return 0;
+    for (uint32_t file = 0; file < 64; file++) {
+        name[0] = (char)('A' + file / 8), name[1] = (char)('0' + file % 8);
+        mpm_set_fcb(fcb, name, MPM_MODE_UNLOCKED);
+        if (mpm_book_call(book, MPM_FN_MAKE, 0, 1, fcb, dma) != MPM_OK) return 0;
+        for (uint32_t record = 0; file == 0 && record < 64; record += 16) {
+            mpm_set_record(fcb, record);
+            if (mpm_book_call(book, MPM_FN_WRITE, 0, 16, fcb, dma) != MPM_OK) return 0;
+        }
+        if (mpm_book_call(book, MPM_FN_CLOSE, 0, 1, fcb, dma) != MPM_OK) return 0;
+    }
+    return 1;
+}
+
+/* Each process opens as many files as it may and then locks as many records of the first. The first answer that is not
+   MPM_OK, if there is one. */
+static uint32_t fill(struct mpm_book *book, uint32_t capacity, uint32_t processes, uint32_t opens, uint32_t locks) {
+    static const uint8_t users[MPM_USERS_LEN] = {0};
+    static uint8_t dma[MPM_DMA_LEN], fcb[MPM_FCB_LEN];
+    uint32_t file_ids[MPM_PROCESSES] = {0}, answer;
+    char name[] = "A0";
+    answer = mpm_start(book->kind, capacity, opens, locks, users, sizeof users, book->list, book->list_len);
+    for (uint32_t i = 0; i < processes * opens && answer == MPM_OK; i++) {
+        name[0] = (char)('A' + i % opens / 8), name[1] = (char)('0' + i % opens % 8);
+        mpm_set_fcb(fcb, name, MPM_MODE_UNLOCKED);
+        answer = mpm_book_call(book, MPM_FN_OPEN, i / opens, 1, fcb, dma);
+        if (i % opens == 0) file_ids[i / opens] = mpm_file_id(fcb);
+    }
+    mpm_set_fcb(fcb, "A0", MPM_MODE_UNLOCKED);
+    for (uint32_t i = 0; i < processes * locks && answer == MPM_OK; i++) {
+        mpm_set_record(fcb, i);
+        mpm_set_file_id(dma, file_ids[i / locks]);
+        answer = mpm_book_call(book, MPM_FN_LOCK, i / locks, 1, fcb, dma);
+    }
+    return answer;
+}
+
+static void try_capacity(void) {
+    static uint8_t image[10 * 1024], list[MPM_LIST_LEN];
+    static const uint32_t all[][3] = {{1, 1, 1}, {2, 1, 1},  {1, 2, 1}, {1, 1, 63}, {1, 63, 1}, {2, 16, 16},
+                                      {3, 2, 5}, {4, 4, 12}, {8, 2, 6}, {16, 2, 2}, {16, 3, 1}, {16, 1, 3}};
+    struct mpm_book book = {MPM_KIND_SMALL, list, sizeof list, image, sizeof image};
+    want(make_files(&book), "64 files are made");
+    for (size_t i = 0; i < COUNT(all); i++) {
+        uint32_t processes = all[i][0], opens = all[i][1], locks = all[i][2];
+        uint32_t enough = mpm_capacity_for(processes, opens, locks);
+        want(enough == processes * (opens + locks), "a capacity");
+        want(fill(&book, enough, processes, opens, locks) == MPM_OK, "enough places");
+        want(fill(&book, enough - 1, processes, opens, locks) == MPM_ERR_LOCK_LIST_FULL, "one place fewer");
+    }
+    want(mpm_capacity_for(16, 4, 4) == 128, "more than a list has");
+    want(mpm_capacity_for(17, 2, 2) == 64 && mpm_capacity_for(0xFFFFFFFFu, 64, 64) == 2048, "more than 16 processes");
+    want(mpm_capacity_for(0, 1, 1) == 0, "no process");
+    want(mpm_capacity_for(1, 0, 1) == 0 && mpm_capacity_for(1, 1, 0) == 0, "no limit");
+    want(mpm_capacity_for(1, 65, 1) == 0 && mpm_capacity_for(1, 1, 0xFFFFFFFFu) == 0, "a limit over 64");
+}
+
 int main(void) {
     try_names();
     try_fcb();
@@ -141,6 +206,7 @@ int main(void) {
     try_kinds();
     try_answers();
     try_book();
+    try_capacity();
     if (faults == 0) printf("the helpers do what mpm.h says\n");
     return faults == 0 ? 0 : 1;
 }

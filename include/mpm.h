@@ -311,6 +311,14 @@ static inline uint32_t mpm_kind_of(size_t image_len) {
 #define MPM_PLACES 64u
 #define MPM_PLACE_LEN 20u
 
+/* The least capacity with which none of so many processes is ever told that the list is full (255/11, 14/0), with these
+   limits for each: as many times both limits as there are processes, of which no more than 16 count. Above MPM_PLACES
+   where no list is large enough; 0 where mpm_start takes no such limit. */
+static inline uint32_t mpm_capacity_for(uint32_t processes, uint32_t open_limit, uint32_t lock_limit) {
+    if (open_limit < 1u || open_limit > MPM_PLACES || lock_limit < 1u || lock_limit > MPM_PLACES) return 0u;
+    return (processes < MPM_PROCESSES ? processes : MPM_PROCESSES) * (open_limit + lock_limit);
+}
+
 /* ---- Where things stand in the buffers; numbers are stored low byte first ---- */
 
 #define MPM_HIGH_BIT 0x80u

@@ -101,10 +101,12 @@ module _ (kind : Kind) (n p c : ℕ) (b : Buffers) where
 
 -- ---- what a host can lend stays so
 
+-- fewer than 2⁶³ bytes can be lent, ..
 pub lendable-so : (s : List ℕ) → areBytes s ≡ true → length s < 9223372036854775808 → isLendable s ≡ true
 unfolding isLendable
 lendable-so s h k = and-both _ _ h (lt-ltb _ _ k)
 
+-- .. and what can be lent are bytes
 pub lendable-bytes : (s : List ℕ) → isLendable s ≡ true → areBytes s ≡ true
 unfolding isLendable
 lendable-bytes s h = and-fst _ _ h

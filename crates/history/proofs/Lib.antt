@@ -32,6 +32,7 @@ pub mod Demands
 pub mod Lendable
 pub mod Alike
 pub mod Unlocks
+pub mod Sizing
 pub mod Histories
 pub mod Wrong
 pub mod Claims

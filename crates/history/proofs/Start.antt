@@ -1,114 +1,18 @@
 -- The fresh list that Start writes is sound, and all its places are empty. Assumes nothing.
-use Prim.Native.Nat.{ℕ, _*_, _<_}
-use mathlib.Core.Path.{_≡_, refl, sym, ap, _∙_}
-use mathlib.Core.Bool.{true, false}
-use mathlib.Core.List.{List, [], _∷_, _++_}
-use mathlib.Core.Logic.{inl, ⊎-elim}
-use native.Mathlib.Omega.{arith}
-use lib.ListN.{length, replicate, getD-replicate, length-replicate}
-use lib.Dec.{eqb}
-use borrow.Author.Tests.{eqb-true, eqb-false, le-leb, not-false, ne-eqb}
-use Rattle.words.specs.Tests.{_and_, _if_else_, all, count}
-use Rattle.words.specs.Lists.{tab, flat}
-use Rattle.words.specs.Bytes.{le, areBytes}
-use Rattle.words.specs.Tables.{_∕_, firstOf}
-use Rattle.words.proofs.Tests.{either, any-never, or-fst, or-snd}
-use Rattle.words.proofs.Lists.{tab-getD}
-use Rattle.words.proofs.Sets.{and-both, and-left}
-use Rattle.words.proofs.Tables.{row-off}
-use Rattle.words.proofs.Counts.{count-zero}
+use Prim.Native.Nat.{ℕ, _<_}
+use mathlib.Core.Path.{_≡_, sym, ap, _∙_}
+use mathlib.Core.Bool.{true}
+use Rattle.words.specs.Bytes.{areBytes}
 use Rattle.rules.specs.declared.kind.Kind.{Kind}
 use Rattle.rules.specs.declared.item.Item.{Item}
 use Rattle.rules.specs.declared.list.LockList.{LockList}
-use Rattle.rules.specs.Locks.{places, placeSize, blank, emptyPlace, itemAt, firstMark, secondMark, packItem, pack, unpack, isKindBy, isKindByAt, opensBy, locksBy, isZero, goodEmpty, clashAt, keepsLimits, badStart, rowsStart, freshList, startEnds, start}
-use Rattle.rules.proofs.Items.{clash-none}
-use Rattle.rules.proofs.SoundList.{Shape, Limits, SoundLocks, unpacked, list-sound-so}
+use Rattle.rules.specs.Locks.{itemAt, pack, unpack}
+use Rattle.rules.proofs.SoundList.{Shape, SoundLocks, unpacked, list-sound-so}
 use Rattle.rules.proofs.Packing.{pack-long}
 use Rattle.soundness.proofs.InBytes.{pack-bytes}
 use Rattle.soundness.proofs.Kept.{SoundBoth}
 use Rattle.history.specs.History.{Begun, firstState}
-
--- as it reads: the limits and users given, and its places, all empty
-abbrev pub fresh : ℕ → ℕ → ℕ → List ℕ → LockList
-fresh c o k users = record { capacity = c; openlimit = o; locklimit = k; users = users; items = replicate 64 emptyPlace }
-
-fresh-bytes : flat packItem (replicate 64 emptyPlace) ≡ replicate (placeSize * places) 0
-unfolding flat packItem tab le firstMark secondMark _if_else_
-fresh-bytes = refl
-
--- packed it is the one that Start writes, ..
-pub fresh-packed : (c o k : ℕ) (users : List ℕ) → length users ≡ 16 → pack (fresh c o k users) ≡ freshList c o k users
-unfolding pack freshList tab
-fresh-packed c o k users h =
-    rw fresh-bytes (ap (λ (u : List ℕ). c ∷ o ∷ k ∷ (u ++ replicate (placeSize * places) 0)) (tab-getD users 0 16 h))
-
-fresh-at : (i : ℕ) → i < 64 → (c o k : ℕ) (users : List ℕ) → itemAt (fresh c o k users) i ≡ emptyPlace
-fresh-at i m c o k users = getD-replicate 64 i emptyPlace blank m
-
--- .. it has the shape of a list, ..
-pub fresh-shape : (c o k : ℕ) (users : List ℕ) → length users ≡ 16 → Shape (fresh c o k users)
-fresh-shape c o k users h = record {
-  users-long = h;
-  items-long = length-replicate 64 emptyPlace;
-  names-long = λ i m. ap (λ (it : Item). length (it .name)) (fresh-at i m c o k users);
-}
-
-module _ (kind : Kind) (c o k : ℕ) (users s : List ℕ) (g : Limits (fresh c o k users)) where
-  none-kind : (n p : ℕ) → (n ≡ 0 → ⊥) → count (isKindByAt (fresh c o k users) n p) 64 ≡ 0
-  unfolding isKindByAt isKindBy
-  none-kind n p z =
-      count-zero (isKindByAt (fresh c o k users) n p) 64 (any-never (isKindByAt (fresh c o k users) n p) 64 (λ i m.
-      rw (fresh-at i m c o k users) (and-left _ _ (ne-eqb 0 n (λ q. z (sym q))))))
-
-  -- .. and is sound against any image
-  pub fresh-sound : SoundLocks kind (fresh c o k users) s
-  unfolding clashAt keepsLimits opensBy locksBy goodEmpty isZero all _and_
-  fresh-sound = record {
-    limits = g;
-    place = λ i m. inl (record { kind-zero = ap (λ (it : Item). it .kind) (fresh-at i m c o k users); zeros = ap goodEmpty (fresh-at i m c o k users) });
-    apart = λ i j m n q. and-left _ _ (clash-none (itemAt (fresh c o k users) i) (itemAt (fresh c o k users) j)
-        (ap (λ (it : Item). it .kind) (fresh-at i m c o k users)));
-    keeps = λ p m.
-        and-both _ _ (le-leb (count (isKindByAt (fresh c o k users) 1 p) 64) o (rw (none-kind 1 p (λ (z : 1 ≡ 0). absurd (omega arith))) (omega arith)))
-        (le-leb (count (isKindByAt (fresh c o k users) 2 p) 64) k (rw (none-kind 2 p (λ (z : 2 ≡ 0). absurd (omega arith))) (omega arith)));
-  }
-
--- what an accepted Start has tested
-pub record Started (c o k : ℕ) (users list : List ℕ) : Type 0 where
-  pub written : start c o k users list .list ≡ freshList c o k users
-  pub limits : Limits (fresh c o k users)
-  pub users-long : length users ≡ 16
-
-module _ (c o k : ℕ) (users list : List ℕ) where
-  good-start : badStart c o k users list ≡ false → Limits (fresh c o k users) × (length users ≡ 16)
-  unfolding badStart
-  good-start n =
-      let n₁ = or-snd _ _ n in
-      let n₂ = or-snd _ _ n₁ in
-      let n₃ = or-snd _ _ n₂ in (
-        record {
-          capacity-good = not-false _ (or-fst _ _ n);
-          open-good = not-false _ (or-fst _ _ n₁);
-          lock-good = not-false _ (or-fst _ _ n₂);
-          users-good = not-false _ (or-fst _ _ (or-snd _ _ n₃));
-        },
-        eqb-true _ _ (not-false _ (or-fst _ _ n₃)),
-      )
-
-  none-bad : eqb (firstOf (rowsStart c o k users list)) 0 ≡ true → badStart c o k users list ≡ false
-  unfolding rowsStart
-  none-bad z = row-off (255 ∕ 13) (badStart c o k users list) [] (λ y. omega arith) (eqb-true _ _ z)
-
-  -- a Start that was accepted has tested all of it
-  pub started : start c o k users list .answer ≡ 0 ∕ 0 → Started c o k users list
-  unfolding start startEnds _if_else_
-  started h =
-      ⊎-elim
-      (λ (z : eqb (firstOf (rowsStart c o k users list)) 0 ≡ true).
-      let g = good-start (none-bad z) in
-      record { written = rw z refl; limits = g .0; users-long = g .1 })
-      (λ (z : eqb (firstOf (rowsStart c o k users list)) 0 ≡ false). absurd (eqb-false _ _ z (rw z at h)))
-      (either (eqb (firstOf (rowsStart c o k users list)) 0))
+use Rattle.sizing.proofs.Fresh.{fresh, fresh-packed, fresh-at, fresh-shape, fresh-sound, Started, started}
 
 -- the beginning is sound, and its list is the fresh one
 module _ (kind : Kind) (g : Begun kind) where

@@ -23,9 +23,11 @@ use Rattle.rules.specs.Told.{callTold, checkTold, lookTold}
 use Rattle.session.specs.Session.{AsListed, session, firstImage, firstList}
 use Rattle.unlocking.specs.Unlocks.{locksTold, unlocksTold, Unlocking}
 use Rattle.unlocking.specs.Wrong.{WrongUnlocks}
+use Rattle.filling.specs.Least.{Least}
 use Rattle.history.specs.History.{Ask, State, Engine, isWord, EachCall, lent, outcomeOf, withCount}
 use Rattle.history.specs.Demands.{Demand1, Demand2, Demand3}
 use Rattle.history.specs.Unlocks.{UnlockOrder}
+use Rattle.history.specs.Sizing.{NobodyTurnedAway}
 use Rattle.history.specs.Wrong.{refusing, accepting, idle, pretending, madeUp, unbitted, lavish, promoting}
 
 -- ---- Of an engine on drives of one kind
@@ -46,6 +48,9 @@ pub record Claims (kind : Kind) (e : Engine) : Type 0 where
   -- T-13: "two Unlock calls .. give the same answers and bytes in either order; one repeated adds nothing; an accepted Lock .. followed by
   -- the Unlock of that run, gives back the list byte for byte."
   pub unlock-order : UnlockOrder e
+  -- T-10: "from a fresh list that only the engine changes, if at most p processes ever call and the capacity is at least p times the sum of the
+  -- open and lock limits, then 255/11 and 14/0 are never given"
+  pub nobody-turned-away : NobodyTurnedAway e
 
 -- ---- Of an engine that is told the kind by a number
 
@@ -135,3 +140,5 @@ pub record AllClaims : Type 0 where
   pub round-trips : RoundTrips
   pub looks : LookClaims
   pub unlocks : UnlockClaims
+  -- T-10: "Give also a sequence with one place fewer where one of them is": + for all limits and numbers of processes, so that the bound is the least.
+  pub least : Least

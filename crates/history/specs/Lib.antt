@@ -5,4 +5,5 @@ pub mod Groups
 pub mod Demands
 pub mod Wrong
 pub mod Unlocks
+pub mod Sizing
 pub mod Claims

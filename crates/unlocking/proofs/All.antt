@@ -30,6 +30,7 @@ pub locks-plain : (kind : Kind) → locksTold (Known kind) ≡ locks kind
 unfolding locksTold callTold locks servesRun _or_
 locks-plain kind = λ i q list image. run-plain kind 42 (q .process) (q .count) (lentTo q list image) refl i
 
+-- (the same of 43)
 pub unlocks-plain : (kind : Kind) → unlocksTold (Known kind) ≡ unlocks kind
 unfolding unlocksTold callTold unlocks servesRun _or_
 unlocks-plain kind = λ i q list image. run-plain kind 43 (q .process) (q .count) (lentTo q list image) refl i

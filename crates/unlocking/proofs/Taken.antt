@@ -79,6 +79,7 @@ module _ (kind : Kind) (image : List ℕ) (u : Asking) where
   abbrev pub leftOf : List ℕ → List ℕ
   leftOf list = pack (withoutAll (awayOn list) (unpack list)) if actsOn list else list
 
+  -- 43's own table, of what the call finds
   pub own-table : (list : List ℕ) → rowsOf (chosen 43) (asked kind (u .process) (u .count) (lentTo u list image)) (lentTo u list image)
       ≡ rows43 kind (unpack list) (openOf (unpack list) (u .process) (callerFile (u .process) (unpack list) (u .fcb))) (recordOf (u .fcb)) (u .count) (u .dma)
   unfolding chosen rowsOf asked askedBy _if_else_
@@ -137,6 +138,7 @@ module _ (kind : Kind) (image list after : List ℕ) (was : SoundBoth kind list 
 
 -- ---- an Unlock that does something
 
+-- `goneIf` empties what its test names
 pub gone-empties : (away : Item → Bool) → Empties away (goneIf away)
 unfolding goneIf
 gone-empties away = record { turned = λ it. refl }
@@ -204,10 +206,12 @@ module _ (kind : Kind) (image : List ℕ) (v : Asking) (list : List ℕ) (acts :
 -- ---- .. and one that does nothing, too
 
 module _ (kind : Kind) (image : List ℕ) where
+  -- where it does nothing the list stays, ..
   pub unacted : (v : Asking) (list : List ℕ) → actsOn kind image v list ≡ false → leftOf kind image v list ≡ list
   unfolding _if_else_
   unacted v list h = rw h refl
 
+  -- .. else the items of its run are gone
   pub acted : (v : Asking) (list : List ℕ) → actsOn kind image v list ≡ true
       → leftOf kind image v list ≡ pack (withoutAll (awayOn kind image v list) (unpack list))
   unfolding _if_else_

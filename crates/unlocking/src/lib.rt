@@ -1,1 +1,1 @@
-// Two Unlock calls in either order, one repeated, one after its Lock: theorems over the rules, in specs/ and proofs/. No code.
+// Unlock calls in either order, one repeated, one after its Lock, over the written rules. There is no code here.

@@ -1,0 +1,5 @@
+pub mod Book
+pub mod Codes
+pub mod Placed
+pub mod Steps
+pub mod Least

@@ -1,0 +1,5 @@
+pub mod Codes
+pub mod Sums
+pub mod Enough
+pub mod Callers
+pub mod Fresh
