@@ -65,7 +65,8 @@ same-general : (kind : Kind) (q : Asking) (list image : List ℕ) → rowsAll ki
 unfolding rowsAll rowsInside badNumbers badDrive chosen isUnknown _if_else_ _and_
 same-general kind q list image = refl
 
-run-less : (kind : Kind) (l : LockList) (o r n : ℕ) (dma : List ℕ) (more : List Row) → anyRow (rowsRun kind l o r n dma more) ≡ false → anyRow (rowsRun kind l o r n dma []) ≡ false
+run-less : (kind : Kind) (l : LockList) (o r n : ℕ) (dma : List ℕ) (more : List Row) → anyRow (rowsRun kind l o r n dma more) ≡ false
+    → anyRow (rowsRun kind l o r n dma []) ≡ false
 unfolding rowsRun anyRow onlyIf _if_else_
 run-less kind l o r n dma more h =
     or-none _ _ (or-fst _ _ h) (⊎-elim
