@@ -129,8 +129,13 @@ static unsigned long calls[MPM_KINDS + 1], accepted[MPM_KINDS + 1], in_part[MPM_
 static unsigned long met[MPM_KINDS][RULES][ANSWERS];
 static bool telling;
 
-/* The pairs that this input met: libFuzzer keeps an input that meets a new one. */
+/* The image check's codes. */
+enum { CODES = MPM_CHECK_NO_EXTENT_0 + 1 };
+static unsigned long checked[MPM_KINDS][CODES];
+
+/* The pairs and codes that this input met: libFuzzer keeps an input that meets a new one. */
 static uint8_t pairs_met[MPM_KINDS][RULES][ANSWERS] __attribute__((section("__libfuzzer_extra_counters")));
+static uint8_t codes_met[MPM_KINDS][CODES] __attribute__((section("__libfuzzer_extra_counters")));
 
 static const char *kind_name(size_t kind) {
     static const char *const names[] = {"small drive", "large drive"};
@@ -151,6 +156,8 @@ static void print_met_by(size_t kind) {
         }
     printf("met: %s: %lu calls, %lu accepted, %lu done in part, %u of %u pairs of function and answer\n",
            kind_name(kind), calls[kind], accepted[kind], in_part[kind], seen, pairs);
+    for (uint32_t code = 0; code < CODES; code++)
+        if (checked[kind][code] == 0) printf("not met: %s, %s\n", kind_name(kind), mpm_check_name(code));
 }
 
 static void print_met(void) {
@@ -169,6 +176,12 @@ static void count_pair(const struct call *c, size_t rule, size_t answer) {
     if (c->kind >= MPM_KINDS) return;
     met[c->kind][rule][answer]++;
     pairs_met[c->kind][rule][answer] = 1;
+}
+
+static void count_check(uint32_t kind, uint32_t code) {
+    if (kind >= MPM_KINDS) return;
+    checked[kind][code]++;
+    codes_met[kind][code] = 1;
 }
 
 static void want(bool good, const struct call *call, const char *what) {
@@ -256,12 +269,16 @@ static void check_answer(const struct call *c, const struct state *before) {
 
 static uint32_t other_kind(uint32_t kind) { return kind == MPM_KIND_SMALL ? MPM_KIND_LARGE : MPM_KIND_SMALL; }
 
-/* The image check of the told kind and of another: wrong length exactly where the kind has no such drive. */
+/* The image check of the told kind and of another: wrong length exactly where the kind has no such drive; the entry and
+   the reason those of the plain C version. */
 static uint32_t check_kind(const struct call *c, uint32_t kind, const struct buffer *image) {
     bool whole = mpm_blocks(kind, image->length) != 0;
-    uint32_t check = mpm_check(kind, image->bytes, image->length);
-    bool judged = check == MPM_CHECK_SOUND || check == MPM_CHECK_UNSOUND;
-    want(whole ? judged : check == MPM_CHECK_WRONG_LENGTH, c, "the image check is wrong");
+    uint32_t check = mpm_check(kind, image->bytes, image->length), code = mpm_check_code(check);
+    want(whole == (check != MPM_CHECK_WRONG_LENGTH), c, "the image check is wrong about the length");
+    want(code <= MPM_CHECK_NO_EXTENT_0 && (code >= MPM_CHECK_BAD_USER || check == code), c, "no answer of a check");
+    want(code < MPM_CHECK_BAD_USER || mpm_check_entry(check) < mpm_entries(kind), c, "no entry of the directory");
+    want(check == plain_check(kind, image->bytes, image->length), c, "the plain C version tells another entry");
+    count_check(kind, code);
     return check;
 }
 

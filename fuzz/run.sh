@@ -163,13 +163,15 @@ selftest() {
         "CLEARS_SEVEN clears seven of fifteen records" "UNKNOWN_AS_LARGE takes an unknown kind as large"
         "FIRST_ALONE does one record of a run" "NO_NUMBER does not tell how many it did"
         "GOES_ON goes on behind a refused record" "ALL_OR_NONE takes a run back"
-        "ONE_DMA_RECORD has one place in the DMA" "CLEARS_AGAIN clears what it wrote" "MOVES_FCB moves the FCB on")
+        "ONE_DMA_RECORD has one place in the DMA" "CLEARS_AGAIN clears what it wrote" "MOVES_FCB moves the FCB on"
+        "EARLIER_ENTRY charges a repeat to the earlier entry" "REPEAT_FIRST tells 6 before 5 in an entry"
+        "EXTENT_0_IN_TURN tells 8 in its entry's turn" "LENGTH_OF_ENTRY_1 tells entry 1 for a wrong length")
     local n fault
     for n in "${!stubs[@]}"; do
         compile bad.o -DSTUB=$((n + 1)) "$root/tests/pipe/stub.c"
         finds "${stubs[n]}" fuzz.o bad.o
     done
-    compile bad-fuzz.o -Dmpm_call=spoiled_call -Dmpm_singly=spoiled_singly "$here/fuzz.c"
+    compile bad-fuzz.o -Dmpm_call=spoiled_call -Dmpm_singly=spoiled_singly -Dmpm_check=spoiled_check "$here/fuzz.c"
     for fault in "${faults[@]}"; do
         compile bad.o -DSPOILED="${fault%% *}" "$here/spoiled.c"
         finds "${fault#* }" bad-fuzz.o bad.o engine1.o

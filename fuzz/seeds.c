@@ -361,6 +361,38 @@ static void high_numbers(uint32_t blocks) {
     }
 }
 
+static void put_entry(uint32_t kind, uint32_t e, const char *head, uint32_t first, uint32_t second) {
+    char bytes[MPM_ENTRY_LEN] = {0};
+    size_t number_len = MPM_MAP_LEN / mpm_numbers(kind), map = MPM_ENTRY_LEN - MPM_MAP_LEN;
+    memcpy(bytes, head, map);
+    put_number((uint8_t *)bytes + map, number_len, first);
+    put_number((uint8_t *)bytes + map + number_len, number_len, second);
+    patch(IMAGE, MPM_ENTRY_LEN * e, 1, MPM_ENTRY_LEN, NOTHING_RISES, bytes, sizeof bytes);
+}
+
+/* Behind a good entry two that are bad, each for a reason of its own; the fourth has another besides. */
+static void bad_entries(uint32_t kind) {
+    static const struct {
+        const char *head;
+        uint32_t first, second;
+    } bad[] = {
+        {"\020" B "\000\000\000\001", 4, 0}, {"\000" "S?OCK   DAT" "\000\000\000\001", 4, 0},
+        {"\000" B "\000\000\000\201", 4, 0}, {"\000" B "\000\000\000\001", 2, 1},
+        {"\000" B "\000\000\000\001", 4, 2}, {"\000" A "\000\000\000\001", 4, 0},
+        {"\000" C "\001\000\000\001", 5, 0},
+    };
+    enum { BAD = sizeof bad / sizeof bad[0] };
+    for (size_t i = 0; i < BAD; i++)
+        for (size_t k = 0; k < BAD; k++) {
+            set_drive(kind, fewest(kind, 16));
+            put_entry(kind, 0, "\000" A "\000\000\000\001", 2, 3);
+            put_entry(kind, 1, bad[i].head, bad[i].first, bad[i].second);
+            put_entry(kind, 2, bad[k].head, bad[k].first, bad[k].second);
+            call(0, MPM_FN_FREE_SPACE, A, 0, 1, 0);
+            save();
+        }
+}
+
 static void wrong_numbers(void) {
     set_drive(MPM_KIND_SMALL, 4);
     call(0, 271, A, 0, 1, 0)[1] = WILD_FUNCTION;
@@ -385,6 +417,7 @@ static void seeds_of(uint32_t kind) {
     runs(kind);
     full_runs(kind);
     all_full(kind);
+    bad_entries(kind);
 }
 
 int main(int argc, char **argv) {

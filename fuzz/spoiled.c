@@ -1,5 +1,6 @@
-/* The engine with one fault, chosen by SPOILED, for the fuzz test and for the host's story to see: mpm_call is another
-   name of spoiled_call, and mpm_singly of spoiled_singly, where they are compiled for it. */
+/* The engine with one fault, chosen by SPOILED, for the fuzz test, the host's story and the desk's program to see:
+   mpm_call is another name of spoiled_call, mpm_singly of spoiled_singly and mpm_check of spoiled_check, where they are
+   compiled for it. */
 #include <stdbool.h>
 #include <string.h>
 
@@ -7,7 +8,7 @@
 
 /* SHORT_FCB lends the engine an FCB without its last byte: AddressSanitizer in the engine's own code has to see it.
    Those from HIGH_BYTE_DROPPED on are faults of the kinds of drive, those from FIRST_ALONE on of runs: 33, 34 and 40 of
-   more than one record. */
+   more than one record; those from EARLIER_ENTRY on of the image check. */
 enum {
     WRITES_AT_REFUSAL,
     LEAVES_LOCKS,
@@ -28,7 +29,11 @@ enum {
     ALL_OR_NONE,    /* takes back what was done before a refused record */
     ONE_DMA_RECORD, /* has every record in DMA bytes 0 to 127 */
     CLEARS_AGAIN,   /* 40 clears a block at each record */
-    MOVES_FCB       /* leaves the FCB behind the last record done */
+    MOVES_FCB,      /* leaves the FCB behind the last record done */
+    EARLIER_ENTRY,     /* charges what is named twice to the first that names it */
+    REPEAT_FIRST,      /* tells a block named before, where the entry has a number out of range too */
+    EXTENT_0_IN_TURN,  /* tells a file lacking extent 0 in its entry's turn */
+    LENGTH_OF_ENTRY_1  /* tells entry 1 for a wrong length */
 };
 
 /* The words of a call. */
@@ -272,6 +277,77 @@ static uint32_t bad_run(const struct lent *c) {
     case CLEARS_AGAIN: return clears_again(*c);
     case MOVES_FCB: return moves_fcb(*c);
     default: return bad_kind(c);
+    }
+}
+
+/* ---- Faults of the image check ---- */
+
+static const uint8_t *entry_at(const uint8_t *image, uint32_t e) { return image + MPM_ENTRY_LEN * e; }
+
+static uint32_t number_at(uint32_t kind, const uint8_t *entry, uint32_t k) {
+    const uint8_t *map = entry + MPM_ENTRY_LEN - MPM_MAP_LEN;
+    return kind == MPM_KIND_SMALL ? map[k] : map[2 * k] + 256u * map[2 * k + 1];
+}
+
+static bool is_same_file(const uint8_t *a, const uint8_t *b) {
+    for (size_t i = 1; i <= MPM_NAME_LEN; i++)
+        if ((a[i] ^ b[i]) & 0x7F) return false;
+    return a[0] == b[0];
+}
+
+static bool is_same_extent(const uint8_t *a, const uint8_t *b) { return a[12] == b[12] && a[14] == b[14]; }
+
+/* An entry names a block of the other one's; of itself, twice. */
+static bool shares_block(uint32_t kind, const uint8_t *a, const uint8_t *b) {
+    for (uint32_t i = 0; i < mpm_numbers(kind); i++)
+        for (uint32_t k = 0; k < (a == b ? i : mpm_numbers(kind)); k++)
+            if (number_at(kind, a, i) != 0 && number_at(kind, a, i) == number_at(kind, b, k)) return true;
+    return false;
+}
+
+static uint32_t earlier_entry(uint32_t kind, const uint8_t *image, uint32_t check) {
+    uint32_t code = mpm_check_code(check);
+    const uint8_t *bad = entry_at(image, mpm_check_entry(check));
+    for (uint32_t e = 0; e < mpm_check_entry(check); e++) {
+        const uint8_t *at = entry_at(image, e);
+        bool first = code == MPM_CHECK_BLOCK_TWICE    ? shares_block(kind, at, bad)
+                     : code == MPM_CHECK_EXTENT_TWICE ? is_same_file(at, bad) && is_same_extent(at, bad)
+                                                      : false;
+        if (at[0] != MPM_EMPTY && first) return code + 256u * e;
+    }
+    return check;
+}
+
+static uint32_t repeat_first(uint32_t kind, const uint8_t *image, uint32_t check) {
+    uint32_t bad = mpm_check_entry(check);
+    if (mpm_check_code(check) != MPM_CHECK_BLOCK_RANGE) return check;
+    for (uint32_t e = 0; e <= bad; e++)
+        if (entry_at(image, e)[0] != MPM_EMPTY && shares_block(kind, entry_at(image, bad), entry_at(image, e)))
+            return MPM_CHECK_BLOCK_TWICE + 256u * bad;
+    return check;
+}
+
+static uint32_t extent_0_in_turn(uint32_t kind, const uint8_t *image, uint32_t check) {
+    for (uint32_t e = 0; e < mpm_check_entry(check); e++) {
+        const uint8_t *at = entry_at(image, e), *first = image;
+        const uint8_t *end = entry_at(image, mpm_entries(kind));
+        while (first < end && !(is_same_file(first, at) && first[12] == 0 && first[14] == 0)) first += MPM_ENTRY_LEN;
+        if (at[0] != MPM_EMPTY && first == end) return MPM_CHECK_NO_EXTENT_0 + 256u * e;
+    }
+    return check;
+}
+
+uint32_t spoiled_check(uint32_t kind, const uint8_t *image, size_t image_len);
+
+uint32_t spoiled_check(uint32_t kind, const uint8_t *image, size_t image_len) {
+    uint32_t check = mpm_check(kind, image, image_len);
+    if (check == MPM_CHECK_SOUND) return check;
+    if (check == MPM_CHECK_WRONG_LENGTH) return SPOILED == LENGTH_OF_ENTRY_1 ? check + 256u : check;
+    switch (SPOILED) {
+    case EARLIER_ENTRY: return earlier_entry(kind, image, check);
+    case REPEAT_FIRST: return repeat_first(kind, image, check);
+    case EXTENT_0_IN_TURN: return extent_0_in_turn(kind, image, check);
+    default: return check;
     }
 }
 

@@ -1,13 +1,14 @@
 /* mpm.h by itself, as C and as C++: it can be included first and twice, its functions have the types that a host relies
    on, its sizes fit together for each kind of drive, no length of an image is one of both kinds, no two kinds,
-   functions or answers have the same number but Make's 255/0, and the answers leave the high four bits of H free.
+   functions or answers have the same number but Make's 255/0, no two codes of the image check have, and the answers
+   leave the high four bits of H free.
    Compiled, never run; what the helpers do is tried by helpers.c. */
 
 #include "mpm.h"
 #include "mpm.h"
 
-#if MPM_VERSION != 4
-#error "the checks below are those of version 4"
+#if MPM_VERSION != 5
+#error "the checks below are those of version 5"
 #endif
 
 typedef uint32_t call_type(uint32_t, uint32_t, uint32_t, uint32_t, uint8_t *, size_t, uint8_t *, size_t, uint8_t *,
@@ -68,6 +69,7 @@ uint32_t header_function(uint32_t number);
 uint32_t header_answer(uint32_t answer);
 uint32_t header_records(uint32_t answer);
 uint32_t header_capacity(uint32_t processes);
+uint32_t header_checked(uint32_t check);
 
 uint32_t header_kind(uint32_t kind, size_t image_len) {
     switch (kind) {
@@ -102,3 +104,12 @@ uint32_t header_answer(uint32_t answer) {
 uint32_t header_records(uint32_t answer) { return mpm_done(answer, MPM_MAX_COUNT) + mpm_code(answer); }
 
 uint32_t header_capacity(uint32_t processes) { return mpm_capacity_for(processes, MPM_PLACES, MPM_PLACES); }
+
+uint32_t header_checked(uint32_t check) {
+    switch (mpm_check_code(check)) {
+    case MPM_CHECK_SOUND: case MPM_CHECK_WRONG_LENGTH: case MPM_CHECK_BAD_USER: case MPM_CHECK_BAD_NAME:
+    case MPM_CHECK_BAD_NUMBER: case MPM_CHECK_BLOCK_RANGE: case MPM_CHECK_BLOCK_TWICE: case MPM_CHECK_EXTENT_TWICE:
+    case MPM_CHECK_NO_EXTENT_0: return mpm_check_entry(check);
+    default: return 0u;
+    }
+}

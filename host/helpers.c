@@ -111,6 +111,27 @@ static void try_answers(void) {
     want(strcmp(mpm_answer_name(MPM_FN_MAKE, 0), "MPM_OK") == 0, "0/0 of Make");
 }
 
+/* ---- The image check ---- */
+
+/* The nine codes have a name and a sentence each, whatever the entry, and no two have the same. */
+static void try_checks(void) {
+    for (uint32_t code = 0; code < 256; code++) {
+        const char *name = mpm_check_name(code + 256 * 127), *text = mpm_check_text(code + 256 * 127);
+        want((strcmp(name, "no answer of the image check") != 0) == (code < 9), "there are nine codes with a name");
+        want((strcmp(text, "This is no answer of the image check.") != 0) == (code < 9), "nine codes with a sentence");
+        want(strcmp(name, mpm_check_name(code)) == 0 && strcmp(text, mpm_check_text(code)) == 0, "one name, any entry");
+        for (uint32_t other = 0; other < code && code < 9; other++)
+            want(strcmp(text, mpm_check_text(other)) != 0 && strcmp(name, mpm_check_name(other)) != 0,
+                 "two codes have one name or sentence");
+    }
+    want(strcmp(mpm_check_name(2 + 256 * 17), "MPM_CHECK_BAD_USER") == 0, "2 is a bad user byte");
+    want(strcmp(mpm_check_name(5), "MPM_CHECK_BLOCK_RANGE") == 0, "5 is a block number out of range");
+    want(strcmp(mpm_check_name(6), "MPM_CHECK_BLOCK_TWICE") == 0, "6 is a block named before");
+    want(strcmp(mpm_check_name(8), "MPM_CHECK_NO_EXTENT_0") == 0, "8 is a file lacking extent 0");
+    want(mpm_check_code(6 + 256 * 127) == 6 && mpm_check_entry(6 + 256 * 127) == 127, "an answer is taken apart");
+    want(mpm_check_code(MPM_CHECK_WRONG_LENGTH) == 1 && mpm_check_entry(MPM_CHECK_WRONG_LENGTH) == 0, "1 of entry 0");
+}
+
 /* ---- A book ---- */
 
 static void try_book(void) {
@@ -132,6 +153,9 @@ static void try_book(void) {
     want(mpm_book_call(&book, MPM_FN_LOCK, 3, 1, fcb, dma) == MPM_ERR_BAD_FILE_ID, "another File ID is taken");
     book.list_len--;
     want(mpm_book_call(&book, MPM_FN_FREE_SPACE, 3, 1, fcb, dma) == MPM_ERR_BAD_CALL, "a short list is taken");
+    image[MPM_ENTRY_LEN] = 16;
+    uint32_t check = mpm_check(book.kind, image, sizeof image);
+    want(mpm_check_code(check) == MPM_CHECK_BAD_USER && mpm_check_entry(check) == 1, "entry 1 has a bad user byte");
 }
 
 /* ---- The capacity ---- */
@@ -205,6 +229,7 @@ int main(void) {
     try_numbers();
     try_kinds();
     try_answers();
+    try_checks();
     try_book();
     try_capacity();
     if (faults == 0) printf("the helpers do what mpm.h says\n");

@@ -82,15 +82,6 @@ static uint32_t free_records(void) {
 
 /* ---- Words ---- */
 
-static const char *check_name(uint32_t answer) {
-    switch (answer) {
-    case MPM_CHECK_SOUND: return "MPM_CHECK_SOUND";
-    case MPM_CHECK_WRONG_LENGTH: return "MPM_CHECK_WRONG_LENGTH";
-    case MPM_CHECK_UNSOUND: return "MPM_CHECK_UNSOUND";
-    default: return "an unknown answer";
-    }
-}
-
 static const char *mode_name(uint32_t mode) {
     switch (mode) {
     case MPM_MODE_LOCKED: return "locked";
@@ -391,7 +382,7 @@ static void check_book(const char *words) {
     char text[32];
     uint32_t answer = mpm_check(kind, image_of(&now), image_len());
     snprintf(text, sizeof text, "%u", (unsigned)answer);
-    print_row("host", 0, words, text, check_name(answer));
+    print_row("host", 0, words, text, mpm_check_name(answer));
     printf("\n");
     if (answer != MPM_CHECK_SOUND) fault("the image is not sound");
     if (memcmp(&before, &now, sizeof now) != 0) fault("the book read is not the book written");

@@ -2,12 +2,13 @@
 # test.sh [ARCHIVE]: tests the C side; a line for each test, exit status 1 at the first that fails.
 # With the kit: mpm.h as C and as C++, its helpers; a host outside the repository, made with what install.sh installs;
 # the story on each kind of drive against expected.sh, and the story over bad engines, which it must not take for good
-# ones (the plain engine of a bad one is as bad, so that the two do not give each other away); saving on a disk that
-# fails and a machine that stops; the minimal host on a full disk, in a read-only folder and killed 50 times. Beside the
-# kit it wants pkg-config, python3 and, on x86-64, a C compiler.
+# ones (the plain engine of a bad one is as bad, so that the two do not give each other away); the desk's program on
+# images damaged in each way, and over bad image checks; saving on a disk that fails and a machine that stops; the
+# minimal host on a full disk, in a read-only folder and killed 50 times. Beside the kit it wants pkg-config, python3
+# and, on x86-64, a C compiler.
 # With ARCHIVE, an engine for this machine's own processor (of machine/native.sh, or the reference of
-# tests/pipe/exports): the header, the helpers, the story and saving with the system's compilers (CC, CXX), under the
-# sanitizers of addresses and undefined behaviour.
+# tests/pipe/exports): the header, the helpers, the story, the desk's program and saving with the system's compilers
+# (CC, CXX), under the sanitizers of addresses and undefined behaviour.
 set -euo pipefail
 here=$(cd "$(dirname "${BASH_SOURCE[0]}")" && pwd -P)
 # shellcheck source=../machine/kit.sh
@@ -88,6 +89,19 @@ try_the_story() { # RUN..
     try "an old book is kept" keeps_an_old_book "$@"
     try "no folder" ends_with 2 "$@" "$work/none"
     try "no such kind" ends_with 2 "$@" "$work" huge
+}
+
+# ---- The desk's program
+
+says_what_is_bad() { # BOOK..
+    rm -rf "$work/desk" && mkdir "$work/desk" && python3 "$here/book.py" "$work/desk" "$@"
+}
+
+sees_a_bad_check() { # SPOILED
+    kit_clang -std=c99 -O2 -fPIC -Dmpm_check=spoiled_check -c "$here/book.c" -o "$work/bad.o" &&
+        kit_clang -std=c99 -O2 -fPIC "${warnings[@]}" -DSPOILED="$1" -c "$spoiled" -o "$work/spoiled.o" &&
+        kit_link "$work/bad" "$work/bad.o" "$work/spoiled.o" "$archive" &&
+        ends_with 1 says_what_is_bad "$run" "$work/bad"
 }
 
 # A call leaves nothing behind in the engine itself: no part of the archive can be written to.
@@ -195,6 +209,12 @@ with_the_kit() {
     try "a large block of which half is cleared is seen" sees_a_fault CLEARS_SEVEN large
     try "an unknown kind taken as large is seen" sees_a_fault UNKNOWN_AS_LARGE small
     try ".. on a large drive" sees_a_fault UNKNOWN_AS_LARGE large
+    "$build" "$here/book.c" "$work/book-program"
+    try "the desk's program on images damaged in each way" says_what_is_bad "$run" "$work/book-program"
+    try "a repeat charged to the earlier entry is seen" sees_a_bad_check EARLIER_ENTRY
+    try "a repeated block told before one out of range is seen" sees_a_bad_check REPEAT_FIRST
+    try "a missing extent 0 told in its entry's turn is seen" sees_a_bad_check EXTENT_0_IN_TURN
+    try "another entry than 0 told for a wrong length is seen" sees_a_bad_check LENGTH_OF_ENTRY_1
 }
 
 with_the_system() { # ARCHIVE
@@ -203,6 +223,10 @@ with_the_system() { # ARCHIVE
     try "the helpers of mpm.h compile" sanitized "$work/helpers" "$here/helpers.c" "$1"
     try "the helpers of mpm.h" "$work/helpers"
     try "the story compiles" sanitized "$story" "$here/story.c" "$here/save.c" "$1"
+    try "the desk's program compiles" sanitized "$work/book-program" "$here/book.c" "$1"
+    # It allocates nothing, and looking for leaks takes seconds on some machines.
+    try "the desk's program on images damaged in each way" says_what_is_bad env ASAN_OPTIONS=detect_leaks=0 \
+        "$work/book-program"
     try "saving compiles" sanitized "$work/save_faults" "$here/save_faults.c" "$1"
     try_saving "$work/save_faults"
     try_the_story "$story"

@@ -31,9 +31,10 @@ extern "C" {
 
 /* Raised with each change of a length, of a function's parameters or of a name. 1 was before this name was; since 2 the
    DMA has 2,048 bytes; since 3 the first parameter of every function is the kind of drive; since 4 functions have names
-   that begin with MPM_FN_, refusals with MPM_ERR_ and the image check's answers with MPM_CHECK_. With 4 no length and
-   no parameter moved: an archive of 3 serves a host of 4. */
-#define MPM_VERSION 4u
+   that begin with MPM_FN_, refusals with MPM_ERR_ and the image check's answers with MPM_CHECK_; since 5 the image
+   check tells the lowest bad entry and why. With 4 and 5 no length and no parameter moved: an archive of 3 serves a
+   host of 4, and to one of 5 it tells 2 of entry 0 for every directory that is not sound. */
+#define MPM_VERSION 5u
 
 /* ---- The lengths of the buffers, in bytes ---- */
 
@@ -68,7 +69,8 @@ uint32_t mpm_singly(uint32_t kind, uint32_t function, uint32_t process, uint32_t
 uint32_t mpm_start(uint32_t kind, uint32_t capacity, uint32_t open_limit, uint32_t lock_limit,
                    const uint8_t *users, size_t users_len, uint8_t *list, size_t list_len);
 
-/* Checks an image of the kind: MPM_CHECK_SOUND, MPM_CHECK_WRONG_LENGTH or MPM_CHECK_UNSOUND. Changes nothing. */
+/* Checks an image of the kind. Gives code + 256 entry: MPM_CHECK_SOUND or MPM_CHECK_WRONG_LENGTH, both of entry 0, or
+   the lowest bad entry of the directory and why it is bad. Changes nothing. */
 uint32_t mpm_check(uint32_t kind, const uint8_t *image, size_t image_len);
 
 /* Tells where the 128 bytes of a record begin in the image, for screens. They lie inside the image and behind the
@@ -219,11 +221,25 @@ static inline uint32_t mpm_done(uint32_t answer, uint32_t count) {
 /* 14/0: 42: fewer empty places than records not yet held by the caller */
 #define MPM_ERR_LOCK_LIST_FULL MPM_ANSWER(14u, 0u)
 
-/* ---- Answers of mpm_check ---- */
+/* ---- Answers of mpm_check: code + 256 entry ---- */
 
 #define MPM_CHECK_SOUND 0u        /* the image is sound */
 #define MPM_CHECK_WRONG_LENGTH 1u /* no drive of the told kind has this length, or the kind is unknown */
-#define MPM_CHECK_UNSOUND 2u      /* its directory is not sound */
+
+/* Why an entry is bad. Entries are judged in rising order, and inside one these in the order below, all its block
+   numbers for one before any for the next. What is named twice is charged to the later entry. An empty entry is never
+   bad. */
+#define MPM_CHECK_BAD_USER 2u     /* byte 0 is neither a user, 0 to 15, nor E5h for an empty entry */
+#define MPM_CHECK_BAD_NAME 3u     /* the name is illegal */
+#define MPM_CHECK_BAD_NUMBER 4u   /* ex (byte 12) is over 31, the module (14) over 63 or the count (15) over 128 */
+#define MPM_CHECK_BLOCK_RANGE 5u  /* a block number is not one of a data block of this drive */
+#define MPM_CHECK_BLOCK_TWICE 6u  /* a block was named before, in an earlier entry or in this one */
+#define MPM_CHECK_EXTENT_TWICE 7u /* an earlier entry is of the same file and extent */
+/* Told last of all, where no entry is bad for one of the reasons above, of the lowest entry of all such files. */
+#define MPM_CHECK_NO_EXTENT_0 8u /* the file lacks extent 0 */
+
+static inline uint32_t mpm_check_code(uint32_t check) { return check % 256u; }
+static inline uint32_t mpm_check_entry(uint32_t check) { return check / 256u; }
 
 /* ---- Sizes, in bytes where the name ends in LEN ---- */
 
@@ -490,6 +506,37 @@ static inline const char *mpm_answer_text(uint32_t function, uint32_t answer) {
         MPM_SENTENCES(MPM_TEXT_OF)
 #undef MPM_TEXT_OF
     default: return "This is no answer of the engine.";
+    }
+}
+
+/* The codes of mpm_check with a sentence for the one who brings the image. */
+#define MPM_CHECK_SENTENCES(OF)                                                                                        \
+    OF(MPM_CHECK_SOUND, "The image is sound.")                                                                         \
+    OF(MPM_CHECK_WRONG_LENGTH, "No drive of this kind has an image of this length.")                                   \
+    OF(MPM_CHECK_BAD_USER, "The entry's first byte is neither a user, 0 to 15, nor E5h for an empty entry.")           \
+    OF(MPM_CHECK_BAD_NAME, "The entry's name is no legal file name.")                                                  \
+    OF(MPM_CHECK_BAD_NUMBER, "The entry's ex is over 31, its module over 63 or its record count over 128.")            \
+    OF(MPM_CHECK_BLOCK_RANGE, "The entry names a block that is no data block of this drive.")                          \
+    OF(MPM_CHECK_BLOCK_TWICE, "The entry names a block that was named before.")                                        \
+    OF(MPM_CHECK_EXTENT_TWICE, "An earlier entry is of the same file and extent.")                                     \
+    OF(MPM_CHECK_NO_EXTENT_0, "The entry's file has no extent 0.")
+
+/* The name of an image check's answer and one plain sentence for it, whatever entry it tells. */
+static inline const char *mpm_check_name(uint32_t check) {
+    switch (mpm_check_code(check)) {
+#define MPM_NAME_OF(code, sentence) case code: return #code;
+        MPM_CHECK_SENTENCES(MPM_NAME_OF)
+#undef MPM_NAME_OF
+    default: return "no answer of the image check";
+    }
+}
+
+static inline const char *mpm_check_text(uint32_t check) {
+    switch (mpm_check_code(check)) {
+#define MPM_TEXT_OF(code, sentence) case code: return sentence;
+        MPM_CHECK_SENTENCES(MPM_TEXT_OF)
+#undef MPM_TEXT_OF
+    default: return "This is no answer of the image check.";
     }
 }
 

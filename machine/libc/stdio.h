@@ -6,6 +6,7 @@ typedef struct _IO_FILE FILE;
 extern FILE *stderr, *stdout;
 FILE *fopen(const char *, const char *);
 int fclose(FILE *);
+int ferror(FILE *);
 int fflush(FILE *);
 int rename(const char *, const char *);
 size_t fread(void *, size_t, size_t, FILE *);

@@ -1,9 +1,9 @@
 /* A host that works on an image file by commands; run.sh holds what it does against cpmtools.
 
-   book KIND IMAGE COMMANDS..: takes the image for a drive of this kind, 0 or 1, whatever its length is, does the commands in order, all in one session with one lock list, and then writes the image
-   back if it has changed. Process 0 has user 0, process 1 user 1 and so on: a command's user is its process too.
+   book KIND IMAGE COMMANDS..: takes the image for a drive of this kind, 0 or 1, whatever its length is, does the
+   commands in order, all in one session with one lock list, and then writes the image back if it has changed. Process 0 has user 0, process 1 user 1 and so on: a command's user is its process too.
 
-     check                             prints what the image check answers
+     check                             prints what the image check answers: sound, wrong length, or code and entry
      free                              prints the number of free records (46)
      make USER NAME                    22
      open USER NAME                    15, locked
@@ -126,12 +126,15 @@ static int report(const struct command *command, char **operands, uint32_t answe
 static int check(const struct command *command, char **operands) {
     (void)command;
     (void)operands;
-    switch (mpm_check(kind, image, image_len)) {
-    case MPM_CHECK_SOUND: printf("sound\n"); return DONE;
-    case MPM_CHECK_WRONG_LENGTH: printf("wrong length\n"); return DONE;
-    case MPM_CHECK_UNSOUND: printf("unsound\n"); return DONE;
-    default: printf("an unknown answer\n"); return REFUSED;
+    uint32_t answer = mpm_check(kind, image, image_len);
+    if (answer == MPM_CHECK_SOUND) {
+        printf("sound\n");
+    } else if (answer == MPM_CHECK_WRONG_LENGTH) {
+        printf("wrong length\n");
+    } else {
+        printf("%u of entry %u\n", (unsigned)mpm_check_code(answer), (unsigned)mpm_check_entry(answer));
     }
+    return DONE;
 }
 
 static int free_space(const struct command *command, char **operands) {

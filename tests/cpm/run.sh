@@ -1,7 +1,9 @@
 #!/usr/bin/env bash
 # Holds the engine against Debian's cpmtools, which know nothing of it, on drives of 64 and of 256 blocks, and on those
-# of 257, 300 and 1,027 larger blocks that the second kind has: each must read what the other wrote. Then does each case where they differ by intent. One line for each step; at the first
-# other difference one plain line and exit status 1. Installs cpmtools where they are missing. All files are temporary.
+# of 257, 300 and 1,027 larger blocks that the second kind has: each must read what the other wrote, and the desk's
+# program (host/book.c) must find the tools' images sound. Then does each case where they differ by intent. One line for
+# each step; at the first other difference one plain line and exit status 1. Installs cpmtools where they are missing.
+# All files are temporary.
 set -euo pipefail
 here=$(cd "$(dirname "${BASH_SOURCE[0]}")" && pwd -P)
 root=$(cd "$here/../.." && pwd -P)
@@ -63,8 +65,13 @@ fresh() { # FORMAT IMAGE
     mkfs.cpm -f "$1" "$2"
 }
 
-checked() { # WANTED IMAGE
+checked() { # WANTED IMAGE: sound, wrong length, or the code and the entry, as in '5 of entry 0'
     expect "the check of $2" "$1" "$(book "$2" check)"
+}
+
+desk_finds_sound() { # IMAGES..
+    expect "the desk's program on $*" "$(printf '%s: sound\n' "$@")" \
+        "$(bash "$root/machine/run.sh" "$work/desk" check "$@")"
 }
 
 fsck_silent() { # FORMAT IMAGE: only its two headings and its figures
@@ -262,35 +269,37 @@ one_file() { # IMAGE NAME RECORDS: a fresh image with one file that the engine m
     checked sound "$1"
 }
 
-# A.DAT has the blocks 2 and 3, B.DAT 4. Each line: what becomes wrong, by which byte of the directory, in octal.
+# A.DAT has the blocks 2 and 3, B.DAT 4. Each line: what becomes wrong, by which byte of the directory, in octal; the
+# code and the entry that the check has to tell.
 damages() {
-    local what offset octal
+    local what offset octal code entry
     fresh mpm64 pair
     content pair.in/0.A.DAT 2048
     content pair.in/0.B.DAT 1024
     book pair make 0 A.DAT make 0 B.DAT write 0 A.DAT 0 16 pair.in/0.A.DAT write 0 B.DAT 0 8 pair.in/0.B.DAT
     checked sound pair
     fsck_silent mpm64 pair
-    while read -r what offset octal; do
+    while read -r what offset octal code entry; do
         cp pair "$what"
         poke "$what" "$offset" "$octal"
         fsck_says Error: mpm64 "$what"
-        checked unsound "$what"
+        checked "$code of entry $entry" "$what"
     done <<'EOF'
-user-40h 0 100
-user-E4h 0 344
-blank-name 1 40
-control-in-name 2 11
-control-in-type 9 11
-question-mark 2 77
-ex-32 12 40
-module-64 14 100
-count-129 15 201
-directory-block 16 1
-block-64 16 100
-block-of-its-own-twice 17 2
-block-of-another 17 4
-same-file-and-extent 33 101
+user-40h 0 100 2 0
+user-E4h 0 344 2 0
+user-40h-of-the-second 32 100 2 1
+blank-name 1 40 3 0
+control-in-name 2 11 3 0
+control-in-type 9 11 3 0
+question-mark 2 77 3 0
+ex-32 12 40 4 0
+module-64 14 100 4 0
+count-129 15 201 4 0
+directory-block 16 1 5 0
+block-64 16 100 5 0
+block-of-its-own-twice 17 2 6 0
+block-of-another 17 4 6 1
+same-file-and-extent 33 101 7 1
 EOF
 }
 
@@ -299,14 +308,14 @@ high_user() {
     tool_puts mpm64 user 16 HIGH.TXT 1
     expect "cpmls user" "16:" "$(tool cpmls mpm64 user | head -n 1)"
     fsck_says 'Error: Bad status' mpm64 user
-    checked unsound user
+    checked "2 of entry 0" user
     differs "users 16 to 31: cpmcp writes and cpmls lists them, fsck.cpm calls them bad; unsound for us, users end at 15"
 }
 
 label() {
     mkfs.cpm -L BOOKS -f mpm64v3 label
     stored "20 42 4f 4f 4b 53 20" label 0
-    checked unsound label
+    checked "2 of entry 0" label
     differs "label: mkfs.cpm for CP/M 3 writes an entry 20h; unsound for us, labels are not served"
 }
 
@@ -315,7 +324,7 @@ dates() {
     stored "21" dates 96
     stored "21" dates 224
     fsck_silent mpm64p2 dates
-    checked unsound dates
+    checked "2 of entry 3" dates
     differs "dates: mkfs.cpm -t for P2DOS makes each fourth entry a date entry 21h; unsound for us, dates are not served"
 }
 
@@ -417,12 +426,12 @@ names_for_tools_only() {
     fresh mpm64 rubout
     tool_puts mpm64 rubout 0 $'A\177.TXT' 1
     fsck_silent mpm64 rubout
-    checked unsound rubout
+    checked "3 of entry 0" rubout
     differs "sign 127 in a name: cpmcp and fsck.cpm take it; unsound for us, signs end at 126"
     fresh mpm64 noname
     tool_puts mpm64 noname 0 .TXT 1
     fsck_says 'Error: Bad name' mpm64 noname
-    checked unsound noname
+    checked "3 of entry 0" noname
     differs "type without a name: cpmcp writes it, fsck.cpm calls it bad; unsound for us, the first sign is not a blank"
 }
 
@@ -431,7 +440,7 @@ no_extent_0() {
     poke first 12 1
     fsck_silent mpm64 first
     expect "cpmls first" "FIRST.DAT" "$(tool cpmls mpm64 -u first | sed 1d)"
-    checked unsound first
+    checked "8 of entry 0" first
     differs "file without extent 0: no error for fsck.cpm; unsound for us"
 }
 
@@ -464,9 +473,10 @@ kinds_apart() {
     differs "256 blocks of 2,048: a drive for the tools; wrong length for both our kinds, the second begins at 257"
 }
 
-# OTHER has block 2 and FILE the block 257, whose number is 01 01. Each line: what becomes wrong, by which byte, in octal.
+# OTHER has block 2 and FILE, in entry 33, the block 257, whose number is 01 01. Each line: what becomes wrong, by which
+# byte, in octal; the code that the check has to tell of entry 33.
 large_damages() {
-    local what offset octal
+    local what offset octal code
     second_kind
     fresh large300 wide
     content wide.in/0.OTHER 2048
@@ -477,27 +487,27 @@ large_damages() {
     stored "01 01 00 00" wide $((32 * 33 + 16))
     checked sound wide
     fsck_silent large300 wide
-    while read -r what offset octal; do
+    while read -r what offset octal code; do
         cp wide "$what"
         poke "$what" "$((32 * 33 + offset))" "$octal"
         fsck_says Error: large300 "$what"
-        checked unsound "$what"
+        checked "$code of entry 33" "$what"
     done <<'EOF'
-user-40h 0 100
-blank-name 1 40
-count-129 15 201
-directory-block 17 0
-block-301 16 55
-block-513 17 2
-block-65281 17 377
-block-of-another 18 2
+user-40h 0 100 2
+blank-name 1 40 3
+count-129 15 201 4
+directory-block 17 0 5
+block-301 16 55 5
+block-513 17 2 5
+block-65281 17 377 5
+block-of-another 18 2 6
 EOF
     cp wide own-block-twice
     poke own-block-twice $((32 * 33 + 18)) 1
     poke own-block-twice $((32 * 33 + 19)) 1
     stored "01 01 01 01 00" own-block-twice $((32 * 33 + 16))
     fsck_says Error: large300 own-block-twice
-    checked unsound own-block-twice
+    checked "6 of entry 33" own-block-twice
     first_kind
 }
 
@@ -517,7 +527,7 @@ other_drives() {
     stored "01" wide 12
     stored "02 03 04 05 06 07 08 09 0a 0b 00" wide 16
     fsck_silent mpm2k wide
-    checked unsound wide
+    checked "8 of entry 0" wide
     differs "blocks of 2,048: one entry holds two extents and has the number of the second; unsound for us, extent 0 is missing"
     checked sound made256
     fsck_says 'Error: Bad block number' mpm64 made256
@@ -562,7 +572,8 @@ define_all() {
 install_tools
 ok "cpmtools"
 bash "$root/machine/build.sh" "$here/book.c" "$work/book" || fail "book.c cannot be built"
-ok "book.c with the kit alone"
+bash "$root/machine/build.sh" "$root/host/book.c" "$work/desk" || fail "the desk's program cannot be built"
+ok "book.c and the desk's program with the kit alone"
 
 cd "$work"
 define_all >diskdefs
@@ -596,6 +607,8 @@ tools_fill_large large1027 made1027 1027 300
 agree large1027 made1027
 zeros_follow made1027
 ok "1,027 blocks of 2,048 bytes, made by mkfs.cpm and cpmcp: sound, and the files have their bytes"
+desk_finds_sound made64 made256 made257 made300 made1027
+ok "the desk's program: all five images that cpmtools made are sound"
 for n in 257 1027; do
     engine_fills "large$n" "ours$n" 640 400 300 128 600
     agree "large$n" "ours$n"
@@ -607,12 +620,12 @@ both_change large300 ours300 40000
 ok "257, 300 and 1,027 blocks of 2,048 bytes, made by the engine and changed by both: cpmls lists the files, cpmcp copies their bytes, fsck.cpm is silent, the free space is the same"
 first_kind
 large_damages
-ok "9 damages to a directory with numbers of two bytes: unsound for the engine, errors for fsck.cpm"
+ok "9 damages to a directory with numbers of two bytes: the engine tells the entry and why, errors for fsck.cpm"
 second_kind
 kinds_apart
 
 damages
-ok "14 damages to a directory: unsound for the engine, errors for fsck.cpm"
+ok "15 damages to a directory: the engine tells the entry and why, errors for fsck.cpm"
 high_user
 label
 dates

@@ -1,6 +1,7 @@
 #!/usr/bin/env bash
-# Tries pipe.c: over the reference it must compare the same, over each bad stub, each wrong plain side and each engine
-# that is wrong about the kind of drive different. Needs a C compiler (CC, else cc) and the built `compare`.
+# Tries pipe.c: over the reference it must compare the same, over each bad stub, each wrong plain side, each engine that
+# is wrong about the kind of drive and each that is wrong about the bad entry different. Needs a C compiler (CC, else cc)
+# and the built `compare`.
 set -euo pipefail
 here=$(cd "$(dirname "${BASH_SOURCE[0]}")" && pwd -P)
 compare=$here/../target/release/compare
@@ -67,3 +68,9 @@ for wrong in 1 2 3 4 5 6 7 8 9 10; do
     fi
 done
 echo "pipe over ten engines wrong about the kind: all seen"
+
+for wrong in 1 2 3 4 5; do
+    build_wrong "$wrong" wrong_check.c check
+    must_differ "wrong about the bad entry $wrong" '^different'
+done
+echo "pipe over five image checks wrong about the bad entry: all seen"

@@ -170,9 +170,7 @@ static size_t free_blocks(const struct drive *d) {
 
 /* ---- The image check ---- */
 
-static bool good_fields(const uint8_t *entry) {
-    return entry[0] <= 15 && legal_name(entry + 1) && entry[12] <= 31 && entry[14] <= 63 && entry[15] <= 128;
-}
+static bool good_numbers(const uint8_t *entry) { return entry[12] <= 31 && entry[14] <= 63 && entry[15] <= 128; }
 
 static bool all_in_range(const uint8_t *entry, size_t blocks) {
     for (size_t k = 0; k < MAP; k++) {
@@ -192,12 +190,17 @@ static bool mark_entry(const uint8_t *entry, bool seen[MAX_BLOCKS]) {
     return true;
 }
 
-static bool good_entry(const struct drive *d, size_t e, bool seen[MAX_BLOCKS]) {
+/* What is wrong with an entry first, if those before it are good. */
+static uint32_t fault_of(const struct drive *d, size_t e, bool seen[MAX_BLOCKS]) {
     const uint8_t *entry = entry_at(d, e);
-    if (entry[0] == MPM_EMPTY) return true;
-    if (!good_fields(entry) || !all_in_range(entry, d->blocks) || !mark_entry(entry, seen)) return false;
+    if (entry[0] == MPM_EMPTY) return MPM_CHECK_SOUND;
+    if (entry[0] > 15) return MPM_CHECK_BAD_USER;
+    if (!legal_name(entry + 1)) return MPM_CHECK_BAD_NAME;
+    if (!good_numbers(entry)) return MPM_CHECK_BAD_NUMBER;
+    if (!all_in_range(entry, d->blocks)) return MPM_CHECK_BLOCK_RANGE;
+    if (!mark_entry(entry, seen)) return MPM_CHECK_BLOCK_TWICE;
     struct file f = file_from(entry[0], entry + 1);
-    return !any_entry(d, &f, extent_at(entry), e);
+    return any_entry(d, &f, extent_at(entry), e) ? MPM_CHECK_EXTENT_TWICE : MPM_CHECK_SOUND;
 }
 
 static bool is_begun(const struct drive *d, size_t e) {
@@ -211,13 +214,21 @@ static bool good_length(size_t len) {
     return len % BLOCK == 0 && len / BLOCK >= MIN_BLOCKS && len / BLOCK <= MAX_BLOCKS;
 }
 
-static bool sound_directory(const struct drive *d) {
+static uint32_t told(uint32_t code, size_t e) { return code + 256u * (uint32_t)e; }
+
+static uint32_t check_directory(const struct drive *d) {
     bool seen[MAX_BLOCKS] = {false};
+    for (size_t e = 0; e < ENTRIES; e++) {
+        uint32_t fault = fault_of(d, e, seen);
+        if (fault != MPM_CHECK_SOUND) return told(fault, e);
+    }
     for (size_t e = 0; e < ENTRIES; e++)
-        if (!good_entry(d, e, seen)) return false;
-    for (size_t e = 0; e < ENTRIES; e++)
-        if (!is_begun(d, e)) return false;
-    return true;
+        if (!is_begun(d, e)) return told(MPM_CHECK_NO_EXTENT_0, e);
+    return MPM_CHECK_SOUND;
+}
+
+static uint32_t check_drive(const struct drive *d, size_t len) {
+    return good_length(len) ? check_directory(d) : MPM_CHECK_WRONG_LENGTH;
 }
 
 /* ---- The list, packed and unpacked ---- */
@@ -781,16 +792,22 @@ static uint32_t serve(uint32_t function, struct job *j) {
     }
 }
 
-#define CALL_OF(kind) plain_call_##kind
-#define CALL(kind) CALL_OF(kind)
+#define NAMED_OF(what, kind) plain_##what##_##kind
+#define NAMED(what, kind) NAMED_OF(what, kind)
 
-uint32_t CALL(KIND)(uint32_t function, uint32_t process, uint32_t count, uint8_t *fcb, size_t fcb_len, uint8_t *dma,
-                    size_t dma_len, uint8_t *list, size_t list_len, uint8_t *image, size_t image_len) {
+uint32_t NAMED(check, KIND)(uint8_t *image, size_t image_len) {
+    struct drive d = {image, image_len / BLOCK};
+    return check_drive(&d, image_len);
+}
+
+uint32_t NAMED(call, KIND)(uint32_t function, uint32_t process, uint32_t count, uint8_t *fcb, size_t fcb_len,
+                           uint8_t *dma, size_t dma_len, uint8_t *list, size_t list_len, uint8_t *image,
+                           size_t image_len) {
     if (!is_known(function) || process > 15 || count < 1 || count > 16) return MPM_ERR_BAD_CALL;
     if (fcb_len != MPM_FCB_LEN || dma_len != MPM_DMA_LEN || list_len != MPM_LIST_LEN) return MPM_ERR_BAD_CALL;
     struct job j;
     j.drive = (struct drive){image, image_len / BLOCK};
-    if (!good_length(image_len) || !sound_directory(&j.drive)) return MPM_ERR_BAD_IMAGE;
+    if (check_drive(&j.drive, image_len) != MPM_CHECK_SOUND) return MPM_ERR_BAD_IMAGE;
     if (!all_zero(list)) return MPM_ERR_BAD_LIST;
     unpack(&j.locks, list);
     if (!sound_locks(&j.drive, &j.locks)) return MPM_ERR_BAD_LIST;

@@ -18,4 +18,9 @@ uint32_t plain_call_LARGE(uint32_t function, uint32_t process, uint32_t count,
                           uint8_t *fcb, size_t fcb_len, uint8_t *dma, size_t dma_len,
                           uint8_t *list, size_t list_len, uint8_t *image, size_t image_len);
 
+/* As mpm_check. The image is only read. */
+uint32_t plain_check(uint32_t kind, uint8_t *image, size_t image_len);
+uint32_t plain_check_SMALL(uint8_t *image, size_t image_len);
+uint32_t plain_check_LARGE(uint8_t *image, size_t image_len);
+
 #endif

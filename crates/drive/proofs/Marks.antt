@@ -1,7 +1,7 @@
 -- Laws of the marks. Assumes nothing.
 use Prim.Native.Nat.{ℕ, _+_, _*_, _/_, _≤_, _<_}
 use mathlib.Core.Path.{_≡_, refl, sym, ap, _∙_}
-use mathlib.Core.List.{List}
+use mathlib.Core.List.{List, [], _∷_}
 use mathlib.Core.Bool.{Bool, true, false, not, true≢false}
 use mathlib.Core.Logic.{⊎-elim}
 use native.Mathlib.Numerals.{add-one}
@@ -11,23 +11,26 @@ use lib.ListN.{length, replicate, length-replicate}
 use borrow.Author.Needs.{needs}
 use borrow.Author.Tests.{eq-eqb, ne-eqb, leb-true, leb-false, ltb-true, not-true, not-false}
 use Rattle.words.specs.Tests.{_and_, _or_, all, any, lowest, count}
+use Rattle.words.specs.Tables.{_when_, firstOf, noneZero}
 use Rattle.words.specs.Bits.{isSet, isClear, withBit}
-use Rattle.words.proofs.Tests.{either, equal?, and-snd, or-so, all-none, all-more, all-at, any-skip, any-here, lowest-ext}
+use Rattle.words.proofs.Tests.{either, equal?, and-snd, or-so, all-none, all-more, all-at, any-none, any-skip, any-here, lowest-ext}
 use Rattle.words.proofs.Counts.{count-ext}
-use Rattle.words.proofs.Sets.{all-stops, all-ends, all-stops-as, all-ends-as, is-no, or-first, and-first, and-then, or-then, answers, not-answer}
+use Rattle.words.proofs.Sets.{all-stops, all-ends, all-stops-as, all-ends-as, any-goes, is-no, if-yes, if-no, or-first, row-yes, row-no, row-none, part-first, part-then, answers}
 use Rattle.words.proofs.Bitwise.{length-bit, set-here, set-there, set-stays, set-none}
 use Rattle.words.specs.Hints.{Hints}
 use Rattle.rules.specs.declared.kind.Kind.{Kind}
 use Rattle.rules.specs.declared.kind.Kind.the-variants.{Small, Large}
+use Rattle.rules.specs.declared.answer.ImageAnswer.{ImageAnswer}
+use Rattle.rules.specs.declared.answer.ImageAnswer.the-variants.{Sound}
 use Rattle.rules.specs.Kinds.{most, entries, numbers}
-use Rattle.rules.specs.Drive.{blocks, inRange, isEmpty, mapNumber, holdsNumber, namesBlock, namedBefore, isFirst, goodEntry}
-use Rattle.rules.specs.Drive.{isUsed, isFree, freeBlock, freeBlocks}
+use Rattle.rules.specs.Drive.{blocks, inRange, isEmpty, mapNumber, holdsNumber, namesBlock, namedBefore, isFirst, goodEntry, isUsed, isFree, freeBlock, freeBlocks, isRepeat, reasons, reason, badFor, isBad, judged, isSound}
 use Rattle.rules.proofs.Sizes.{most-some}
+use Rattle.rules.proofs.Checks.{reason-good, bad-reason, judged-none, judged-at}
 use Rattle.index.specs.Slots.{slotAt, inUse}
 use Rattle.index.proofs.Slots.{known-empty}
-use Rattle.drive.specs.Marks.{Marks, Marked, Judged, InUse}
-use Rattle.drive.specs.Walks.{Repeats, Walked}
-use Rattle.drive.proofs.Walks.{repeat-answer, entry-byte, walked-stops, walked-ends}
+use Rattle.drive.specs.Marks.{Marks, Marked, fieldReasons, Judged, InUse}
+use Rattle.drive.specs.Walks.{Repeats, Answered}
+use Rattle.drive.proofs.Walks.{entry-byte}
 
 -- ---- zeros
 
@@ -170,38 +173,83 @@ marks-used kind low s e k seen m q u = record {
 -- ---- the ends of judging an entry
 
 module _ (kind : Kind) (s : List ℕ) (e : ℕ) (seen hints : List ℕ) where
-  pub judged-empty : (r : Bool) → Marks kind 1 s e 0 seen → Hints (slotAt s) (inUse s) e hints → r ≡ isEmpty s e → r ≡ true
-      → Judged kind s e true seen hints
-  unfolding goodEntry
+  pub judged-empty : (r : Bool) → Marks kind 1 s e 0 seen → Hints (slotAt s) (inUse s) e hints → r ≡ isEmpty s e → r ≡ true → Judged kind s e 0 seen hints
+  unfolding reason
   judged-empty r m k h t = record {
-    good = or-first _ _ (sym h ∙ t);
+    told = if-yes _ _ _ _ (sym h ∙ t) refl;
     marks = λ q. marks-empty kind 1 s e seen r m h t;
     knows = λ q. known-empty s e hints k (sym h ∙ t);
   }
 
-  pub judged-bad : false ≡ goodEntry kind s e → Judged kind s e false seen hints
-  judged-bad h = record { good = h; marks = λ q. absurd (true≢false (sym q)); knows = λ q. absurd (true≢false (sym q)) }
+  bad-so : (x : ℕ) → 0 < x → x ≡ reason kind s e → Judged kind s e x seen hints
+  bad-so x some g = record { told = g; marks = λ q. absurd (omega arith); knows = λ q. absurd (omega arith) }
 
-  pub judged-last : (r m t : Bool) → r ≡ isEmpty s e → r ≡ false → Marked kind s e m seen → not m ≡ false → Repeats s e t hints
-      → not t ≡ goodEntry kind s e → Judged kind s e (not t) seen hints
-  judged-last r m t h u k n w g = record {
-    good = g;
-    marks = λ q. marks-used kind 1 s e (numbers kind) seen (k .marks (not-false m n)) refl (sym h ∙ u);
-    knows = λ q. w .knows;
-  }
+  module _ (r : Bool) (why : ℕ) (h : r ≡ isEmpty s e) (u : r ≡ false) (f : why ≡ firstOf (fieldReasons kind s e)) where
+    pub judged-field : (why ≡ 0 → ⊥) → Judged kind s e why seen hints
+    unfolding reason reasons fieldReasons
+    judged-field n = bad-so why (omega arith) (if-no _ _ _ _ (sym h ∙ u) (part-first why (fieldReasons kind s e) _ f n))
 
-  module _ (r : Bool) (j : Judged kind s e r seen hints) where
-    pub judged-marks : not r ≡ false → Marks kind 1 s (e + 1) 0 seen
-    judged-marks n = j .marks (not-false r n)
+    module _ (z : why ≡ 0) where
+      -- the last three reasons
+      rest : (x : ℕ)
+          → x ≡ firstOf (5 when not (all (inRange kind s e) (numbers kind)) ∷ 6 when not (all (isFirst kind s e) (numbers kind)) ∷ 7 when isRepeat s e ∷ [])
+          → x ≡ reason kind s e
+      unfolding reason reasons fieldReasons noneZero _and_
+      rest x g = if-no _ _ _ _ (sym h ∙ u) (part-then why x (fieldReasons kind s e) _ f z refl g)
 
-    pub judged-knows : not r ≡ false → Hints (slotAt s) (inUse s) (e + 1) hints
-    judged-knows n = j .knows (not-false r n)
+      module _ (i : Bool) (k : i ≡ all (inRange kind s e) (numbers kind)) where
+        pub judged-outside : not i ≡ true → Judged kind s e 5 seen hints
+        judged-outside n = bad-so 5 (omega arith) (rest 5 (row-yes _ _ _ _ (ap not (sym k) ∙ n) refl))
 
-    pub judged-yes : not r ≡ false → goodEntry kind s e ≡ true
-    judged-yes n = sym (j .good) ∙ not-false r n
+        module _ (n : not i ≡ false) (m : Bool) (d : Marked kind s e m seen) where
+          pub judged-before : not m ≡ true → Judged kind s e 6 seen hints
+          judged-before b = bad-so 6 (omega arith) (rest 6 (row-no _ _ _ _ (ap not (sym k) ∙ n) (row-yes _ _ _ _ (ap not (sym (d .first)) ∙ b) refl)))
 
-    pub judged-no : not r ≡ true → goodEntry kind s e ≡ false
-    judged-no n = sym (j .good) ∙ not-true r n
+          module _ (b : not m ≡ false) (t : Bool) (w : Repeats s e t hints) where
+            last-row : (x : ℕ) → x ≡ firstOf (7 when isRepeat s e ∷ []) → x ≡ reason kind s e
+            last-row x g = rest x (row-no _ _ _ _ (ap not (sym k) ∙ n) (row-no _ _ _ _ (ap not (sym (d .first)) ∙ b) g))
+
+            pub judged-repeat : t ≡ true → Judged kind s e 7 seen hints
+            judged-repeat y = bad-so 7 (omega arith) (last-row 7 (row-yes _ _ _ _ (sym (w .answer) ∙ y) refl))
+
+            pub judged-last : t ≡ false → Judged kind s e 0 seen hints
+            judged-last y = record {
+              told = last-row 0 (row-no _ _ _ _ (sym (w .answer) ∙ y) (row-none 0 refl));
+              marks = λ q. marks-used kind 1 s e (numbers kind) seen (d .marks (not-false m b)) refl (sym h ∙ u);
+              knows = λ q. w .knows;
+            }
+
+  module _ (why : ℕ) (j : Judged kind s e why seen hints) where
+    pub judged-marks : why ≡ 0 → Marks kind 1 s (e + 1) 0 seen
+    judged-marks z = j .marks z
+
+    pub judged-knows : why ≡ 0 → Hints (slotAt s) (inUse s) (e + 1) hints
+    judged-knows z = j .knows z
+
+    pub judged-yes : why ≡ 0 → isBad kind s e ≡ false
+    unfolding isBad
+    judged-yes z = ap not (sym (reason-good kind s e) ∙ eq-eqb (reason kind s e) 0 (sym (j .told) ∙ z))
+
+    judged-no : (why ≡ 0 → ⊥) → goodEntry kind s e ≡ false
+    judged-no n = sym (reason-good kind s e) ∙ ne-eqb (reason kind s e) 0 (λ q. n (j .told ∙ q))
+
+    -- the walk ends at the first bad entry, ..
+    pub answered-bad : (m : ℕ) (r : ImageAnswer) → m ≡ entries kind → e < m → any (isBad kind s) e ≡ false → (why ≡ 0 → ⊥) → r ≡ badFor why e
+        → Answered (judged kind s) s (entries kind) r hints
+    unfolding isBad
+    answered-bad m r q l h n g =
+        let b = judged-no n in
+        let a : r ≡ badFor (reason kind s e) e = g ∙ ap (λ (w : ℕ). badFor w e) (j .told) in
+        record {
+          answer = a ∙ judged-at kind s e (omega arith) h (ap not b);
+          knows = λ z. absurd (true≢false (sym z ∙ ap isSound a ∙ bad-reason kind s e b .bad));
+        }
+
+-- .. or after all of them
+pub answered-all : (kind : Kind) (s : List ℕ) (e m : ℕ) (hints : List ℕ) → m ≡ entries kind → any (isBad kind s) e ≡ false → m ≤ e → e ≤ m
+    → Hints (slotAt s) (inUse s) e hints → Answered (judged kind s) s (entries kind) Sound hints
+answered-all kind s e m hints q h g l k =
+    let z : e ≡ entries kind = omega arith in record { answer = judged-none kind s (rw z at h); knows = λ y. rw z at k }
 
 -- ---- the blocks in use
 
@@ -308,9 +356,8 @@ module _ (kind one : Kind) (s : List ℕ) (q : kind ≡ one) where
   pub one-marked : (e : ℕ) (r : Bool) (seen : List ℕ) → Marked one s e r seen → Marked kind s e r seen
   one-marked e r seen m = rw q m
 
-  pub one-good : (r : Bool) (hints : List ℕ) → Walked (all (goodEntry one s) (entries one)) s (entries one) r hints
-      → Walked (all (goodEntry kind s) (entries kind)) s (entries kind) r hints
-  one-good r hints h = rw q h
+  pub one-judged : (r : ImageAnswer) (hints : List ℕ) → Answered (judged one s) s (entries one) r hints → Answered (judged kind s) s (entries kind) r hints
+  one-judged r hints h = rw q h
 
   pub one-lowest : (r : ℕ) → r ≡ freeBlock one s → r ≡ freeBlock kind s
   one-lowest r h = rw q h
@@ -321,7 +368,7 @@ module _ (kind one : Kind) (s : List ℕ) (q : kind ≡ one) where
   pub one-fits : (r : ℕ) → r ≤ blocks one s → r ≤ blocks kind s
   one-fits r h = rw q h
 
-pub ruleset one-kind = (one-long, one-few, one-blocks, one-range, all-range, one-marks, one-marked, one-good, one-lowest, one-count, one-fits)
+pub ruleset one-kind = (one-long, one-few, one-blocks, one-range, all-range, one-marks, one-marked, one-judged, one-lowest, one-count, one-fits)
 
 pub ruleset marking = (
   needs,
@@ -342,8 +389,8 @@ pub ruleset noting = (needs, is-no, small-none, large-none, none-long, used-none
 
 pub ruleset freeing = (needs, one-kind, lowest-free, count-free, free-room)
 
-pub ruleset judging = (judged-empty, judged-bad, judged-last, repeat-answer, and-first, and-then, or-first, or-then, not-answer, answers)
+pub ruleset judging = (judged-empty, judged-field, judged-outside, judged-before, judged-repeat, judged-last)
 
-pub ruleset entering = (needs, all-none, all-more, judged-marks, judged-knows, judged-yes, judged-no, entry-byte, walked-stops, walked-ends)
+pub ruleset entering = (needs, any-none, any-goes, judged-marks, judged-knows, judged-yes, entry-byte, answered-bad, answered-all)
 
 pub ruleset ranging = (needs, answers, all-none, all-more, all-stops-as, all-ends-as, range-as)

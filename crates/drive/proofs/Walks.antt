@@ -8,18 +8,21 @@ use lib.Dec.{ltb}
 use lib.ListN.{replicate}
 use borrow.Author.Needs.{needs}
 use borrow.Author.Tests.{not-true, not-false}
-use Rattle.words.specs.Tests.{_and_, all, any, lowest}
+use Rattle.words.specs.Tests.{any, lowest}
 use Rattle.words.specs.Hints.{Hints, Noted}
-use Rattle.words.proofs.Sets.{and-first, and-then, all-stops, all-ends, lowest-any}
+use Rattle.words.proofs.Sets.{and-first, and-then, lowest-any}
 use Rattle.words.proofs.Hints.{hints-none}
 use Rattle.rules.specs.declared.file.File.{File}
 use Rattle.rules.specs.declared.kind.Kind.{Kind}
 use Rattle.rules.specs.declared.kind.Kind.the-variants.{Small, Large}
 use Rattle.rules.specs.Kinds.{entries}
-use Rattle.rules.specs.Drive.{extentAt, fileAt, isEntry, entryOf, isRepeat}
+use Rattle.rules.specs.declared.answer.ImageAnswer.{ImageAnswer}
+use Rattle.rules.specs.declared.answer.ImageAnswer.the-variants.{Sound, NoFirst}
+use Rattle.rules.specs.Drive.{extentAt, fileAt, isEntry, entryOf, isRepeat, goodLength, soundImage, judged, headless, isSound, directoryAnswer}
+use Rattle.rules.proofs.Checks.{answer-bad, answer-lacking, answer-sound, directory-sound}
 use Rattle.index.specs.Slots.{slotOf, slotAt, inUse}
 use Rattle.index.proofs.Slots.{known-more}
-use Rattle.drive.specs.Walks.{Repeats, Walked}
+use Rattle.drive.specs.Walks.{Repeats, Walked, Answered}
 
 -- ---- an entry
 
@@ -38,9 +41,6 @@ repeats-by s e d h x f hints after k is at slot found w = record {
   knows = known-more s e hints k h x f after is at slot w;
 }
 
-pub repeat-answer : (s : List ℕ) (e : ℕ) (t : Bool) (hints : List ℕ) → Repeats s e t hints → t ≡ isRepeat s e
-repeat-answer s e t hints w = w .answer
-
 -- its file begins where an extent 0 was found
 pub begun-by : (kind : Kind) (s : List ℕ) (e d n : ℕ) (f : File) → f ≡ fileAt s e → n ≡ entries kind → d ≡ entryOf kind s f 0
     → ltb d n ≡ any (isEntry s (fileAt s e) 0) (entries kind)
@@ -48,34 +48,52 @@ unfolding entryOf
 begun-by kind s e d n f is q h =
     ap (ltb d) q ∙ lowest-any (isEntry s f 0) (entries kind) d h ∙ ap (λ (y : File). any (isEntry s y 0) (entries kind)) is
 
--- ---- all entries
+-- ---- all entries, then all files
 
-module _ (f : ℕ → Bool) (s : List ℕ) (m n e : ℕ) (hints : List ℕ) (q : m ≡ n) where
-  pub walked-stops : e < m → f e ≡ false → Walked (all f n) s n false hints
-  walked-stops l h = record { answer = all-stops f n e (omega arith) h; knows = λ z. absurd (true≢false (sym z)) }
+module _ (kind : Kind) (s : List ℕ) (told : ImageAnswer) (r : Bool) (hints : List ℕ)
+    (w : Answered (judged kind s) s (entries kind) told hints) (q : r ≡ isSound told) where
+  -- an entry is bad, ..
+  pub answered-first : not r ≡ true → Answered (directoryAnswer kind s) s (entries kind) told hints
+  answered-first n = record {
+    answer = w .answer ∙ answer-bad kind s (sym (ap isSound (w .answer)) ∙ sym q ∙ not-true r n);
+    knows = w .knows;
+  }
 
-  pub walked-ends : all f e ≡ true → m ≤ e → e ≤ m → Hints (slotAt s) (inUse s) e hints → Walked (all f n) s n true hints
-  walked-ends h g l k = let z : e ≡ n = omega arith in record { answer = all-ends f n e h (omega arith) (omega arith); knows = λ y. rw z at k }
+  -- .. or none is, ..
+  module _ (n : not r ≡ false) where
+    none-bad : isSound (judged kind s) ≡ true
+    none-bad = sym (ap isSound (w .answer)) ∙ sym q ∙ not-false r n
 
--- ---- one test, then another
+    pub answered-knows : Hints (slotAt s) (inUse s) (entries kind) hints
+    answered-knows = w .knows (sym q ∙ not-false r n)
 
-module _ (x y r : Bool) (s : List ℕ) (n : ℕ) (hints : List ℕ) where
-  -- the first fails
-  pub walked-first : r ≡ x → not r ≡ true → Walked (x and y) s n false hints
-  walked-first h t = record { answer = and-first x y (sym h ∙ not-true r t); knows = λ z. absurd (true≢false (sym z)) }
+    -- .. and a file lacks extent 0, or none does
+    module _ (e m : ℕ) (h : e ≡ headless kind s) (g : m ≡ entries kind) where
+      pub answered-lacking : e < m → Answered (directoryAnswer kind s) s (entries kind) (NoFirst e) hints
+      answered-lacking l = record { answer = answer-lacking kind s none-bad e h (omega arith); knows = λ z. answered-knows }
 
-  -- the first holds, and the walk is the second
-  pub walked-then : r ≡ x → not r ≡ false → (t : Bool) → Walked y s n t hints → Walked (x and y) s n t hints
-  walked-then h z t w = record { answer = and-then t x y (sym h ∙ not-false r z) (w .answer); knows = w .knows }
+      pub answered-sound : m ≤ e → Answered (directoryAnswer kind s) s (entries kind) Sound hints
+      answered-sound l = record { answer = answer-sound kind s none-bad e h (omega arith); knows = λ z. answered-knows }
 
-  -- the walk is the first, and it fails, ..
-  pub walked-bad : Walked x s n r hints → not r ≡ true → Walked (x and y) s n false hints
-  walked-bad w t = walked-first (w .answer) t
+-- ---- the length, then the directory
 
-  -- .. or holds
-  pub walked-good : Walked x s n r hints → not r ≡ false → (t : Bool) → t ≡ y → Walked (x and y) s n t hints
-  walked-good w z t h = record { answer = and-then t x y (sym (w .answer) ∙ not-false r z) h; knows = λ q. w .knows (not-false r z) }
+pub answered-answer : (a told : ImageAnswer) (s : List ℕ) (n : ℕ) (hints : List ℕ) → Answered a s n told hints → told ≡ a
+answered-answer a told s n hints w = w .answer
 
+module _ (kind : Kind) (s : List ℕ) (r : Bool) (hints : List ℕ) (h : r ≡ goodLength kind s) where
+  pub walked-short : not r ≡ true → Walked (soundImage kind s) s (entries kind) false hints
+  unfolding soundImage
+  walked-short t = record { answer = and-first _ _ (sym h ∙ not-true r t); knows = λ z. absurd (true≢false (sym z)) }
+
+  pub walked-directory : not r ≡ false → (told : ImageAnswer) (t : Bool) → Answered (directoryAnswer kind s) s (entries kind) told hints → t ≡ isSound told
+      → Walked (soundImage kind s) s (entries kind) t hints
+  unfolding soundImage
+  walked-directory z told t w q = record {
+    answer = and-then t _ _ (sym h ∙ not-false r z) (q ∙ ap isSound (w .answer) ∙ directory-sound kind s);
+    knows = λ y. w .knows (sym q ∙ y);
+  }
+
+-- what a walk answered, and what its hints then know
 module _ (x r : Bool) (s : List ℕ) (n : ℕ) (hints : List ℕ) (w : Walked x s n r hints) where
   pub walked-answer : r ≡ x
   walked-answer = w .answer
@@ -86,4 +104,6 @@ module _ (x r : Bool) (s : List ℕ) (n : ℕ) (hints : List ℕ) (w : Walked x 
 pub known-none : (s : List ℕ) (v : ℕ) → Hints (slotAt s) (inUse s) 0 (replicate 256 v)
 known-none s v = hints-none (slotAt s) (inUse s) v
 
-pub ruleset walking = (needs, known-none, walked-first, walked-then, walked-bad, walked-good, walked-answer, walked-knows)
+pub ruleset answering = (needs, answered-first, answered-knows, answered-lacking, answered-sound)
+
+pub ruleset walking = (needs, known-none, walked-short, walked-directory, walked-answer)

@@ -8,6 +8,7 @@ use index::find::entry_below;
 use index::find::entry_by;
 use index::slot::slot_of;
 use rules::answer::ImageAnswer;
+use rules::answer::is_sound;
 use rules::kind::Kind;
 use rules::kind::block_size;
 use rules::kind::entries;
@@ -25,12 +26,13 @@ ghost use lib.ListN.{length};
 ghost use lib.Dec.{leb, ltb, eqb};
 ghost use Rattle.words.specs.Tests.{_and_, _or_, all, any};
 ghost use Rattle.words.specs.Hints.{Hints};
+ghost use Rattle.words.specs.Tables.{firstOf};
 ghost use Rattle.rules.specs.declared.kind.Kind.the-variants.{Small, Large};
 ghost use Rattle.rules.specs.Kinds.{entries, numbers, most, lastModule};
-ghost use Rattle.rules.specs.Drive.{goodLength, blocks, goodNumbers, goodFields, inRange, isRepeat, fileAt, isEntry, goodEntry, hasFirst, soundDirectory, soundImage, imageCheck};
+ghost use Rattle.rules.specs.Drive.{goodLength, blocks, goodNumbers, inRange, isRepeat, fileAt, isEntry, hasFirst, soundImage, badFor, judged, headless, directoryAnswer, imageCheck};
 ghost use Rattle.index.specs.Slots.{slotAt, inUse};
-ghost use Rattle.drive.specs.Marks.{Marks, Marked, Judged};
-ghost use Rattle.drive.specs.Walks.{Repeats, Walked};
+ghost use Rattle.drive.specs.Marks.{Marks, Marked, fieldReasons, Judged};
+ghost use Rattle.drive.specs.Walks.{Repeats, Walked, Answered};
 
 // A length that the kind of drive has.
 fn good_length(kind: Kind, image: &[u8]) -> bool
@@ -65,20 +67,6 @@ fn good_numbers(kind: Kind, image: &[u8], e: usize) -> bool
         return false;
     }
     image[32 * e + 15] <= 128
-}
-
-// The user, the name, then ex, module and count of entry `e`.
-fn good_fields(kind: Kind, image: &[u8], e: usize) -> bool
-    requires { ⌜ 32 * e + 32 ≤ length (now image) ⌝ }
-    ensures { λ r. ⌜ r ≡ goodFields kind (now (image .entry)) e ⌝ }
-{
-    if 15 < image[32 * e] {
-        return false;
-    }
-    if !legal_name(image, 32 * e + 1) {
-        return false;
-    }
-    good_numbers(kind, image, e)
 }
 
 // A block number is 0 or 2 to n - 1.
@@ -200,62 +188,98 @@ fn is_repeat(image: &[u8], e: usize, hints: &mut [u8; 256]) -> bool
     d < e
 }
 
-// Entry `e` is empty or as it should be, the blocks seen before it being marked and the entries before it known.
-fn good_entry(kind: Kind, image: &[u8], e: usize, seen: &mut [u8], hints: &mut [u8; 256]) -> bool
+// Whether the user, the name or ex, module and count of entry `e` are bad: the first that is, 0 where none is.
+fn field_reason(kind: Kind, image: &[u8], e: usize) -> u32
+    requires { ⌜ 32 * e + 32 ≤ length (now image) ⌝ }
+    ensures { λ r. ⌜ r ≡ firstOf (fieldReasons kind (now (image .entry)) e) ⌝ }
+{
+    if 15 < image[32 * e] {
+        return 2;
+    }
+    if !legal_name(image, 32 * e + 1) {
+        return 3;
+    }
+    if !good_numbers(kind, image, e) {
+        return 4;
+    }
+    0
+}
+
+// Why entry `e` is bad, 0 where it is not, the blocks seen before it being marked and the entries before it known.
+fn judge_entry(kind: Kind, image: &[u8], e: usize, seen: &mut [u8], hints: &mut [u8; 256]) -> u32
     requires { ⌜ (32 * e + 32 ≤ length (now image)) × (e < 256) × (blocks kind (now image) ≤ most kind) × Marks kind 1 (now image) e 0 (now seen) × Hints (slotAt (now image)) (inUse (now image)) e (now hints) ⌝ }
     ensures { λ r. ⌜ Judged kind (now (image .entry)) e r (now (seen .exit)) (now (hints .exit)) ⌝ }
 {
     if is_empty(image, e) {
-        return true;
+        return 0;
     }
-    if !good_fields(kind, image, e) {
-        return false;
+    let why = field_reason(kind, image, e);
+    if why != 0 {
+        return why;
     }
     if !all_in_range(kind, image, e) {
-        return false;
+        return 5;
     }
     if !mark_entry(kind, image, e, seen) {
-        return false;
+        return 6;
     }
-    !is_repeat(image, e, hints)
+    if is_repeat(image, e, hints) {
+        return 7;
+    }
+    0
 }
 
-// Every entry is, no block having a mark yet and no entry being known.
-fn judge_all(kind: Kind, image: &[u8], seen: &mut [u8], hints: &mut [u8; 256]) -> bool
+// What the image check answers for a reason and an entry.
+fn bad_for(why: u32, e: usize) -> ImageAnswer
+    ensures { λ r. ⌜ r ≡ badFor why e ⌝ }
+{
+    match why {
+        2 => ImageAnswer::BadUser(e),
+        3 => ImageAnswer::BadName(e),
+        4 => ImageAnswer::BadNumbers(e),
+        5 => ImageAnswer::BlockOutside(e),
+        6 => ImageAnswer::BlockBefore(e),
+        _ => ImageAnswer::ExtentBefore(e),
+    }
+}
+
+// The lowest bad entry and why, no block having a mark yet and no entry being known.
+fn judge_all(kind: Kind, image: &[u8], seen: &mut [u8], hints: &mut [u8; 256]) -> ImageAnswer
     requires { ⌜ (32 * entries kind ≤ length (now image)) × (blocks kind (now image) ≤ most kind) × Marks kind 1 (now image) 0 0 (now seen) × Hints (slotAt (now image)) (inUse (now image)) 0 (now hints) ⌝ }
-    ensures { λ r. ⌜ Walked (all (goodEntry kind (now (image .entry))) (entries kind)) (now (image .entry)) (entries kind) r (now (hints .exit)) ⌝ }
+    ensures { λ r. ⌜ Answered (judged kind (now (image .entry))) (now (image .entry)) (entries kind) r (now (hints .exit)) ⌝ }
 {
     let n = entries(kind);
     let mut e = 0;
     while e < n {
-        if !good_entry(kind, image, e, &mut *seen, &mut *hints) {
-            return false;
+        let why = judge_entry(kind, image, e, &mut *seen, &mut *hints);
+        if why != 0 {
+            return bad_for(why, e);
         }
         e += 1;
     }
-    true
+    ImageAnswer::Sound
 }
 
 // The marks are 32 bytes on a drive of the first kind, 512 on one of the second.
-fn small_entries(image: &[u8], hints: &mut [u8; 256]) -> bool
+fn small_entries(image: &[u8], hints: &mut [u8; 256]) -> ImageAnswer
     requires { ⌜ (32 * entries Small ≤ length (now image)) × (blocks Small (now image) ≤ most Small) × Hints (slotAt (now image)) (inUse (now image)) 0 (now hints) ⌝ }
-    ensures { λ r. ⌜ Walked (all (goodEntry Small (now (image .entry))) (entries Small)) (now (image .entry)) (entries Small) r (now (hints .exit)) ⌝ }
+    ensures { λ r. ⌜ Answered (judged Small (now (image .entry))) (now (image .entry)) (entries Small) r (now (hints .exit)) ⌝ }
 {
     let mut seen = [0u8; 32];
     judge_all(Kind::Small, image, &mut seen, hints)
 }
 
-fn large_entries(image: &[u8], hints: &mut [u8; 256]) -> bool
+fn large_entries(image: &[u8], hints: &mut [u8; 256]) -> ImageAnswer
     requires { ⌜ (32 * entries Large ≤ length (now image)) × (blocks Large (now image) ≤ most Large) × Hints (slotAt (now image)) (inUse (now image)) 0 (now hints) ⌝ }
-    ensures { λ r. ⌜ Walked (all (goodEntry Large (now (image .entry))) (entries Large)) (now (image .entry)) (entries Large) r (now (hints .exit)) ⌝ }
+    ensures { λ r. ⌜ Answered (judged Large (now (image .entry))) (now (image .entry)) (entries Large) r (now (hints .exit)) ⌝ }
 {
     let mut seen = [0u8; 512];
     judge_all(Kind::Large, image, &mut seen, hints)
 }
 
-fn good_entries(kind: Kind, image: &[u8], hints: &mut [u8; 256]) -> bool
+fn good_entries(kind: Kind, image: &[u8], hints: &mut [u8; 256]) -> ImageAnswer
     requires { ⌜ (32 * entries kind ≤ length (now image)) × (blocks kind (now image) ≤ most kind) × Hints (slotAt (now image)) (inUse (now image)) 0 (now hints) ⌝ }
-    ensures { λ r. ⌜ Walked (all (goodEntry kind (now (image .entry))) (entries kind)) (now (image .entry)) (entries kind) r (now (hints .exit)) ⌝ }
+    ensures { λ r. ⌜ Answered (judged kind (now (image .entry))) (now (image .entry)) (entries kind) r (now (hints .exit)) ⌝ }
 {
     match kind {
         Kind::Small => small_entries(image, hints),
@@ -287,29 +311,36 @@ fn is_begun(kind: Kind, image: &[u8], hints: &[u8; 256], e: usize) -> bool
     has_first(kind, image, hints, e)
 }
 
-fn all_begun(kind: Kind, image: &[u8], hints: &[u8; 256]) -> bool
+// The lowest entry of a file without extent 0, the number of entries where there is none.
+fn headless(kind: Kind, image: &[u8], hints: &[u8; 256]) -> usize
     requires { ⌜ (32 * entries kind ≤ length (now image)) × Hints (slotAt (now image)) (inUse (now image)) (entries kind) (now hints) ⌝ }
-    ensures { λ r. ⌜ r ≡ all (hasFirst kind (now (image .entry))) (entries kind) ⌝ }
+    ensures { λ r. ⌜ r ≡ headless kind (now (image .entry)) ⌝ }
 {
     let n = entries(kind);
     let mut e = 0;
     while e < n {
         if !is_begun(kind, image, hints, e) {
-            return false;
+            return e;
         }
         e += 1;
     }
-    true
+    e
 }
 
-fn sound_directory(kind: Kind, image: &[u8], hints: &mut [u8; 256]) -> bool
+// The entries one by one, then the files; the hints know all entries of a sound directory.
+fn directory_answer(kind: Kind, image: &[u8], hints: &mut [u8; 256]) -> ImageAnswer
     requires { ⌜ (32 * entries kind ≤ length (now image)) × (blocks kind (now image) ≤ most kind) × Hints (slotAt (now image)) (inUse (now image)) 0 (now hints) ⌝ }
-    ensures { λ r. ⌜ Walked (soundDirectory kind (now (image .entry))) (now (image .entry)) (entries kind) r (now (hints .exit)) ⌝ }
+    ensures { λ r. ⌜ Answered (directoryAnswer kind (now (image .entry))) (now (image .entry)) (entries kind) r (now (hints .exit)) ⌝ }
 {
-    if !good_entries(kind, image, &mut *hints) {
-        return false;
+    let told = good_entries(kind, image, &mut *hints);
+    if !is_sound(told) {
+        return told;
     }
-    all_begun(kind, image, &*hints)
+    let e = headless(kind, image, &*hints);
+    if e < entries(kind) {
+        return ImageAnswer::NoFirst(e);
+    }
+    ImageAnswer::Sound
 }
 
 // The image check.
@@ -320,10 +351,7 @@ pub fn image_check(kind: Kind, image: &[u8]) -> ImageAnswer
         return ImageAnswer::WrongLength;
     }
     let mut hints = [255u8; 256];
-    if !sound_directory(kind, image, &mut hints) {
-        return ImageAnswer::UnsoundDirectory;
-    }
-    ImageAnswer::Sound
+    directory_answer(kind, image, &mut hints)
 }
 
 // The image is sound; the hints then know its entries.
@@ -334,7 +362,7 @@ pub fn sound_index(kind: Kind, image: &[u8], hints: &mut [u8; 256]) -> bool
     if !good_length(kind, image) {
         return false;
     }
-    sound_directory(kind, image, hints)
+    is_sound(directory_answer(kind, image, hints))
 }
 
 // The image is sound.

@@ -12,7 +12,7 @@ use Rattle.rules.specs.declared.kind.Told.the-variants.{Known, Other}
 use Rattle.rules.specs.declared.answer.ImageAnswer.{ImageAnswer}
 use Rattle.rules.specs.Kinds.{toldKind}
 use Rattle.rules.specs.Serves.{Buffers, Outcome, Did}
-use Rattle.rules.specs.Drive.{blocks, imageCheck, imageNumber}
+use Rattle.rules.specs.Drive.{blocks, imageCheck, imageNumber, imageEntry, imageTold}
 use Rattle.rules.specs.Locks.{Started, start}
 use Rattle.rules.specs.Look.{lookAt}
 use Rattle.rules.specs.Several.{callRun, callSingly}
@@ -47,9 +47,9 @@ module _ (n : ℕ) (t : Told) (is : t ≡ toldKind n) where
         let e : start c o k users list ≡ startTold (toldKind n) c o k users list = ap (λ (x : Told). startTold x c o k users list) kind-is in
         rw e at d
 
-    pub check-known : (i : ImageAnswer) (a : ℕ) (s : List ℕ) → i ≡ imageCheck kind s → a ≡ imageNumber i → a ≡ checkTold (toldKind n) s
+    pub check-known : (i : ImageAnswer) (a : ℕ) (s : List ℕ) → i ≡ imageCheck kind s → a ≡ imageTold i → a ≡ checkTold (toldKind n) s
     unfolding checkTold
-    check-known i a s h g = g ∙ ap imageNumber h ∙ ap (λ (x : Told). checkTold x s) kind-is
+    check-known i a s h g = g ∙ ap imageTold h ∙ ap (λ (x : Told). checkTold x s) kind-is
 
     pub look-known : (a user : ℕ) (name : List ℕ) (r : ℕ) (s : List ℕ) → a ≡ lookAt kind user name r s → a ≡ lookTold (toldKind n) user name r s
     unfolding lookTold
@@ -75,7 +75,7 @@ module _ (n : ℕ) (t : Told) (is : t ≡ toldKind n) where
         record { gives = ap (λ (x : Started). x .answer) e; leaves = ap (λ (x : Started). x .list) e }
 
     pub check-other : (s : List ℕ) → 1 ≡ checkTold (toldKind n) s
-    unfolding checkTold imageNumber
+    unfolding checkTold imageTold imageNumber imageEntry
     check-other s = ap (λ (x : Told). checkTold x s) other-is
 
     pub look-other : (user : ℕ) (name : List ℕ) (r : ℕ) (s : List ℕ) → 0 ≡ lookTold (toldKind n) user name r s

@@ -5,7 +5,7 @@ use calls::answer::answer;
 use drive::check::image_check;
 use drive::look::look_at;
 use locklist::start::start;
-use rules::answer::image_number;
+use rules::answer::image_told;
 use rules::code::BAD_CALL;
 use rules::kind::Told;
 use rules::kind::told_kind;
@@ -77,7 +77,7 @@ pub extern "C" fn mpm_start(
     start(capacity, opens, locks, users, list)
 }
 
-// The image check: 0 sound, 1 wrong length, 2 unsound directory.
+// The image check: 0 sound, 1 wrong length, 2 to 8 why the directory is unsound; and 256 times the entry that is bad.
 #[no_mangle]
 pub extern "C" fn mpm_check(kind: u32, image: &[u8]) -> u32
     ensures { λ r. ⌜ r ≡ checkTold (toldKind kind) (now (image .entry)) ⌝ }
@@ -86,7 +86,7 @@ pub extern "C" fn mpm_check(kind: u32, image: &[u8]) -> u32
     let Told::Known(known) = told else {
         return 1;
     };
-    image_number(image_check(known, image))
+    image_told(image_check(known, image))
 }
 
 // Look: where the record's 128 bytes begin in the image, or 0 where there are none to show.

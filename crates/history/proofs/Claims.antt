@@ -16,7 +16,7 @@ use Rattle.rules.specs.declared.kind.Told.{Told}
 use Rattle.rules.specs.declared.kind.Told.the-variants.{Known, Other}
 use Rattle.rules.specs.Kinds.{toldKind}
 use Rattle.rules.specs.Serves.{Outcome, outcome}
-use Rattle.rules.specs.Drive.{soundImage, imageNumber}
+use Rattle.rules.specs.Drive.{soundImage, imageCheck, imageNumber, imageEntry, imageTold}
 use Rattle.rules.specs.Locks.{start}
 use Rattle.rules.specs.Several.{callRun}
 use Rattle.rules.specs.Told.{callTold, checkTold, lookTold}
@@ -26,6 +26,8 @@ use Rattle.rules.proofs.OneRecord.{one-record}
 use Rattle.rules.proofs.Packing.{pack-unpack}
 use Rattle.rules.proofs.SoundList.{list-sound-of, unpack-shape, unpacked}
 use Rattle.rules.proofs.Look.{look-inside, look-apart}
+use Rattle.rules.proofs.Answers.{one-told}
+use Rattle.rules.proofs.Checks.{check-tells}
 use Rattle.rules.proofs.Told.{other-call, other-check, other-look}
 use Rattle.session.specs.Open.{rules}
 use Rattle.session.specs.Session.{firstList}
@@ -36,7 +38,7 @@ use Rattle.filling.proofs.Least.{least}
 use Rattle.history.specs.History.{Ask, State, Engine, isWord, isPossible, isKept, lent, outcomeOf, withCount}
 use Rattle.history.specs.Deeds.{doneIn}
 use Rattle.history.specs.Demands.{NoTrace, Demand1, Demand2}
-use Rattle.history.specs.Claims.{Claims, KeepsContract, Refuses, ToldClaims, TheSession, LookClaims, AllClaims}
+use Rattle.history.specs.Claims.{Claims, KeepsContract, Refuses, ToldClaims, TheSession, LookClaims, CheckClaims, AllClaims}
 use Rattle.history.proofs.First.{leaves-no-trace, counted-possible, fewer-possible}
 use Rattle.history.proofs.Alike.{meets-third}
 use Rattle.history.proofs.Unlocks.{unlock-order}
@@ -153,11 +155,14 @@ look-claims = record {
 }
   where
     checks : (own kind : Kind) → (own ≡ kind → ⊥) → (s : List ℕ) → soundImage own s ≡ true → checkTold (Known kind) s ≡ 1
-    checks own kind other s sound = unfold checkTold imageNumber in ap imageNumber (other-check own kind other s sound)
+    checks own kind other s sound = unfold checkTold imageTold imageNumber imageEntry in ap imageTold (other-check own kind other s sound)
 
     looks : (own kind : Kind) → (own ≡ kind → ⊥) → (s : List ℕ) → soundImage own s ≡ true → (user : ℕ) (name : List ℕ) (r : ℕ)
         → lookTold (Known kind) user name r s ≡ 0
     looks own kind other s sound user name r = unfold lookTold in other-look own kind other s sound user name r
+
+check-claims : CheckClaims
+check-claims = record { tells = check-tells; told = λ kind s. unfold checkTold in refl; told-apart = one-told }
 
 -- every promise, of every engine that keeps the contract, and of the rules
 pub all-claims : AllClaims
@@ -182,6 +187,7 @@ all-claims = record {
     unpack-pack = λ kind list s sound. unpacked kind _ s (list-sound-of kind list s sound) (unpack-shape list);
   };
   looks = look-claims;
+  checks = check-claims;
   unlocks = record { unlocking = unlocking-told; wrong-fall = wrong-unlocks };
   least = least;
 }

@@ -14,7 +14,9 @@ use Rattle.rules.specs.declared.kind.Told.{Told}
 use Rattle.rules.specs.declared.kind.Told.the-variants.{Known}
 use Rattle.rules.specs.Kinds.{toldKind, entries}
 use Rattle.rules.specs.Serves.{Buffers, outcome, Did, chosen, listSize}
-use Rattle.rules.specs.Drive.{entrySize, recordSize, fileFrom, soundImage}
+use Rattle.rules.specs.declared.answer.ImageAnswer.{ImageAnswer}
+use Rattle.rules.specs.Drive.{entrySize, recordSize, fileFrom, soundImage, imageCheck, imageTold}
+use Rattle.rules.specs.Checks.{CheckTells}
 use Rattle.rules.specs.Locks.{pack, unpack, soundList, start}
 use Rattle.rules.specs.Call.{asked, rowsCall, effectOf, call}
 use Rattle.rules.specs.Several.{callSingly}
@@ -124,6 +126,12 @@ pub record LookClaims : Type 0 where
   pub other-look : (own other : Kind) → (own ≡ other → ⊥) → (s : List ℕ) → soundImage own s ≡ true
       → (user : ℕ) (name : List ℕ) (r : ℕ) → lookTold (Known other) user name r s ≡ 0
 
+-- T-01: "Tell the lowest bad entry and why." Of every image, for either kind of drive; + another answer is another number.
+pub record CheckClaims : Type 0 where
+  pub tells : (kind : Kind) (s : List ℕ) → CheckTells kind s
+  pub told : (kind : Kind) (s : List ℕ) → checkTold (Known kind) s ≡ imageTold (imageCheck kind s)
+  pub told-apart : (a b : ImageAnswer) → imageTold a ≡ imageTold b → a ≡ b
+
 -- T-13, of what `mpm_call` promises, told whatever number: the three statements, + any number of Unlocks in any order, and that a Lock and the
 -- Unlock of its run never give back a list in which the caller held a record of the run. + Three other Unlocks fall.
 pub record UnlockClaims : Type 0 where
@@ -139,6 +147,7 @@ pub record AllClaims : Type 0 where
   pub tables : Tables
   pub round-trips : RoundTrips
   pub looks : LookClaims
+  pub checks : CheckClaims
   pub unlocks : UnlockClaims
   -- T-10: "Give also a sequence with one place fewer where one of them is": + for all limits and numbers of processes, so that the bound is the least.
   pub least : Least

@@ -4,6 +4,7 @@ pub mod Answers
 pub mod Tables
 pub mod Packing
 pub mod Sound
+pub mod Checks
 pub mod Look
 pub mod Ends
 pub mod Room

@@ -75,6 +75,17 @@ unfolding most
 most-some Small = omega arith
 most-some Large = omega arith
 
+-- an entry's number is a byte
+pub entries-some : (kind : Kind) → 0 < entries kind
+unfolding entries
+entries-some Small = omega arith
+entries-some Large = omega arith
+
+pub entries-byte : (kind : Kind) → entries kind ≤ 256
+unfolding entries
+entries-byte Small = omega arith
+entries-byte Large = omega arith
+
 -- ---- places and records
 
 pub place-fits : (kind : Kind) (r : ℕ) → mapPlace kind r < numbers kind

@@ -255,12 +255,6 @@ module _ (kind : Kind) (s : List ℕ) (g : SoundImage kind s) where
       let k = g .files .begun e l u in
       any-found (isEntry s (fileAt s e) 0) (entries kind) (k .0) (k .1) (entry-so s (fileAt s e) 0 (k .0) (k .2))))))
 
--- ---- the check and the test
-
-pub check-sound : (kind : Kind) (s : List ℕ) → soundImage kind s ≡ true → imageCheck kind s ≡ Sound
-unfolding imageCheck soundImage _if_else_
-check-sound kind s h = rw (and-fst _ _ h, and-snd _ _ h)
-
 -- ---- blocks
 
 -- a used block of the drive

@@ -1,16 +1,17 @@
 -- "The drive". Assumes nothing.
 use Prim.Native.Nat.{ℕ, _+_, _*_, _/_, _%_}
-use mathlib.Core.Bool.{Bool, not}
-use mathlib.Core.List.{List}
+use mathlib.Core.Bool.{Bool, true, false, not}
+use mathlib.Core.List.{List, [], _∷_}
 use lib.ListN.{length}
 use lib.Dec.{leb, ltb, eqb}
 use Rattle.words.specs.Tests.{_and_, _or_, _if_else_, all, any, lowest, count}
 use Rattle.words.specs.Lists.{tab}
 use Rattle.words.specs.Bytes.{byte, lowFrom, numberAt}
+use Rattle.words.specs.Tables.{Row, _when_, firstOf}
 use Rattle.rules.specs.declared.kind.Kind.{Kind}
 use Rattle.rules.specs.Kinds.{blockSize, blockRecords, fewest, most, entries, numbers, width, lastModule}
 use Rattle.rules.specs.declared.answer.ImageAnswer.{ImageAnswer}
-use Rattle.rules.specs.declared.answer.ImageAnswer.the-variants.{Sound, WrongLength, UnsoundDirectory}
+use Rattle.rules.specs.declared.answer.ImageAnswer.the-variants.{Sound, WrongLength, BadUser, BadName, BadNumbers, BlockOutside, BlockBefore, ExtentBefore, NoFirst}
 use Rattle.rules.specs.declared.file.File.{File}
 use Rattle.rules.specs.declared.file.Found.{Found}
 
@@ -209,14 +210,95 @@ soundDirectory kind s = all (goodEntry kind s) (entries kind) and all (hasFirst 
 unfoldable pub soundImage : Kind → List ℕ → Bool
 soundImage kind s = goodLength kind s and soundDirectory kind s
 
--- The image check answers 0 sound, 1 wrong length, 2 unsound directory.
-unfoldable pub imageCheck : Kind → List ℕ → ImageAnswer
-imageCheck kind s =
-    WrongLength if not (goodLength kind s) else
-    UnsoundDirectory if not (soundDirectory kind s) else
-    Sound
+-- ---- The image check, and which entry is bad (T-01)
 
+-- Inside one entry the reasons go in this order: 2 user byte, 3 name, 4 ex, module or count, 5 block number out of range, 6 block
+-- named before, 7 extent named before.
+unfoldable pub reasons : Kind → List ℕ → ℕ → List Row
+reasons kind s e =
+    2 when not (goodUser s e)
+    ∷ 3 when not (legalName s (nameAt e))
+    ∷ 4 when not (goodNumbers kind s e)
+    ∷ 5 when not (all (inRange kind s e) (numbers kind))
+    ∷ 6 when not (all (isFirst kind s e) (numbers kind))
+    ∷ 7 when isRepeat s e
+    ∷ []
+
+-- the first that applies, 0 where none does; the rest of an empty entry is unread
+unfoldable pub reason : Kind → List ℕ → ℕ → ℕ
+reason kind s e = 0 if isEmpty s e else firstOf (reasons kind s e)
+
+unfoldable pub badFor : ℕ → ℕ → ImageAnswer
+badFor why e =
+    BadUser e if eqb why 2 else
+    BadName e if eqb why 3 else
+    BadNumbers e if eqb why 4 else
+    BlockOutside e if eqb why 5 else
+    BlockBefore e if eqb why 6 else
+    ExtentBefore e
+
+-- Entries are judged in rising order: the lowest that is bad, the number of entries where none is; ..
+unfoldable pub isBad : Kind → List ℕ → ℕ → Bool
+isBad kind s e = not (goodEntry kind s e)
+
+unfoldable pub badEntry : Kind → List ℕ → ℕ
+badEntry kind s = lowest (isBad kind s) (entries kind)
+
+-- .. what they answer; ..
+unfoldable pub judged : Kind → List ℕ → ImageAnswer
+judged kind s = Sound if noEntry kind (badEntry kind s) else badFor (reason kind s (badEntry kind s)) (badEntry kind s)
+
+-- .. then 8, given last of all, for the lowest entry of a file lacking extent 0.
+unfoldable pub lacksFirst : Kind → List ℕ → ℕ → Bool
+lacksFirst kind s e = not (hasFirst kind s e)
+
+unfoldable pub headless : Kind → List ℕ → ℕ
+headless kind s = lowest (lacksFirst kind s) (entries kind)
+
+unfoldable pub isSound : ImageAnswer → Bool
+isSound Sound = true
+isSound WrongLength = false
+isSound (BadUser e) = false
+isSound (BadName e) = false
+isSound (BadNumbers e) = false
+isSound (BlockOutside e) = false
+isSound (BlockBefore e) = false
+isSound (ExtentBefore e) = false
+isSound (NoFirst e) = false
+
+unfoldable pub directoryAnswer : Kind → List ℕ → ImageAnswer
+directoryAnswer kind s =
+    judged kind s if not (isSound (judged kind s)) else
+    Sound if noEntry kind (headless kind s) else
+    NoFirst (headless kind s)
+
+unfoldable pub imageCheck : Kind → List ℕ → ImageAnswer
+imageCheck kind s = WrongLength if not (goodLength kind s) else directoryAnswer kind s
+
+-- The number of an answer; ..
 unfoldable pub imageNumber : ImageAnswer → ℕ
 imageNumber Sound = 0
 imageNumber WrongLength = 1
-imageNumber UnsoundDirectory = 2
+imageNumber (BadUser e) = 2
+imageNumber (BadName e) = 3
+imageNumber (BadNumbers e) = 4
+imageNumber (BlockOutside e) = 5
+imageNumber (BlockBefore e) = 6
+imageNumber (ExtentBefore e) = 7
+imageNumber (NoFirst e) = 8
+
+-- .. the entry that it tells: 0 and 1 tell entry 0.
+unfoldable pub imageEntry : ImageAnswer → ℕ
+imageEntry Sound = 0
+imageEntry WrongLength = 0
+imageEntry (BadUser e) = e
+imageEntry (BadName e) = e
+imageEntry (BadNumbers e) = e
+imageEntry (BlockOutside e) = e
+imageEntry (BlockBefore e) = e
+imageEntry (ExtentBefore e) = e
+imageEntry (NoFirst e) = e
+
+-- both in one number, as a C host gets them
+unfoldable pub imageTold : ImageAnswer → ℕ
+imageTold a = imageNumber a + 256 * imageEntry a

@@ -1,6 +1,7 @@
 pub mod Kinds
 pub mod Serves
 pub mod Drive
+pub mod Checks
 pub mod Locks
 pub mod Asks
 pub mod Codes

@@ -6,7 +6,7 @@ use Rattle.rules.specs.declared.answer.ImageAnswer.the-variants.{WrongLe
 use Rattle.rules.specs.declared.kind.Told.{Told}
 use Rattle.rules.specs.declared.kind.Told.the-variants.{Known, Other}
 use Rattle.rules.specs.Serves.{Buffers, Outcome, outcome}
-use Rattle.rules.specs.Drive.{imageCheck, imageNumber}
+use Rattle.rules.specs.Drive.{imageCheck, imageTold}
 use Rattle.rules.specs.Locks.{Started, start}
 use Rattle.rules.specs.Look.{lookAt}
 use Rattle.rules.specs.Several.{callRun, callSingly}
@@ -27,8 +27,8 @@ startTold Other c o k users list = record { answer = 255 ∕ 13; list = list }
 
 -- .. 1 from the image check.
 unfoldable pub checkTold : Told → List ℕ → ℕ
-checkTold (Known kind) s = imageNumber (imageCheck kind s)
-checkTold Other s = imageNumber WrongLength
+checkTold (Known kind) s = imageTold (imageCheck kind s)
+checkTold Other s = imageTold WrongLength
 
 -- Look gives an empty part for an unknown one.
 unfoldable pub lookTold : Told → ℕ → List ℕ → ℕ → List ℕ → ℕ

@@ -1,6 +1,6 @@
 //! Which answers, and for which reasons, have been reached; and which there are.
 
-use crate::faults::{ImageRule, ListRule};
+use crate::faults::{ImageRule, Judged, ListRule};
 use reference::answer::Answer;
 use reference::calls::{MOST_RECORDS, RUN_FUNCTIONS};
 use reference::kind::Kind;
@@ -302,6 +302,85 @@ impl Half {
     }
 }
 
+/// Which entry the image check has told. 0 and 1 tell entry 0.
+#[derive(Clone, Copy, Debug, PartialEq, Eq, PartialOrd, Ord)]
+pub enum Place {
+    Entry0,
+    Lower,
+    Upper,
+    Last,
+}
+
+impl Place {
+    fn of(kind: Option<Kind>, entry: usize) -> Place {
+        match entry {
+            0 => Place::Entry0,
+            _ if kind.is_some_and(|kind| entry + 1 == kind.entries()) => Place::Last,
+            1..64 => Place::Lower,
+            _ => Place::Upper,
+        }
+    }
+
+    /// Where an entry can be that is bad for this reason. An extent named before is not the first.
+    fn all_of(kind: Kind, code: u32) -> &'static [Place] {
+        match (kind, code) {
+            (_, 0 | 1) => &[Place::Entry0],
+            (Kind::First, 7) => &[Place::Lower, Place::Last],
+            (Kind::First, _) => &[Place::Entry0, Place::Lower, Place::Last],
+            (Kind::Second, 7) => &[Place::Lower, Place::Upper, Place::Last],
+            (Kind::Second, _) => &[Place::Entry0, Place::Lower, Place::Upper, Place::Last],
+        }
+    }
+}
+
+/// What else was bad where the image check told an entry and a reason.
+#[derive(Clone, Copy, Debug, PartialEq, Eq, PartialOrd, Ord)]
+pub enum Order {
+    /// The same entry has a later reason too.
+    Inside(u32, u32),
+    /// A later entry has an earlier reason.
+    Across(u32, u32),
+    /// A file lacking extent 0 has an earlier entry.
+    BehindHeadless(u32),
+}
+
+/// Those of a check that has told this entry and reason.
+pub fn orders(judged: &Judged) -> Vec<Order> {
+    let Some((entry, told)) = judged.told().filter(|(_, told)| *told != 8) else {
+        return Vec::new();
+    };
+    let order = |slot: usize, other: u32| match slot == entry {
+        true if other > told => Some(Order::Inside(told, other)),
+        false if other < told => Some(Order::Across(told, other)),
+        _ => None,
+    };
+    let reasons = judged
+        .bad
+        .iter()
+        .flat_map(|(slot, reasons)| reasons.iter().map(|reason| (*slot, *reason)));
+    let headless = judged.headless.filter(|slot| *slot < entry);
+    reasons
+        .filter_map(|(slot, other)| order(slot, other))
+        .chain(headless.map(|_| Order::BehindHeadless(told)))
+        .collect()
+}
+
+/// An entry with a bad user, name, ex or module repeats no extent: the one before it would be bad.
+/// A bad count stands beside a repeat.
+fn wanted_orders() -> Vec<(Kind, Order)> {
+    let pairs_of = |told: u32| (2..=7).map(move |other| (told, other));
+    let mut wanted: Vec<Order> = (2..=7).map(Order::BehindHeadless).collect();
+    for (told, other) in (2..=7).flat_map(pairs_of) {
+        match (told, other) {
+            (2 | 3, 7) => {}
+            _ if told < other => wanted.push(Order::Inside(told, other)),
+            _ if told > other => wanted.push(Order::Across(told, other)),
+            _ => {}
+        }
+    }
+    pairs(&Kind::ALL, &wanted)
+}
+
 /// Drives of these numbers of blocks must have served a call.
 const SIZES: [(Kind, usize); 7] = [
     (Kind::First, 3),
@@ -326,7 +405,8 @@ pub struct Coverage {
     blocks: BTreeMap<(u32, Block), u64>,
     sizes: BTreeMap<(Kind, usize), u64>,
     starts: BTreeMap<(Told, u32), u64>,
-    checks: BTreeMap<(Told, u32), u64>,
+    checks: BTreeMap<(Told, (u32, Place)), u64>,
+    orders: BTreeMap<(Kind, Order), u64>,
     looks: BTreeMap<(Told, bool), u64>,
     image_rules: BTreeMap<(Kind, ImageRule, Half), u64>,
     list_rules: BTreeMap<(Kind, ListRule), u64>,
@@ -384,7 +464,13 @@ impl Coverage {
     }
 
     pub fn note_check(&mut self, told: u32, answer: u32) {
-        add(&mut self.checks, (Kind::told(told), answer));
+        let (kind, code, entry) = (Kind::told(told), answer % 256, answer as usize / 256);
+        add(&mut self.checks, (kind, (code, Place::of(kind, entry))));
+    }
+
+    /// The image check has told one of several things that are wrong.
+    pub fn note_order(&mut self, kind: Kind, order: Order) {
+        add(&mut self.orders, (kind, order));
     }
 
     pub fn note_look(&mut self, told: u32, at: u32) {
@@ -419,6 +505,7 @@ impl Coverage {
         complaints.extend(compare_keys("drive of a size", &self.sizes, &SIZES));
         complaints.extend(compare_keys("Start", &self.starts, &wanted_starts()));
         complaints.extend(compare_keys("image check", &self.checks, &wanted_checks()));
+        complaints.extend(compare_keys("order of faults", &self.orders, &wanted_orders()));
         complaints.extend(compare_keys("Look", &self.looks, &wanted_looks()));
         let image_rules = wanted_image_rules();
         complaints.extend(compare_keys("image rule", &self.image_rules, &image_rules));
@@ -454,7 +541,7 @@ impl Coverage {
             }
             let start = |word: &u32| format!("{}/{}", word % 256, word / 256);
             let _ = writeln!(lines, "start  {}", cells(told, &self.starts, start));
-            let _ = writeln!(lines, "check  {}", cells(told, &self.checks, u32::to_string));
+            let _ = writeln!(lines, "check  {}", self.cells_of_checks(told));
             let look = |found: &bool| if *found { "found" } else { "empty" }.to_string();
             let _ = writeln!(lines, " look  {}", cells(told, &self.looks, look));
         }
@@ -475,6 +562,15 @@ impl Coverage {
         cells.join("  ")
     }
 
+    /// The image check's codes, wherever the entries are that it told.
+    fn cells_of_checks(&self, told: Told) -> String {
+        let mut counts: BTreeMap<(Told, u32), u64> = BTreeMap::new();
+        for ((of, (code, _)), count) in &self.checks {
+            *counts.entry((*of, *code)).or_default() += count;
+        }
+        cells(told, &counts, u32::to_string)
+    }
+
     /// The finer table: each reason and kind of success, and each rule broken.
     pub fn reasons(&self) -> String {
         let mut lines = String::new();
@@ -488,6 +584,8 @@ impl Coverage {
         lines.push_str(&counted("last", &self.lasts));
         lines.push_str(&counted("block", &self.blocks));
         lines.push_str(&counted("size", &self.sizes));
+        lines.push_str(&counted("check", &self.checks));
+        lines.push_str(&counted("order", &self.orders));
         lines.push_str(&counted("image broken", &self.image_rules));
         lines.push_str(&counted("list broken", &self.list_rules));
         lines
@@ -539,9 +637,13 @@ fn wanted_starts() -> Vec<(Told, u32)> {
     wanted
 }
 
-fn wanted_checks() -> Vec<(Told, u32)> {
-    let mut wanted = pairs(&Kind::ALL.map(Some), &[0, 1, 2]);
-    wanted.push((None, 1));
+fn wanted_checks() -> Vec<(Told, (u32, Place))> {
+    let all_codes: Vec<u32> = (0..=8).collect();
+    let mut wanted = vec![(None, (1, Place::Entry0))];
+    for (kind, code) in pairs(&Kind::ALL, &all_codes) {
+        let places = Place::all_of(kind, code);
+        wanted.extend(places.iter().map(|&place| (Some(kind), (code, place))));
+    }
     wanted
 }
 

@@ -21,16 +21,53 @@ pub fn break_directory(rule: ImageRule, kind: Kind, image: &[u8], random: &mut R
             kind,
             bytes: &mut directory,
             random,
+            victim: None,
         }
         .damage(rule, blocks)?;
         (directory_faults(kind, &directory, blocks) == wanted).then_some(directory)
     })
 }
 
+/// A rule for each reason that an entry can be bad for.
+const REASONS: [ImageRule; 7] = [
+    ImageRule::User,
+    ImageRule::Name,
+    ImageRule::Count,
+    ImageRule::MapRange,
+    ImageRule::BlockTwice,
+    ImageRule::ExtentTwice,
+    ImageRule::ExtentZero,
+];
+
+/// A directory with two or three rules broken, as often as not all by one entry.
+pub fn break_several(kind: Kind, image: &[u8], random: &mut Random) -> Vec<u8> {
+    let blocks = image.len() / kind.block();
+    let mut rules: Vec<ImageRule> = (0..random.between(2, 3)).map(|_| random.pick(&REASONS)).collect();
+    // A repeated extent is another entry's copy, so it comes before what is wrong with it besides.
+    rules.sort_unstable_by(|one, other| other.cmp(one));
+    let mut bytes = image[..kind.directory()].to_vec();
+    let mut directory = Directory {
+        kind,
+        bytes: &mut bytes,
+        random,
+        victim: None,
+    };
+    if directory.random.chance(50) {
+        let empty = directory.random.chance(50);
+        directory.victim = directory.a_slot(empty);
+    }
+    for rule in rules {
+        let _ = directory.damage(rule, blocks);
+    }
+    bytes
+}
+
 struct Directory<'a> {
     kind: Kind,
     bytes: &'a mut [u8],
     random: &'a mut Random,
+    /// The entry that every damage is to change; else each changes one by chance.
+    victim: Option<usize>,
 }
 
 impl Directory<'_> {
@@ -39,9 +76,14 @@ impl Directory<'_> {
         (0..self.kind.entries()).filter(is_wanted).collect()
     }
 
+    /// One of these entries; the first and the last of them more often than the others.
     fn a_slot(&mut self, empty: bool) -> Option<usize> {
         let slots = self.slots(empty);
-        self.random.pick_any(&slots)
+        match self.random.below(8) {
+            0 => slots.first().copied(),
+            1 => slots.last().copied(),
+            _ => self.random.pick_any(&slots),
+        }
     }
 
     fn entry(&self, slot: usize) -> Entry {
@@ -57,18 +99,25 @@ impl Directory<'_> {
 
     /// A used entry to change in its place, or a new one for an empty slot.
     fn a_victim(&mut self) -> Option<(usize, Entry)> {
-        if self.random.chance(50) {
-            if let Some(slot) = self.a_slot(false) {
-                return Some((slot, self.entry(slot)));
-            }
+        let used = self.random.chance(50);
+        let slot = match self.victim {
+            Some(slot) => slot,
+            None if used => self.a_slot(false).or_else(|| self.a_slot(true))?,
+            None => self.a_slot(true)?,
+        };
+        let entry = self.entry(slot);
+        if entry.0[0] != EMPTY {
+            return Some((slot, entry));
         }
-        let slot = self.a_slot(true)?;
         let user = self.random.below(16) as u8;
         Some((slot, Entry::of(user, NOWHERE, 0)))
     }
 
     /// A later extent of some file, in its place or in an empty slot.
     fn a_later_extent(&mut self) -> Option<(usize, Entry)> {
+        if self.victim.is_some() {
+            return self.a_victim();
+        }
         let of = self.a_slot(false)?;
         let entry = self.entry(of);
         if self.random.chance(50) && faults::extent_number(&entry.0) != 0 {
@@ -168,9 +217,10 @@ impl Directory<'_> {
 
     fn double_extent(&mut self) -> Option<()> {
         let of = self.a_slot(false)?;
-        let slot = match self.random.chance(80) {
-            true => self.a_slot(true)?,
-            false => self.a_slot(false)?,
+        let slot = match self.victim {
+            Some(slot) => slot,
+            None if self.random.chance(80) => self.a_slot(true)?,
+            None => self.a_slot(false)?,
         };
         let mut twin = self.entry(of);
         twin.0[16..].fill(0);

@@ -210,6 +210,82 @@ pub fn directory_faults(kind: Kind, directory: &[u8], blocks: usize) -> BTreeSet
     faults
 }
 
+/// What is wrong with the entries of a directory, in document 02's numbers.
+#[derive(Clone, Debug, PartialEq, Eq)]
+pub struct Judged {
+    /// The bad entries in rising order, each with all that is wrong with it, 2 to 7.
+    pub bad: Vec<(usize, BTreeSet<u32>)>,
+    /// The lowest entry of a file lacking extent 0.
+    pub headless: Option<usize>,
+}
+
+impl Judged {
+    /// The lowest bad entry with its first reason; 8 only where no entry has another.
+    pub fn told(&self) -> Option<(usize, u32)> {
+        let first = |(slot, reasons): &(usize, BTreeSet<u32>)| Some((*slot, *reasons.first()?));
+        let headless = self.headless.map(|slot| (slot, 8));
+        self.bad.iter().find_map(first).or(headless)
+    }
+}
+
+pub fn reason_number(rule: ImageRule) -> u32 {
+    match rule {
+        ImageRule::Length => 1,
+        ImageRule::User => 2,
+        ImageRule::Name => 3,
+        ImageRule::Ex | ImageRule::Module | ImageRule::Count => 4,
+        ImageRule::MapRange => 5,
+        ImageRule::BlockTwice => 6,
+        ImageRule::ExtentTwice => 7,
+        ImageRule::ExtentZero => 8,
+    }
+}
+
+/// The image must have a length of this kind.
+pub fn judged(kind: Kind, image: &[u8]) -> Judged {
+    let blocks = blocks_of(kind, image.len()).expect("a length of this kind");
+    let slots = image[..directory_length(kind)].chunks(32).enumerate();
+    let entries: Vec<(usize, &[u8])> = slots.filter(|(_, entry)| entry[0] != 0xE5).collect();
+    let is_begun = |of: &[u8]| {
+        let begins = |(_, one): &(usize, &[u8])| is_same_file(of, one) && extent_number(one) == 0;
+        entries.iter().any(begins)
+    };
+    let mut named = BTreeSet::new();
+    let mut bad = Vec::new();
+    for (i, (slot, entry)) in entries.iter().enumerate() {
+        let mut rules = entry_faults(kind, entry, blocks);
+        let numbers = block_numbers(kind, entry).into_iter();
+        let repeats = numbers.filter(|block| *block != 0 && !named.insert(*block));
+        if repeats.count() > 0 {
+            rules.push(ImageRule::BlockTwice);
+        }
+        let is_twin = |(_, one): &(usize, &[u8])| {
+            is_same_file(entry, one) && extent_number(entry) == extent_number(one)
+        };
+        if entries[..i].iter().any(is_twin) {
+            rules.push(ImageRule::ExtentTwice);
+        }
+        if !rules.is_empty() {
+            bad.push((*slot, rules.into_iter().map(reason_number).collect()));
+        }
+    }
+    let headless = entries.iter().find(|(_, entry)| !is_begun(entry));
+    Judged {
+        bad,
+        headless: headless.map(|(slot, _)| *slot),
+    }
+}
+
+/// What the image check has to answer.
+pub fn check_answer(kind: Kind, image: &[u8]) -> u32 {
+    if blocks_of(kind, image.len()).is_none() {
+        return reason_number(ImageRule::Length);
+    }
+    judged(kind, image)
+        .told()
+        .map_or(0, |(slot, reason)| reason + 256 * slot as u32)
+}
+
 /// The block number of the record, 0 if it has no extent or no block.
 pub fn block_of(kind: Kind, user: u8, name: &[u8], record: u32, image: &[u8]) -> u16 {
     let extent = (record / 128) as usize;

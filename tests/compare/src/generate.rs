@@ -3,8 +3,8 @@
 
 use crate::build::{empty_image_of, place_start, Entry, Fcb};
 use crate::coverage::{Coverage, Half};
-use crate::damage::{break_directory, break_list};
-use crate::faults::{self, ImageRule, Item, ListRule};
+use crate::damage::{break_directory, break_list, break_several};
+use crate::faults::{self, check_answer, ImageRule, Item, ListRule};
 use crate::history::blocks_of_groups;
 use crate::named::{self, Case};
 use crate::random::Random;
@@ -486,6 +486,7 @@ impl Generator {
             12 => self.shuffle_places(),
             13 => self.start_again(cast),
             14..16 => self.with_stray_bytes(cast),
+            16 => self.with_several_faults(cast),
             _ => self.call(cast),
         }
     }
@@ -1009,14 +1010,31 @@ impl Generator {
         self.stage.coverage.note_image_rule(self.kind, rule, half);
         self.stage.damaged();
         self.patch_image(&before, &damaged);
+        self.check();
         if self.random.chance(30) {
-            self.check();
             self.look(cast);
         }
         for _ in 0..self.random.between(1, 3) {
             self.call(cast);
         }
         self.patch_image(&damaged, &before);
+        self.stage.repaired();
+    }
+
+    /// Directories with more than one thing wrong, each asked for its lowest bad entry.
+    fn with_several_faults(&mut self, cast: &Cast) {
+        let before = self.stage.image()[..self.kind.directory()].to_vec();
+        self.stage.damaged();
+        for _ in 0..self.random.between(1, 6) {
+            let damaged = break_several(self.kind, self.stage.image(), &mut self.random);
+            self.patch_image(&before, &damaged);
+            self.check();
+            let is_bad = check_answer(self.kind, self.stage.image()) != 0;
+            if is_bad && self.random.chance(20) {
+                self.call(cast);
+            }
+            self.patch_image(&damaged, &before);
+        }
         self.stage.repaired();
     }
 

@@ -13,6 +13,7 @@ pub mod history;
 #[cfg(feature = "linked")]
 pub mod linked;
 pub mod named;
+pub mod named_entries;
 pub mod named_kinds;
 pub mod parts;
 pub mod pipe;

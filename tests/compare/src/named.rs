@@ -5,12 +5,12 @@ use crate::book::Book;
 use crate::build::{lock_item, name, open_item, put_item, Entry, Fcb};
 use crate::coverage::{Half, FUNCTIONS};
 use crate::damage::{break_directory, break_list};
-use crate::faults::{ImageRule, ListRule};
+use crate::faults::{reason_number, ImageRule, ListRule};
 use crate::generate::half_damaged;
-use crate::named_kinds;
 use crate::random::Random;
 use crate::stage::{changed_dma, Stage};
 use crate::step::Step;
+use crate::{named_entries, named_kinds};
 use reference::calls::{Numbers, DMA_LENGTH, MOST_RECORDS, RUN_FUNCTIONS};
 use reference::kind::Kind;
 
@@ -69,9 +69,10 @@ const CASES: [(&str, Play); 32] = [
 ];
 
 pub fn cases() -> Vec<Case> {
-    let both = Kind::ALL
-        .into_iter()
-        .flat_map(|kind| CASES.into_iter().map(move |(name, play)| (kind, name, play)));
+    let both = Kind::ALL.into_iter().flat_map(|kind| {
+        let cases = CASES.into_iter().chain(named_entries::CASES);
+        cases.map(move |(name, play)| (kind, name, play))
+    });
     both.chain(named_kinds::CASES)
         .map(|(kind, name, play)| Case { name, kind, play })
         .collect()
@@ -267,6 +268,15 @@ impl<'a> Script<'a> {
         let reply = self.stage.serve(Step::Check { kind });
         if reply.map(|reply| reply.answer) != Some(wanted) {
             self.complain(&format!("check of kind {kind} does not give {wanted}"));
+        }
+    }
+
+    /// The code alone; the stage knows the entry.
+    fn check_code(&mut self, wanted: u32) {
+        let kind = self.kind.number();
+        let reply = self.stage.serve(Step::Check { kind });
+        if reply.map(|reply| reply.answer % 256) != Some(wanted) {
+            self.complain(&format!("check does not give {wanted}"));
         }
     }
 
@@ -726,7 +736,7 @@ fn damaged_image(script: &mut Script, image: &[u8], rule: ImageRule, half: Half)
     script.stage.coverage.note_image_rule(script.kind, rule, half);
     script.stage.damaged();
     script.stage.set_image(&damaged, 0xE5);
-    script.check(if rule == ImageRule::Length { 1 } else { 2 });
+    script.check_code(reason_number(rule));
     script.look(0, &name(FILE), 0, 0);
     for function in FUNCTIONS {
         script.call(1, function, file()).gives(255, 1);

@@ -216,7 +216,7 @@ fn wide_numbers(script: &mut Script) {
     script.image_has(3 * 2048 + 128, &[0; 15 * 128]);
 }
 
-/// Each number beside the drive's blocks, at the first and the last place of a map.
+/// Each number beside the drive's blocks, at the first and the last place of entry 1's map.
 fn numbers_out_of_range(script: &mut Script) {
     let blocks = 258;
     let beside = |number: u16, index: usize| {
@@ -225,34 +225,39 @@ fn numbers_out_of_range(script: &mut Script) {
         image_of(Kind::Second, blocks, &[other, entry])
     };
     for index in [0, 7] {
-        for (number, answer) in [
+        for (number, code) in [
             (0, 0),
-            (1, 2),
+            (1, 5),
             (2, 0),
             (255, 0),
             (256, 0),
-            (257, 2),
-            (258, 2),
-            (259, 2),
-            (512, 2),
-            (513, 2),
-            (4_095, 2),
-            (0x1002, 2),
-            (0xF002, 2),
-            (0xFF02, 2),
-            (u16::MAX, 2),
+            (257, 6),
+            (258, 5),
+            (259, 5),
+            (512, 5),
+            (513, 5),
+            (4_095, 5),
+            (0x1002, 5),
+            (0xF002, 5),
+            (0xFF02, 5),
+            (u16::MAX, 5),
         ] {
             world(script, &beside(number, index));
-            script.check(answer);
-            match answer {
-                0 => script.call(0, 46, shared()).ok(),
-                _ => script.call(0, 46, shared()).gives(255, 1),
+            match code {
+                0 => {
+                    script.check(0);
+                    script.call(0, 46, shared()).ok();
+                }
+                _ => {
+                    script.check(code + 256);
+                    script.call(0, 46, shared()).gives(255, 1);
+                }
             }
         }
     }
     let twice = Entry::named(FILE).wide_block(1, 256).wide_block(6, 256);
     world(script, &image_of(Kind::Second, blocks, &[twice]));
-    script.check(2);
+    script.check(6);
     // The same bytes at other places are other numbers: 0002, 0200 and 0202.
     let alike = Entry::named(FILE).wide_block(0, 2).wide_block(1, 0x0200);
     let image = image_of(Kind::Second, 600, &[alike.wide_block(2, 0x0202)]);

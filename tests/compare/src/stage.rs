@@ -3,9 +3,9 @@
 //! the second reading of soundness.
 
 use crate::comparison::describe_step;
-use crate::coverage::{Coverage, Last};
+use crate::coverage::{orders, Coverage, Last};
 use crate::engine::Reference;
-use crate::faults::{block_of, image_faults, is_legal_name, list_faults, record_at, ImageRule};
+use crate::faults::{block_of, check_answer, image_faults, is_legal_name, judged, list_faults, record_at};
 use crate::history::{groups_with_block, History, Kept, Noted};
 use crate::parts::SHORT_IMAGE;
 use crate::step::{set_image, set_list, Reply, Step};
@@ -194,14 +194,22 @@ impl Stage {
 
     fn watch_check(&mut self, told: u32, reply: &Reply) {
         self.coverage.note_check(told, reply.answer);
-        let faults = Kind::told(told).map(|kind| image_faults(kind, self.table.image()));
-        let wanted = match faults.as_ref().map(|faults| faults.first()) {
-            None | Some(Some(ImageRule::Length)) => 1,
-            Some(None) => 0,
-            Some(Some(_)) => 2,
-        };
+        let kind = Kind::told(told);
+        let wanted = kind.map_or(1, |kind| check_answer(kind, self.table.image()));
         if reply.answer != wanted {
-            self.complain(format!("check says {}, the faults are {faults:?}", reply.answer));
+            self.complain(format!("check says {}, the bytes {wanted}", reply.answer));
+        }
+        let Some(kind) = kind else {
+            return;
+        };
+        let faults = image_faults(kind, self.table.image());
+        if faults.is_empty() != (wanted == 0) {
+            self.complain(format!("the bytes say {wanted}, the faults are {faults:?}"));
+        }
+        if wanted > 1 {
+            for order in orders(&judged(kind, self.table.image())) {
+                self.coverage.note_order(kind, order);
+            }
         }
     }
 

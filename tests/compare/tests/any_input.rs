@@ -87,7 +87,18 @@ fn any_call_answers() {
         let length = numbers.below(13) as usize;
         let name = numbers.bytes(length);
         reference::look(kind, numbers.below(20), &name, numbers.next(), &before.3);
-        assert!(reference::check(kind, &before.3) < 3);
+        assert_is_answer_of_check(kind, reference::check(kind, &before.3));
+    }
+}
+
+/// 0 and 1 tell entry 0, and no entry told is past the directory.
+fn assert_is_answer_of_check(kind: u32, answer: u32) {
+    let (code, entry) = (answer % 256, answer / 256);
+    match kind {
+        _ if code < 2 => assert_eq!(entry, 0),
+        0 => assert!(code < 9 && entry < 64),
+        1 => assert!(code < 9 && entry < 128),
+        _ => panic!("an entry is told of an unknown kind"),
     }
 }
 

@@ -14,11 +14,17 @@ fn the_named_cases_reach_everything() {
     assert_eq!(generator.coverage().complaints(), Vec::<String>::new());
 }
 
+/// The rarest pairs want more calls with one seed than with another.
 #[test]
 fn chance_alone_reaches_everything() {
-    let mut generator = Generator::new(20_261);
-    while generator.coverage().calls() < 400_000 {
-        generator.session();
+    let mut generator = Generator::new(20_262);
+    for calls in (300_000..=1_200_000).step_by(100_000) {
+        while generator.coverage().calls() < calls {
+            generator.session();
+        }
+        if generator.coverage().complaints().is_empty() {
+            break;
+        }
     }
     assert_eq!(generator.faults(), &[] as &[String]);
     assert_eq!(generator.coverage().complaints(), Vec::<String>::new());
@@ -89,10 +95,29 @@ fn what_may_not_be_of_an_unknown_kind_is_told() {
         coverage.complaints(),
         [
             "not allowed: Start (None, 0)",
-            "not allowed: image check (None, 0)",
+            "not allowed: image check (None, (0, Entry0))",
             "not allowed: Look (None, true)"
         ]
     );
+}
+
+/// 0 and 1 tell entry 0, and entry 0 repeats no extent.
+#[test]
+fn an_entry_that_may_not_be_told_is_told() {
+    let mut generator = Generator::new(0);
+    generator.named();
+    for (answer, told) in [
+        (256, "(0, Lower)"),
+        (1 + 256, "(1, Lower)"),
+        (7, "(7, Entry0)"),
+        (9, "(9, Entry0)"),
+        (2 + 256 * 64, "(2, Upper)"),
+    ] {
+        let mut coverage = generator.coverage().clone();
+        coverage.note_check(0, answer);
+        let told = format!("not allowed: image check (Some(First), {told})");
+        assert_eq!(coverage.complaints(), [told]);
+    }
 }
 
 #[test]
@@ -123,6 +148,11 @@ fn every_number_of_records_done_is_wanted() {
         "not reached: block of a record (41, From1024)",
         "not reached: drive of a size (Second, 4096)",
         "not reached: image rule (Second, BlockTwice, Upper)",
+        "not reached: image check (Some(First), (8, Last))",
+        "not reached: image check (Some(Second), (7, Upper))",
+        "not reached: order of faults (First, Inside(5, 6))",
+        "not reached: order of faults (Second, Across(7, 2))",
+        "not reached: order of faults (Second, BehindHeadless(6))",
         "not reached: unknown kind, function 46, 255/13, unknown kind",
         "not reached: kind 1, function 143, 255/1, image of the other kind's length",
     ] {

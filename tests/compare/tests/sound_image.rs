@@ -1,4 +1,5 @@
-//! Each rule of "Sound image" broken alone, and its neighbours that are still sound.
+//! Each rule of "Sound image" broken alone, with the entry and the reason that the image check tells,
+//! and its neighbours that are still sound.
 
 mod common;
 
@@ -8,9 +9,31 @@ use compare::faults::{image_faults, ImageRule};
 use reference::kind::Kind;
 use std::collections::BTreeSet;
 
+/// Entry 0 is good in all of these, and the bad one is the last of those that are used.
 fn assert_broken(rule: ImageRule, image: Vec<u8>) {
+    let used = image.chunks(32).take_while(|entry| entry[0] != 0xE5).count();
+    match rule {
+        ImageRule::Length => assert_broken_in(rule, 1, 0, image),
+        _ => assert_broken_in(rule, reason_of(rule), used - 1, image),
+    }
+}
+
+fn reason_of(rule: ImageRule) -> u32 {
+    match rule {
+        ImageRule::Length => 1,
+        ImageRule::User => 2,
+        ImageRule::Name => 3,
+        ImageRule::Ex | ImageRule::Module | ImageRule::Count => 4,
+        ImageRule::MapRange => 5,
+        ImageRule::BlockTwice => 6,
+        ImageRule::ExtentTwice => 7,
+        ImageRule::ExtentZero => 8,
+    }
+}
+
+fn assert_broken_in(rule: ImageRule, reason: u32, entry: usize, image: Vec<u8>) {
     assert_eq!(image_faults(Kind::First, &image), BTreeSet::from([rule]));
-    let wanted = if rule == ImageRule::Length { 1 } else { 2 };
+    let wanted = reason + 256 * entry as u32;
     assert_eq!(reference::check(0, &image), wanted, "{rule:?}");
     assert_eq!(reference::look(0, 0, &name("GOOD"), 0, &image), None);
     for function in KNOWN {
@@ -56,6 +79,8 @@ fn length() {
 fn length_comes_before_the_directory() {
     assert_eq!(reference::check(0, &vec![0x77; 2048]), 1);
     assert_eq!(reference::check(0, &vec![0x77; 3072]), 2);
+    assert_eq!(reference::check(1, &vec![0x77; 256 * 2048]), 1);
+    assert_eq!(reference::check(1, &vec![0x77; 257 * 2048]), 2);
 }
 
 #[test]

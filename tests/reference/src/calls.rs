@@ -193,7 +193,7 @@ fn scene<'a>(numbers: Numbers, buffers: &'a Buffers) -> Result<Scene<'a>, Refusa
     let drive = Drive::read(kind, buffers.image).map_err(|fault| match fault {
         Fault::Length => extended(1, "image of wrong length"),
         Fault::OtherKind => extended(1, "image of the other kind's length"),
-        Fault::Directory => extended(1, "unsound directory"),
+        Fault::Entry(..) => extended(1, "unsound directory"),
     })?;
     let list = LockList::read(buffers.list, &drive).ok_or(extended(12, "unsound list"))?;
     if !WITHOUT_FCB.contains(&numbers.function) && fcb[0] > 1 {

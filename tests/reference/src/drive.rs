@@ -20,7 +20,35 @@ pub enum Fault {
     Length,
     /// A length that the other kind has.
     OtherKind,
-    Directory,
+    /// The lowest bad entry, and what is wrong with it first.
+    Entry(usize, Reason),
+}
+
+/// Why an entry is bad, in the order in which the reasons are judged.
+#[derive(Clone, Copy, Debug, PartialEq, Eq)]
+pub enum Reason {
+    User,
+    Name,
+    Numbers,
+    BlockOutOfRange,
+    BlockNamedBefore,
+    ExtentNamedBefore,
+    NoExtent0,
+}
+
+impl Reason {
+    /// The number that the image check gives for it.
+    pub fn code(self) -> u32 {
+        match self {
+            Reason::User => 2,
+            Reason::Name => 3,
+            Reason::Numbers => 4,
+            Reason::BlockOutOfRange => 5,
+            Reason::BlockNamedBefore => 6,
+            Reason::ExtentNamedBefore => 7,
+            Reason::NoExtent0 => 8,
+        }
+    }
 }
 
 #[derive(Clone, Debug, PartialEq, Eq)]
@@ -85,57 +113,71 @@ impl Drive {
             empty_slots: BTreeSet::new(),
             used_blocks: Vec::new(),
         };
+        let mut named = vec![false; block_count];
         for (slot, entry) in image[..kind.directory()].chunks_exact(ENTRY).enumerate() {
-            drive.take_in(slot, entry).ok_or(Fault::Directory)?;
+            drive
+                .take_in(slot, entry, &mut named)
+                .map_err(|reason| Fault::Entry(slot, reason))?;
         }
-        let begins = |extents: &BTreeMap<u32, Extent>| extents.contains_key(&0);
-        if drive.has_double_block() || !drive.files.values().all(begins) {
-            return Err(Fault::Directory);
+        if let Some(slot) = drive.lowest_slot_without_extent_0() {
+            return Err(Fault::Entry(slot, Reason::NoExtent0));
         }
+        drive.used_blocks.sort_unstable();
         Ok(drive)
     }
 
-    fn take_in(&mut self, slot: usize, entry: &[u8]) -> Option<()> {
+    /// Takes an entry in; those before it are good. `named` has the blocks that they name.
+    fn take_in(&mut self, slot: usize, entry: &[u8], named: &mut [bool]) -> Result<(), Reason> {
         let user = entry[0];
         if user == EMPTY {
             self.empty_slots.insert(slot);
-            return Some(());
+            return Ok(());
         }
-        let (ex, module, count) = (entry[12], entry[14], entry[15]);
-        if user > HIGHEST_USER || ex >= EX_LIMIT || module >= MODULE_LIMIT || count > 128 {
-            return None;
+        if user > HIGHEST_USER {
+            return Err(Reason::User);
         }
         let name_bytes = &entry[1..12];
-        let file = File {
-            user,
-            name: Name::read(name_bytes)?,
-        };
+        let name = Name::read(name_bytes).ok_or(Reason::Name)?;
+        let (ex, module, count) = (entry[12], entry[14], entry[15]);
+        if ex >= EX_LIMIT || module >= MODULE_LIMIT || count > 128 {
+            return Err(Reason::Numbers);
+        }
         let extent = Extent {
             slot,
             attributes: std::array::from_fn(|i| name_bytes[i] & HIGH_BIT),
             count,
-            blocks: self.take_in_map(&entry[16..])?,
+            blocks: self.take_in_map(&entry[16..], named)?,
         };
         let number = u32::from(ex) + u32::from(EX_LIMIT) * u32::from(module);
-        let twin = self.files.entry(file).or_default().insert(number, extent);
-        twin.is_none().then_some(())
+        let extents = self.files.entry(File { user, name }).or_default();
+        match extents.insert(number, extent) {
+            None => Ok(()),
+            Some(_) => Err(Reason::ExtentNamedBefore),
+        }
     }
 
-    fn take_in_map(&mut self, map: &[u8]) -> Option<Vec<(usize, u16)>> {
+    /// All numbers are tried for their range before any is for a repeat.
+    fn take_in_map(&mut self, map: &[u8], named: &mut [bool]) -> Result<Vec<(usize, u16)>, Reason> {
         let numbers = self.kind.numbers(map).enumerate();
         let blocks: Vec<(usize, u16)> = numbers.filter(|(_, block)| *block != 0).collect();
         let is_data_block = |block: u16| (FIRST_DATA_BLOCK..self.block_count).contains(&usize::from(block));
         if !blocks.iter().all(|(_, block)| is_data_block(*block)) {
-            return None;
+            return Err(Reason::BlockOutOfRange);
         }
-        self.used_blocks.extend(blocks.iter().map(|(_, block)| *block));
-        Some(blocks)
+        for &(_, block) in &blocks {
+            if std::mem::replace(&mut named[usize::from(block)], true) {
+                return Err(Reason::BlockNamedBefore);
+            }
+            self.used_blocks.push(block);
+        }
+        Ok(blocks)
     }
 
-    /// True if a block was named twice. Before this the blocks are in no order.
-    fn has_double_block(&mut self) -> bool {
-        self.used_blocks.sort_unstable();
-        self.used_blocks.windows(2).any(|pair| pair[0] == pair[1])
+    fn lowest_slot_without_extent_0(&self) -> Option<usize> {
+        let headless = self.files.values().filter(|extents| !extents.contains_key(&0));
+        headless
+            .flat_map(|extents| extents.values().map(|extent| extent.slot))
+            .min()
     }
 
     fn map_index(&self, record: u32) -> usize {

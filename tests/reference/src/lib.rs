@@ -35,7 +35,8 @@ pub fn start(
     Answer::SUCCESS.word()
 }
 
-/// 0 sound, 1 wrong length or unknown kind, 2 unsound directory.
+/// 0 sound, 1 wrong length or unknown kind; else why an entry is bad, 2 to 8, plus 256 times the
+/// entry.
 pub fn check(kind: u32, image: &[u8]) -> u32 {
     let Some(kind) = Kind::told(kind) else {
         return 1;
@@ -43,7 +44,7 @@ pub fn check(kind: u32, image: &[u8]) -> u32 {
     match Drive::read(kind, image) {
         Ok(_) => 0,
         Err(Fault::Length | Fault::OtherKind) => 1,
-        Err(Fault::Directory) => 2,
+        Err(Fault::Entry(slot, reason)) => reason.code() + 256 * slot as u32,
     }
 }
 

@@ -1,5 +1,6 @@
 -- `engine::mpm_check` meets its contract.
 use borrow.Author.Needs.{needs}
+use Rattle.rules.proofs.Checks.{told-byte}
 use Rattle.engine.proofs.Told.{check-known, check-other}
 use Rattle.engine.proofs.mpm_check.Statement.{statement}
 use Rattle.engine.proofs.mpm_check.Tie as tie
@@ -18,7 +19,7 @@ mpm-check-spec =
     (λ c. search (check-known, check-other))
     -- image-check-requires
     (λ c κs. search needs)
-    -- image-number-requires
-    (λ c κs. search needs)
+    -- image-told-requires
+    (λ c κs. search (needs, told-byte))
     -- returns-2
     (λ c. search (check-known, check-other)))

@@ -3,7 +3,7 @@ use mathlib.Core.Path.{refl}
 use borrow.Author.Needs.{needs}
 use Rattle.words.proofs.Sets.{choices}
 use Rattle.rules.specs.Drive.{imageCheck}
-use Rattle.drive.proofs.Walks.{walking, walked-answer}
+use Rattle.drive.proofs.Walks.{walking, answered-answer}
 use Rattle.drive.proofs.Looking.{directory-there, blocks-few}
 use Rattle.drive.proofs.check.image_check.Statement.{statement}
 use Rattle.drive.proofs.check.image_check.Tie as tie
@@ -16,10 +16,8 @@ image-check-spec =
     -- good-length-requires
     (λ c κs. search needs)
     -- returns
-    (λ c. search (choices, refl, walked-answer) depth 8 fits 20000)
-    -- sound-directory-requires
+    (λ c. search (choices, refl, answered-answer) depth 8 fits 20000)
+    -- directory-answer-requires
     (λ c κs. search (walking, directory-there, blocks-few))
     -- returns-2
-    (λ c. search (choices, refl, walked-answer) depth 8 fits 20000)
-    -- returns-3
-    (λ c. search (choices, refl, walked-answer) depth 8 fits 20000))
+    (λ c. search (choices, refl, answered-answer) depth 8 fits 20000))

@@ -16,9 +16,33 @@ image-number-spec =
     (λ c. search needs)
     -- enum-told-3
     (λ c. search needs)
+    -- enum-told-4
+    (λ c. search needs)
+    -- enum-told-5
+    (λ c. search needs)
+    -- enum-told-6
+    (λ c. search needs)
+    -- enum-told-7
+    (λ c. search needs)
+    -- enum-told-8
+    (λ c. search needs)
+    -- enum-told-9
+    (λ c. search needs)
     -- returns
-    (λ c. search refl)
+    (λ c. search (refl, needs))
     -- returns-2
-    (λ c. search refl)
+    (λ c. search (refl, needs))
     -- returns-3
-    (λ c. search refl))
+    (λ c. search (refl, needs))
+    -- returns-4
+    (λ c. search (refl, needs))
+    -- returns-5
+    (λ c. search (refl, needs))
+    -- returns-6
+    (λ c. search (refl, needs))
+    -- returns-7
+    (λ c. search (refl, needs))
+    -- returns-8
+    (λ c. search (refl, needs))
+    -- returns-9
+    (λ c. search (refl, needs)))

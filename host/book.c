@@ -1,0 +1,244 @@
+/* The desk's program: looks at images that customers bring, without changing them. The kind of a drive is taken from
+   the length of its image.
+
+     book check IMAGE..    for each image one line: sound, or the lowest bad entry of its directory and what is wrong
+
+   Exit status: 0 if all images are sound, 1 if one is not, 2 for an image that cannot be read and for wrong use. */
+
+#include "mpm.h"
+
+#include <stdio.h>
+#include <string.h>
+
+enum { DONE, UNSOUND, FAILED };
+enum { EX = 12, MODULE = 14, COUNT = 15, MAP = 16 }; /* where they stand in an entry */
+enum { NAME_PART = 8, TEXT = 16 };
+
+/* One byte more than the longest image, so that a longer file is seen to be one. */
+static uint8_t bytes[MPM_LARGE_MAX_BLOCKS * MPM_LARGE_BLOCK_LEN + 1];
+
+struct image {
+    const char *path;
+    uint32_t kind; /* MPM_KINDS where no drive has this length */
+    const uint8_t *bytes;
+    size_t length;
+};
+
+/* ---- Images ---- */
+
+static int fail(const char *path, const char *what) {
+    printf("%s: %s\n", path, what);
+    return FAILED;
+}
+
+/* A folder can be opened, and then not be read. */
+static int load(struct image *image, const char *path) {
+    FILE *stream = fopen(path, "rb");
+    if (!stream) return 0;
+    size_t length = fread(bytes, 1, sizeof bytes, stream);
+    int whole = !ferror(stream);
+    fclose(stream);
+    image->path = path;
+    image->kind = mpm_kind_of(length);
+    image->bytes = bytes;
+    image->length = length;
+    return whole;
+}
+
+/* ---- Entries ---- */
+
+static const uint8_t *entry_at(const struct image *image, uint32_t entry) {
+    return image->bytes + (size_t)MPM_ENTRY_LEN * entry;
+}
+
+static int is_used(const struct image *image, uint32_t entry) { return entry_at(image, entry)[0] != MPM_EMPTY; }
+
+static uint32_t extent_at(const struct image *image, uint32_t entry) {
+    const uint8_t *at = entry_at(image, entry);
+    return at[EX] + 32u * at[MODULE];
+}
+
+static uint32_t number_len(const struct image *image) { return MPM_MAP_LEN / mpm_numbers(image->kind); }
+
+/* The block number k of an entry. */
+static uint32_t number_at(const struct image *image, uint32_t entry, uint32_t k) {
+    return mpm_get(entry_at(image, entry) + MAP + number_len(image) * k, number_len(image));
+}
+
+static int is_same_file(const struct image *image, uint32_t one, uint32_t other) {
+    const uint8_t *a = entry_at(image, one), *b = entry_at(image, other);
+    for (size_t i = 1; i <= MPM_NAME_LEN; i++)
+        if ((a[i] ^ b[i]) & 0x7F) return 0;
+    return a[0] == b[0];
+}
+
+/* The name as people write it: without the blanks that fill it up, with a dot before the type if there is one. */
+static void name_of(const struct image *image, uint32_t entry, char text[TEXT]) {
+    const uint8_t *name = entry_at(image, entry) + 1;
+    size_t at = 0, name_end = NAME_PART, type_end = MPM_NAME_LEN;
+    while (name_end > 0 && (name[name_end - 1] & 0x7F) == ' ') name_end--;
+    while (type_end > NAME_PART && (name[type_end - 1] & 0x7F) == ' ') type_end--;
+    for (size_t i = 0; i < name_end; i++) text[at++] = (char)(name[i] & 0x7F);
+    if (type_end > NAME_PART) text[at++] = '.';
+    for (size_t i = NAME_PART; i < type_end; i++) text[at++] = (char)(name[i] & 0x7F);
+    text[at] = 0;
+}
+
+/* ---- What is wrong with an entry. Each says what it finds in the image for the code that the engine gave. ---- */
+
+static void say_user(const struct image *image, uint32_t entry) {
+    printf("entry %u: its first byte is %02Xh, neither a user, 0 to 15, nor E5h for an empty entry", (unsigned)entry,
+           entry_at(image, entry)[0]);
+}
+
+/* The first byte of the name that cannot be one. */
+static void say_name(const struct image *image, uint32_t entry) {
+    const uint8_t *name = entry_at(image, entry) + 1;
+    size_t i = 0;
+    while (i < MPM_NAME_LEN - 1u) {
+        uint8_t low = name[i] & 0x7F;
+        if (low < 32 || low > 126 || low == '?' || (i == 0 && low == ' ')) break;
+        i++;
+    }
+    printf("entry %u, of user %u: byte %u of its name is %02Xh, which no legal name has there", (unsigned)entry,
+           entry_at(image, entry)[0], (unsigned)i + 1, name[i]);
+}
+
+static void say_file(const struct image *image, uint32_t entry) {
+    char name[TEXT];
+    name_of(image, entry, name);
+    printf("entry %u, %s of user %u: ", (unsigned)entry, name, entry_at(image, entry)[0]);
+}
+
+static void say_number(const struct image *image, uint32_t entry) {
+    const uint8_t *at = entry_at(image, entry);
+    say_file(image, entry);
+    if (at[EX] > 31) {
+        printf("its ex is %u, over 31", at[EX]);
+    } else if (at[MODULE] > 63) {
+        printf("its module is %u, over 63", at[MODULE]);
+    } else {
+        printf("its record count is %u, over 128", at[COUNT]);
+    }
+}
+
+static void say_range(const struct image *image, uint32_t entry) {
+    uint32_t blocks = mpm_blocks(image->kind, image->length), k = 0;
+    while (k < mpm_numbers(image->kind) - 1) {
+        uint32_t block = number_at(image, entry, k);
+        if (block != 0 && (block < MPM_DIRECTORY_BLOCKS || block >= blocks)) break;
+        k++;
+    }
+    say_file(image, entry);
+    printf("block %u out of range, the drive has %u to %u for files", (unsigned)number_at(image, entry, k),
+           (unsigned)MPM_DIRECTORY_BLOCKS, (unsigned)blocks - 1);
+}
+
+/* Who named the block at place k before: an earlier entry, or the entry itself. MPM_LARGE_ENTRIES where nobody did. */
+static uint32_t named_before(const struct image *image, uint32_t entry, uint32_t k) {
+    uint32_t block = number_at(image, entry, k);
+    for (uint32_t e = 0; block != 0 && e <= entry; e++) {
+        uint32_t end = e == entry ? k : mpm_numbers(image->kind);
+        for (uint32_t i = 0; i < end && is_used(image, e); i++)
+            if (number_at(image, e, i) == block) return e;
+    }
+    return MPM_LARGE_ENTRIES;
+}
+
+static void say_block_twice(const struct image *image, uint32_t entry) {
+    uint32_t k = 0;
+    while (k < mpm_numbers(image->kind) - 1 && named_before(image, entry, k) == MPM_LARGE_ENTRIES) k++;
+    uint32_t before = named_before(image, entry, k);
+    say_file(image, entry);
+    printf("block %u named before, by ", (unsigned)number_at(image, entry, k));
+    if (before == entry) {
+        printf("the entry itself");
+    } else {
+        printf("entry %u", (unsigned)before);
+    }
+}
+
+static void say_extent_twice(const struct image *image, uint32_t entry) {
+    uint32_t e = 0;
+    while (e < entry && !(is_used(image, e) && is_same_file(image, e, entry) &&
+                          extent_at(image, e) == extent_at(image, entry)))
+        e++;
+    say_file(image, entry);
+    printf("extent %u named before, by entry %u", (unsigned)extent_at(image, entry), (unsigned)e);
+}
+
+static void say_no_extent_0(const struct image *image, uint32_t entry) {
+    say_file(image, entry);
+    printf("extent %u of a file without an extent 0", (unsigned)extent_at(image, entry));
+}
+
+/* ---- Verbs ---- */
+
+static void say_length(const struct image *image) {
+    if (image->length == sizeof bytes) {
+        printf("over %u bytes, longer than any drive", (unsigned)image->length - 1);
+    } else {
+        printf("%u bytes, no drive's length", (unsigned)image->length);
+    }
+}
+
+/* The line's end for an image, and whether it is sound. */
+static int say_check(const struct image *image, uint32_t check) {
+    static void (*const say[])(const struct image *, uint32_t) = {
+        0, 0, say_user, say_name, say_number, say_range, say_block_twice, say_extent_twice, say_no_extent_0};
+    uint32_t code = mpm_check_code(check), entry = mpm_check_entry(check);
+    if (check == MPM_CHECK_SOUND) {
+        printf("sound");
+    } else if (check == MPM_CHECK_WRONG_LENGTH) {
+        say_length(image);
+    } else if (code > MPM_CHECK_NO_EXTENT_0 || code < MPM_CHECK_BAD_USER || entry >= mpm_entries(image->kind)) {
+        printf("%s (%u)", mpm_check_text(check), (unsigned)check);
+    } else {
+        say[code](image, entry);
+    }
+    return check == MPM_CHECK_SOUND ? DONE : UNSOUND;
+}
+
+static int check_image(const char *path) {
+    struct image image;
+    if (!load(&image, path)) return fail(path, "cannot be read");
+    uint32_t check = mpm_check(image.kind, image.bytes, image.length);
+    printf("%s: ", path);
+    int status = say_check(&image, check);
+    printf("\n");
+    return status;
+}
+
+static int check_all(int count, char **words) {
+    int status = DONE;
+    for (int i = 0; i < count; i++) {
+        int of_one = check_image(words[i]);
+        if (of_one > status) status = of_one;
+    }
+    return status;
+}
+
+static const struct verb {
+    const char *word;
+    const char *words; /* what stands behind it */
+    int least, most;   /* how many; a most of 0 is any number */
+    int (*run)(int count, char **words);
+} verbs[] = {
+    {"check", "IMAGE..", 1, 0, check_all},
+};
+
+static int wrong_use(void) {
+    for (size_t i = 0; i < sizeof verbs / sizeof verbs[0]; i++)
+        fprintf(stderr, "use: book %s %s\n", verbs[i].word, verbs[i].words);
+    return FAILED;
+}
+
+int main(int argc, char **argv) {
+    for (size_t i = 0; argc > 1 && i < sizeof verbs / sizeof verbs[0]; i++) {
+        const struct verb *verb = &verbs[i];
+        if (strcmp(argv[1], verb->word) != 0) continue;
+        if (argc - 2 < verb->least || (verb->most != 0 && argc - 2 > verb->most)) return wrong_use();
+        return verb->run(argc - 2, argv + 2);
+    }
+    return wrong_use();
+}

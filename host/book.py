@@ -1,0 +1,176 @@
+"""The desk's program on images that are damaged in each way, on both kinds of drive: one line for each, as it has to be,
+and its exit status.
+
+book.py FOLDER BOOK..
+
+BOOK.. is the command of book. FOLDER is for the images. Exit status: 0 if all was well, 1 if not."""
+
+import os
+import subprocess
+import sys
+
+ENTRY = 32
+SOUND, UNSOUND, FAILED = 0, 1, 2
+
+
+class Kind:
+    def __init__(self, block, blocks, entries, width):
+        self.block, self.blocks, self.entries, self.width = block, blocks, entries, width
+        self.numbers = 16 // width
+
+    def length(self):
+        return self.block * self.blocks
+
+
+SMALL = Kind(1024, 64, 64, 1)
+LARGE = Kind(2048, 300, 128, 2)
+
+
+def eleven(text):
+    name, _, kind = text.partition(".")
+    return (name.ljust(8) + kind.ljust(3)).encode()
+
+
+def entry(user, name, extent=0, count=1):
+    """An entry without blocks."""
+    return bytearray([user]) + eleven(name) + bytes([extent % 32, 0, extent // 32, count]) + bytes(16)
+
+
+class Image:
+    """An image with entries of three files: BUDGET.DAT of user 3 in the entries 5 and 9, and others."""
+
+    def __init__(self, kind):
+        self.kind = kind
+        self.bytes = bytearray(b"\xe5") * kind.length()
+        self.put(5, entry(3, "BUDGET.DAT", 0, 128), {0: 44, 1: 45})
+        self.put(9, entry(3, "BUDGET.DAT", 33, 7), {0: 46})
+        self.put(0, entry(0, "ORDERS"), {0: 47})
+
+    def put(self, at, bytes_of, blocks=None):
+        self.bytes[ENTRY * at : ENTRY * (at + 1)] = bytes_of
+        for index, block in (blocks or {}).items():
+            self.name_block(at, index, block)
+        return self
+
+    def name_block(self, at, index, block):
+        to = ENTRY * at + 16 + self.kind.width * index
+        self.bytes[to : to + self.kind.width] = block.to_bytes(self.kind.width, "little")
+        return self
+
+    def poke(self, at, offset, byte):
+        self.bytes[ENTRY * at + offset] = byte
+        return self
+
+
+def damages(kind):
+    """What is done to an image, and the line that has to be said."""
+    last, past = kind.entries - 1, kind.blocks
+    range_of = f"the drive has 2 to {past - 1} for files"
+    first_byte = "neither a user, 0 to 15, nor E5h for an empty entry"
+    no_name = "which no legal name has there"
+    budget = "BUDGET.DAT of user 3"
+    image = lambda: Image(kind)
+    yield image(), "sound"
+    yield image().poke(5, 0, 16), f"entry 5: its first byte is 10h, {first_byte}"
+    yield image().put(last, entry(255, "A")), f"entry {last}: its first byte is FFh, {first_byte}"
+    yield image().poke(5, 1, 32), f"entry 5, of user 3: byte 1 of its name is 20h, {no_name}"
+    yield image().poke(5, 3, 0xBF), f"entry 5, of user 3: byte 3 of its name is BFh, {no_name}"
+    yield image().poke(5, 11, 0x7F), f"entry 5, of user 3: byte 11 of its name is 7Fh, {no_name}"
+    yield image().poke(9, 12, 32), f"entry 9, {budget}: its ex is 32, over 31"
+    yield image().poke(9, 14, 64), f"entry 9, {budget}: its module is 64, over 63"
+    yield image().poke(9, 15, 129), f"entry 9, {budget}: its record count is 129, over 128"
+    yield image().name_block(5, 3, 1), f"entry 5, {budget}: block 1 out of range, {range_of}"
+    yield image().name_block(9, 7, past), f"entry 9, {budget}: block {past} out of range, {range_of}"
+    yield image().name_block(9, 7, 44), f"entry 9, {budget}: block 44 named before, by entry 5"
+    yield image().name_block(9, 7, 47), f"entry 9, {budget}: block 47 named before, by entry 0"
+    yield image().name_block(9, 7, 46), f"entry 9, {budget}: block 46 named before, by the entry itself"
+    yield (
+        image().put(17, entry(3, "BUDGET.NEW", 0, 1), {2: 44}),
+        "entry 17, BUDGET.NEW of user 3: block 44 named before, by entry 5",
+    )
+    yield (
+        image().put(2, entry(0, "A"), {0: 46}),
+        f"entry 9, {budget}: block 46 named before, by entry 2",
+    )
+    yield (
+        image().put(17, entry(3, "BUDGET.DAT", 33)).poke(17, 2, ord("U") + 128),
+        f"entry 17, {budget}: extent 33 named before, by entry 9",
+    )
+    yield image().poke(5, 0, 0xE5), f"entry 9, {budget}: extent 33 of a file without an extent 0"
+    yield (
+        image().put(last, entry(15, "A B.C", 2047)),
+        f"entry {last}, A B.C of user 15: extent 2047 of a file without an extent 0",
+    )
+    # Two things wrong: the lower entry, in it the earlier reason, and a missing extent 0 last of all.
+    yield image().name_block(5, 3, 44).poke(9, 0, 77), f"entry 5, {budget}: block 44 named before, by the entry itself"
+    yield image().name_block(5, 3, 44).name_block(5, 4, 1), f"entry 5, {budget}: block 1 out of range, {range_of}"
+    yield image().put(1, entry(1, "TAIL", 4)).poke(9, 14, 64), f"entry 9, {budget}: its module is 64, over 63"
+
+
+def lengths():
+    for length in (0, 1, 2048, 65535, 65537, 262145, 256 * 2048, 4096 * 2048 - 1):
+        yield bytes(length), f"{length} bytes, no drive's length"
+    for length in (4096 * 2048 + 1, 4097 * 2048):
+        yield bytes(length), "over 8388608 bytes, longer than any drive"
+
+
+class Desk:
+    def __init__(self, folder, command):
+        self.folder, self.command, self.images, self.faults = folder, command, 0, 0
+
+    def keep(self, content):
+        path = os.path.join(self.folder, f"image-{self.images}")
+        self.images += 1
+        with open(path, "wb") as stream:
+            stream.write(content)
+        return path
+
+    def says(self, words, lines, status, errors=""):
+        done = subprocess.run([*self.command, *words], capture_output=True, text=True)
+        said = (done.stdout.splitlines(), done.returncode, done.stderr)
+        if said != (lines, status, errors):
+            self.faults += 1
+            for got, wanted in zip(said[0] + [""] * len(lines), lines + [""] * len(said[0])):
+                if got != wanted:
+                    print(f"FAULT: said {got!r}, not {wanted!r}")
+            print(f"FAULT: book {' '.join(words)[:80]}: exit status {done.returncode}, to be {status} {done.stderr}")
+
+
+def check(desk):
+    kept = [(desk.keep(image.bytes), line) for kind in (SMALL, LARGE) for image, line in damages(kind)]
+    kept += [(desk.keep(content), line) for content, line in lengths()]
+    all_lines = [f"{path}: {line}" for path, line in kept]
+    desk.says(["check", *(path for path, _ in kept)], all_lines, UNSOUND)
+    sound = [line for line in all_lines if line.endswith(": sound")]
+    sound_paths = [path for path, line in kept if line == "sound"]
+    desk.says(["check", *sound_paths], sound, SOUND)
+    (bad, why), missing = kept[1], os.path.join(desk.folder, "none")
+    desk.says(["check", sound_paths[0], bad], [f"{sound_paths[0]}: sound", f"{bad}: {why}"], UNSOUND)
+    for unreadable in (missing, desk.folder):
+        lines = [f"{bad}: {why}", f"{unreadable}: cannot be read", f"{sound_paths[0]}: sound"]
+        desk.says(["check", bad, unreadable, sound_paths[0]], lines, FAILED)
+    # What it looks at stays as it was.
+    for (path, _), content in zip(kept, (image.bytes for kind in (SMALL, LARGE) for image, _ in damages(kind))):
+        with open(path, "rb") as stream:
+            if stream.read() != content:
+                desk.faults += 1
+                print(f"FAULT: {path} has changed")
+
+
+def wrong_use(desk):
+    use = "use: book check IMAGE..\n"
+    for words in ([], ["check"], ["chekc", "x"], ["-h"]):
+        desk.says(words, [], FAILED, use)
+
+
+def main():
+    desk = Desk(sys.argv[1], sys.argv[2:])
+    check(desk)
+    wrong_use(desk)
+    if desk.faults == 0:
+        print(f"book says what it has to of {desk.images} images")
+    return 0 if desk.faults == 0 else 1
+
+
+if __name__ == "__main__":
+    sys.exit(main())
