@@ -144,6 +144,29 @@ static void all_functions(uint32_t kind) {
     save();
 }
 
+/* A file deleted by the one who has it open: locked, read-only, and unlocked with locks, alone and beside another. */
+static void own_files_deleted(uint32_t kind) {
+    set_drive(kind, fewest(kind, 4));
+    call(0, MPM_FN_MAKE, A, 0, 1, 0);
+    call(0, MPM_FN_WRITE_ZEROS, A, 3, 1, 0);
+    call(1, MPM_FN_DELETE, A, 0, 1, 0);
+    call(0, MPM_FN_DELETE, A, 0, 1, 0);
+    call(0, MPM_FN_MAKE, A_UNLOCKED, 0, 1, 0);
+    call(0, MPM_FN_WRITE_ZEROS, A, 3, 1, 0);
+    call(0, MPM_FN_MAKE, C, 0, 1, 0);
+    call(0, MPM_FN_LOCK, A, 2, 3, 0);
+    call(1, MPM_FN_OPEN, A_UNLOCKED, 0, 1, 0);
+    call(0, MPM_FN_DELETE, A, 0, 1, 0);
+    call(1, MPM_FN_CLOSE, A, 0, 1, 0);
+    call(0, MPM_FN_RENAME, A, 0, 1, 0);
+    call(0, MPM_FN_DELETE, A, 0, 1, 0);
+    call(0, MPM_FN_FREE_SPACE, A, 0, 1, 0);
+    call(0, MPM_FN_TERMINATE, A, 0, 1, 0);
+    call(1, MPM_FN_OPEN, C, 0, 1, 0);
+    call(1, MPM_FN_DELETE, C, 0, 1, 0);
+    save();
+}
+
 /* A directory and a list as they may stand after a while, each process from 4 on with a user of its own. */
 static void put_files_in_use(uint32_t kind) {
     set_drive(kind, fewest(kind, 16));
@@ -412,6 +435,7 @@ static void wrong_numbers(void) {
 static void seeds_of(uint32_t kind) {
     two_clerks(kind);
     all_functions(kind);
+    own_files_deleted(kind);
     files_in_use(kind);
     broken_bytes(kind);
     runs(kind);

@@ -17,6 +17,8 @@ enum {
     WRONG_CODE,
     SHORT_FCB,
     OTHER_SINGLY,
+    KEEPS_OWN_OPEN,    /* 19 leaves the caller's open and locks where they were */
+    REFUSES_OWN_OPEN,  /* 19 refuses the caller's own open too */
     HIGH_BYTE_DROPPED, /* stores a block number of two bytes without the second */
     BLOCK_4097,        /* takes a large drive of 4,097 blocks */
     SIXTEEN_NUMBERS,   /* 33 reads a large drive's eight block numbers as sixteen of one byte */
@@ -95,15 +97,31 @@ static void put_locks_back(uint8_t *list, const uint8_t *old) {
         if (old[at] == MPM_MARK_LOCK % 256u) memcpy(list + at, old + at, MPM_PLACE_LEN);
 }
 
+/* A Delete that would take the caller's open away: on copies, a Close goes through before it, and then the Delete. */
+static bool refuses_own(struct lent c) {
+    static uint8_t list[MPM_LIST_LEN], image[MPM_LARGE_MAX_BLOCKS * MPM_LARGE_BLOCK_LEN];
+    if (c.function != MPM_FN_DELETE || c.list_len != sizeof list || c.image_len > sizeof image) return false;
+    memcpy(list, c.list, sizeof list);
+    memcpy(image, c.image, c.image_len);
+    c.list = list;
+    c.image = image;
+    c.function = MPM_FN_CLOSE;
+    if (call(&c) != MPM_OK) return false;
+    c.function = MPM_FN_DELETE;
+    return call(&c) == MPM_OK;
+}
+
 static uint32_t bad_call(struct lent c) {
     uint8_t old[MPM_LIST_LEN];
     if (c.list_len == sizeof old) memcpy(old, c.list, sizeof old);
+    if (SPOILED == REFUSES_OWN_OPEN && refuses_own(c)) return MPM_ERR_IN_USE;
     if (SPOILED == NO_ZERO_FILL && c.function == MPM_FN_WRITE_ZEROS) c.function = MPM_FN_WRITE;
     if (SPOILED == SHORT_LOCK && c.function == MPM_FN_LOCK && c.count == MPM_MAX_COUNT) c.count--;
     if (SPOILED == SHORT_FCB && c.function == MPM_FN_READ && c.fcb_len == MPM_FCB_LEN) c.fcb = short_copy(c.fcb);
     uint32_t answer = call(&c);
     if (SPOILED == WRITES_AT_REFUSAL && answer == MPM_ERR_LOCKED) c.dma[MPM_DMA_LEN - 1] ^= 1;
     if (SPOILED == LEAVES_LOCKS && c.function == MPM_FN_CLOSE && answer == MPM_OK) put_locks_back(c.list, old);
+    if (SPOILED == KEEPS_OWN_OPEN && c.function == MPM_FN_DELETE && answer == MPM_OK) memcpy(c.list, old, sizeof old);
     if (SPOILED == WRONG_CODE && c.function == MPM_FN_READ && answer == MPM_ERR_PAST_END) answer = MPM_ERR_NO_EXTENT;
     return answer;
 }

@@ -1,5 +1,5 @@
-"""The desk's program on images that are damaged in each way, on both kinds of drive: one line for each, as it has to be,
-and its exit status.
+"""The desk's program on images that are damaged in each way, on both kinds of drive: one line for each, as it has to
+be, and its exit status.
 
 book.py FOLDER BOOK..
 

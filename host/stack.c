@@ -76,7 +76,9 @@ static int measure_kind(uint32_t kind, size_t image_len) {
     return good && mpm_set_name(fcb + MPM_FCB_NEW_NAME, "OLD.DAT") == MPM_NAMING_OK &&
            measure_call("23 Rename", MPM_FN_RENAME, 1, 1, call) &&
            mpm_set_fcb(fcb, "OLD.DAT", MPM_MODE_LOCKED) == MPM_NAMING_OK &&
-           measure_call("19 Delete", MPM_FN_DELETE, 1, 1, call);
+           measure_call("19 Delete", MPM_FN_DELETE, 1, 1, call) &&
+           measure_call("22 Make", MPM_FN_MAKE, 1, 1, call) &&
+           measure_call("19 Delete, open by the caller", MPM_FN_DELETE, 1, 1, call);
 }
 
 int main(void) {

@@ -1,6 +1,7 @@
 /* The story of an order book. Clerks share the file ORDERS.DAT on one drive. One of them locks a long run of order
    lines and dies. Another is held up until the host takes back what the dead one held. A third reads a screen of
-   sixteen lines in one call, and writes several in one call until it meets a line that is locked.
+   sixteen lines in one call, and writes several in one call until it meets a line that is locked. At night the import
+   makes a work file and deletes it while it has it open.
 
    story FOLDER [small|large]: makes FOLDER/ORDERS.BOOK (save.h) with a drive of that kind (small), plays the story on
    it and prints every step with its answer. The steps are the same on both, but for the numbers of lines that lie in a
@@ -43,6 +44,9 @@ struct step {
 };
 
 static const uint8_t file[] = "ORDERS  DAT";
+static const char *const ORDERS = "ORDERS.DAT", *const WORK = "WORK.$$$";
+static const char *used_file; /* one of these: the steps' file, and its mode */
+static uint32_t used_mode;
 static uint32_t kind, blocks; /* of the drive */
 static struct buffers now, before, singly, told;
 static uint8_t lines[MOST_LINES][MPM_RECORD_LEN]; /* what each line must hold */
@@ -170,7 +174,7 @@ static uint32_t done_of(const struct step *step, uint32_t answer) {
 }
 
 static void fill_fcb(uint32_t line) {
-    mpm_set_fcb(now.fcb, "ORDERS.DAT", MPM_MODE_UNLOCKED);
+    mpm_set_fcb(now.fcb, used_file, used_mode);
     mpm_set_record(now.fcb, line);
 }
 
@@ -251,7 +255,7 @@ static uint32_t call(const struct step *step) {
     if (lend(mpm_singly, kind, step, &singly) != mpm_code(answer) || memcmp(&singly, &now, sizeof now) != 0)
         fault("single calls do otherwise");
     if (answer != MPM_OK || goes_by_lines(step->function)) check_trace(step, done);
-    for (uint32_t i = 0; i < done && is_write(step->function); i++) {
+    for (uint32_t i = 0; i < done && is_write(step->function) && used_file == ORDERS; i++) {
         compose(lines[step->first + i], step->first + i, step->process);
         give_block(step->first + i);
     }
@@ -289,7 +293,12 @@ static void show_lines(const struct step *step, uint32_t answer) {
 static void show_effect(const struct step *step) {
     switch (step->function) {
     case MPM_FN_OPEN:
-    case MPM_FN_MAKE: show_file_id(step); break;
+    case MPM_FN_MAKE:
+        if (used_mode == MPM_MODE_UNLOCKED)
+            show_file_id(step);
+        else
+            printf("\n");
+        break;
     case MPM_FN_FREE_SPACE: show_free_records(); break;
     default: printf("\n");
     }
@@ -434,6 +443,11 @@ static void start_list(void) {
     expect_answer(0, answer, MPM_OK);
 }
 
+static void use_file(const char *name, uint32_t mode) {
+    used_file = name;
+    used_mode = mode;
+}
+
 static void morning(void) {
     static const struct step all[] = {
         {OFFICE, MPM_FN_MAKE, "makes ORDERS.DAT", 0, 0, MPM_OK, 0},
@@ -507,6 +521,20 @@ static void evening(void) {
     play_all(all, COUNT(all));
 }
 
+/* The work file takes one block or two, and gives them back. */
+static void night(void) {
+    static const struct step all[] = {
+        {OFFICE, MPM_FN_MAKE, "makes WORK.$$$, locked, for the import", 0, 0, MPM_OK, 0},
+        {OFFICE, MPM_FN_WRITE_ZEROS, "writes lines 0 to 9 of it", 0, 9, MPM_OK, 0},
+        {CLERK_2, MPM_FN_DELETE, "deletes it: the office has it open", 0, 0, MPM_ERR_IN_USE, 0},
+        {OFFICE, MPM_FN_DELETE, "deletes it, open as it is", 0, 0, MPM_OK, 0},
+        {OFFICE, MPM_FN_FREE_SPACE, "asks for the free space", 0, 0, MPM_OK, 0},
+    };
+    use_file(WORK, MPM_MODE_LOCKED);
+    play_all(all, COUNT(all));
+    use_file(ORDERS, MPM_MODE_UNLOCKED);
+}
+
 static void look_at_lines(void) {
     static const uint32_t some[] = {0, 1, 3, 4, 5, 6, 7, 8, 11, 12, 23};
     printf("\nWhat Look shows of ORDERS.DAT\n  line  begins at  text\n");
@@ -526,6 +554,7 @@ static int tell(const char *path) {
     snprintf(words, sizeof words, "makes ORDERS.BOOK of %u blocks; checks it", (unsigned)blocks);
     if (!make_book(path, words)) return 0;
     start_list();
+    use_file(ORDERS, MPM_MODE_UNLOCKED);
     morning();
     show_list("before the death", 12);
     printf("\nClerk 1's program dies. Nothing tells the engine, so nothing changes.\n");
@@ -538,8 +567,9 @@ static int tell(const char *path) {
     show_list("while clerks 2 and 3 go on", 5);
     print_head();
     evening();
+    night();
     if (!keep_book(path, "writes ORDERS.BOOK, reads it again; checks it")) return 0;
-    show_list("in the evening", 0);
+    show_list("at night", 0);
     look_at_lines();
     return 1;
 }

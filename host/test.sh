@@ -203,6 +203,8 @@ with_the_kit() {
     try "a run that clears what it wrote is seen" sees_a_fault CLEARS_AGAIN small
     try "a run that moves the FCB on is seen" sees_a_fault MOVES_FCB small
     try "a plain engine that answers otherwise is seen" sees_a_fault OTHER_SINGLY small
+    try "a Delete that leaves the caller's open is seen" sees_a_fault KEEPS_OWN_OPEN small
+    try "a Delete that refuses the caller's open is seen" sees_a_fault REFUSES_OWN_OPEN large
     try "a run that clears what it wrote is seen on a large drive" sees_a_fault CLEARS_AGAIN large
     try "numbers of two bytes read as twice as many of one are seen" sees_a_fault SIXTEEN_NUMBERS large
     try "a large drive's free space with eight to a block is seen" sees_a_fault FREE_BY_EIGHT large

@@ -109,7 +109,8 @@ static inline uint32_t mpm_book_call(struct mpm_book *book, uint32_t function, u
 /* 16: takes away the caller's open of a file and its locks on it.
    CLOSE_NOT_OPEN */
 #define MPM_FN_CLOSE 16u
-/* 19: empties each entry of a file.
+/* 19: empties each entry of a file. Where only the caller has it open, in any mode, takes away that open and the
+   caller's locks on it as 16 does; where another process has it open, refused.
    BAD_NAME, NOT_FOUND, IN_USE, READ_ONLY */
 #define MPM_FN_DELETE 19u
 /* 22: makes a file with no records in the lowest empty entry and opens it as 15 does, locked or unlocked.
@@ -184,7 +185,7 @@ static inline uint32_t mpm_done(uint32_t answer, uint32_t count) {
 /* 255/3: 19, 23: the file has the read-only attribute; 34, 40, 41: it has, or the caller has it open read-only */
 #define MPM_ERR_READ_ONLY MPM_ANSWER(255u, 3u)
 /* 255/5: 15: the caller has it open in another mode, or another process's open cannot stand beside this one;
-          19, 23: open by anybody, the caller too */
+          19: another process has it open; 23: open by anybody, the caller too */
 #define MPM_ERR_IN_USE MPM_ANSWER(255u, 5u)
 /* 255/6: 16: the caller has it not open */
 #define MPM_ERR_CLOSE_NOT_OPEN MPM_ANSWER(255u, 6u)

@@ -1,7 +1,8 @@
 /* A host that works on an image file by commands; run.sh holds what it does against cpmtools.
 
    book KIND IMAGE COMMANDS..: takes the image for a drive of this kind, 0 or 1, whatever its length is, does the
-   commands in order, all in one session with one lock list, and then writes the image back if it has changed. Process 0 has user 0, process 1 user 1 and so on: a command's user is its process too.
+   commands in order, all in one session with one lock list, and then writes the image back if it has changed. Process 0
+   has user 0, process 1 user 1 and so on: a command's user is its process too.
 
      check                             prints what the image check answers: sound, wrong length, or code and entry
      free                              prints the number of free records (46)

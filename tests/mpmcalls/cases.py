@@ -116,7 +116,7 @@ SESSION = [
     call(LOCK, 1, fcb(0), dma(0), count=2),      # S10  12/0
     call(TERMINATE, 1, fcb(), dma(0)),           # S11  0/0   places 0, 2 empty
     call(LOCK, 2, fcb(8), dma(1)),               # S12  0/0   place 0
-    call(DELETE, 2, fcb(), dma(1)),              # S13  255/5
+    call(DELETE, 2, fcb(), dma(1)),              # S13  0/0   places 0, 1 empty
 ]
 
 SESSION_6 = """\
@@ -146,19 +146,21 @@ call process function A H
 10 1 42 12 0
 11 1 143 0 0
 12 2 42 0 0
-13 2 19 255 5
+13 2 19 0 0
 end 14
 """
 
 # S2: block 2 in map byte 0, its first record all zeros (the DMA of process 1). S5: block 3 in map byte 1, its first record
 # 01 and zeros (the File ID of process 2 in its DMA); record 8 is place 8 of its extent, so the count is 9. Function 34 leaves
-# the other seven records of a block as they were. No later call of the session changes the image.
+# the other seven records of a block as they were. No other call of the session changes the image but S13, which empties
+# the entry.
 SESSION_OUT = written(
     blank(4),
     (0, entry(count=9, blocks=[(0, 2), (1, 3)])),
     (2 * 1024, bytes(128)),
     (3 * 1024, bytes([1]) + bytes(127)),
 )
+SESSION_13_OUT = written(SESSION_OUT, (0, b"\xe5"))
 
 # Record 262,143: extent 2,047, so ex 31 and module 63; place 127, so the last map byte and count 128. The extent is missing
 # and takes the lowest empty entry, 1; the block the lowest free one, 2; the record is the last of its eight.
@@ -199,8 +201,8 @@ def lines(*answers):
 
 # the session
 Case("S0 to S6", blank(4), [start(), *SESSION[:7]], SESSION_6, SESSION_OUT)
-Case("S0 to S13", blank(4), [start(), *SESSION], SESSION_13, SESSION_OUT)
-Case("S0 to S13 over a longer DISK.OUT", blank(4), [start(), *SESSION], SESSION_13, SESSION_OUT, old=bytes(10000))
+Case("S0 to S13", blank(4), [start(), *SESSION], SESSION_13, SESSION_13_OUT)
+Case("S0 to S13 over a longer DISK.OUT", blank(4), [start(), *SESSION], SESSION_13, SESSION_13_OUT, old=bytes(10000))
 Case("S0, seven bytes at a time", blank(4), [start(), SESSION[0]], lines("0 1 22 0 0", "end 1"), MADE_4, chunk=7)
 Case("S0 to S6, 61 bytes at a time", blank(4), [start(), *SESSION[:7]], SESSION_6, SESSION_OUT, chunk=61)
 Case("S0 to S6, 2,090 bytes at a time", blank(4), [start(), *SESSION[:7]], SESSION_6, SESSION_OUT, chunk=2090)

@@ -385,6 +385,14 @@ static bool any_open(const struct locks *l, const struct file *f) {
     return false;
 }
 
+static bool open_by_other(const struct job *j) {
+    for (size_t i = 0; i < PLACES; i++) {
+        const struct item *it = &j->locks.items[i];
+        if (it->kind == OPEN && it->process != j->process && is_on(&j->locks, it, &j->file)) return true;
+    }
+    return false;
+}
+
 static bool any_against(const struct job *j, uint8_t mode) {
     for (size_t i = 0; i < PLACES; i++) {
         const struct item *it = &j->locks.items[i];
@@ -507,13 +515,18 @@ static uint32_t make_file(struct job *j) {
     return open_new(j, e, j->fcb[5] >= 128 ? UNLOCKED : LOCKED);
 }
 
-static uint32_t close_file(struct job *j) {
-    if (own_open(j) == PLACES) return MPM_ERR_CLOSE_NOT_OPEN;
+/* The caller's open of the file and its locks on it. */
+static void give_up_file(struct job *j) {
     for (size_t i = 0; i < PLACES; i++) {
         struct item *it = &j->locks.items[i];
         if (it->kind != EMPTY && it->process == j->process && same_name(it->name, j->file.name)) take_away(it);
     }
     pack(&j->locks, j->list);
+}
+
+static uint32_t close_file(struct job *j) {
+    if (own_open(j) == PLACES) return MPM_ERR_CLOSE_NOT_OPEN;
+    give_up_file(j);
     return MPM_OK;
 }
 
@@ -521,10 +534,11 @@ static uint32_t delete_file(struct job *j) {
     if (!legal_name(j->fcb + 1)) return MPM_ERR_BAD_NAME;
     size_t e = entry_of(&j->drive, &j->file, 0);
     if (e == ENTRIES) return MPM_ERR_NOT_FOUND;
-    if (any_open(&j->locks, &j->file)) return MPM_ERR_IN_USE;
+    if (open_by_other(j)) return MPM_ERR_IN_USE;
     if (entry_at(&j->drive, e)[9] >= 128) return MPM_ERR_READ_ONLY;
     for (e = 0; e < ENTRIES; e++)
         if (is_of(entry_at(&j->drive, e), &j->file)) entry_at(&j->drive, e)[0] = MPM_EMPTY;
+    if (own_open(j) != PLACES) give_up_file(j);
     return MPM_OK;
 }
 

@@ -29,7 +29,7 @@ pub fn serve(
     match routine {
         Routine::Open => files::open::open_file(kind, p, l, fcb, &*dma, list, &*image),
         Routine::Close => files::close::close_file(kind, p, l, &*fcb, &*dma, list, &*image),
-        Routine::Delete => files::delete::delete_file(kind, p, l, &*fcb, &*dma, &*list, image),
+        Routine::Delete => files::delete::delete_file(kind, p, l, &*fcb, &*dma, list, image),
         Routine::Make => files::make::make_file(kind, p, l, fcb, &*dma, list, image),
         Routine::Rename => files::rename::rename_file(kind, p, l, &*fcb, &*dma, &*list, image),
         Routine::Read => records::read::read_random(kind, p, l, &*fcb, dma, &*list, &*image),

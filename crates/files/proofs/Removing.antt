@@ -1,55 +1,77 @@
 -- 19 and 23: the outcome at each end of their routines. Assumes nothing.
-use Prim.Native.Nat.{ℕ}
+use Prim.Native.Nat.{ℕ, _≤_, _<_}
 use mathlib.Core.Path.{_≡_, refl, ap, _∙_}
-use mathlib.Core.Bool.{true}
+use mathlib.Core.Bool.{Bool, true, false, not}
 use mathlib.Core.List.{List}
 use native.Mathlib.Omega.{arith}
 use lib.ListN.{getD}
-use borrow.Author.Tests.{lt-ltb}
-use Rattle.words.specs.Tests.{all}
+use lib.Dec.{eqb}
+use borrow.Author.Tests.{lt-ltb, le-ltb}
+use Rattle.words.specs.Tests.{_and_, _or_, _if_else_, all, any}
 use Rattle.words.specs.Bytes.{lowFrom}
 use Rattle.words.specs.Lists.{tab}
 use Rattle.words.specs.Tables.{firstOf}
-use Rattle.words.proofs.Tests.{all-make}
+use Rattle.words.proofs.Tests.{all-make, any-ext}
 use Rattle.words.proofs.Lists.{tab-at}
 use Rattle.rules.specs.declared.file.File.{File}
 use Rattle.rules.specs.declared.file.Found.{Found}
 use Rattle.rules.specs.declared.list.LockList.{LockList}
 use Rattle.rules.specs.declared.routine.Chosen.the-variants.{Call}
-use Rattle.rules.specs.Serves.{Buffers, Did, withImage}
+use Rattle.rules.specs.Serves.{Buffers, Did, buffers, withImage}
 use Rattle.rules.specs.Drive.{lookUp, fileFrom}
-use Rattle.rules.specs.Locks.{unpack, isLow}
+use Rattle.rules.specs.Locks.{itemAt, unpack, pack, isOpened, opensFileAt, openOf, isLow}
 use Rattle.rules.specs.Asks.{callerFile, newFile, recordOf}
 use Rattle.rules.specs.Call.{askedBy, rowsOf, effectOf, served}
 use Rattle.rules.proofs.Ends.{did-as, did-refuse, did-pass, served-as, did-left}
 use Rattle.rules.specs.declared.routine.Routine.the-variants.{Delete, Rename}
-use Rattle.rules.specs.Codes.{rows19, rows23}
-use Rattle.rules.specs.Effects.{erased, renamed, does19, does23}
+use Rattle.rules.specs.Codes.{standsAgainst, standsAgainstAt, opensElsewhereAt, stopsDelete, rows19, rows23}
+use Rattle.rules.specs.Effects.{erased, renamed, closed, closedWhere, does19, does23}
 use Rattle.files.specs.By.{by19, by23}
 use Rattle.rules.specs.declared.kind.Kind.{Kind}
 
--- ---- the ends of 19
+-- ---- 19
 
-module _ (kind : Kind) (l : LockList) (f : File) (b : Buffers) (x : Found) (c : ℕ) (hx : x ≡ lookUp kind (b .image) f)
-    (hc : c ≡ firstOf (rows19 kind l f x (b .fcb) (b .image))) where
-  table : c ≡ firstOf (rows19 kind l f (lookUp kind (b .image) f) (b .fcb) (b .image))
-  table = hc ∙ ap (λ (y : Found). firstOf (rows19 kind l f y (b .fcb) (b .image))) hx
+-- an open by another process stands against any locked one, and no other does
+pub elsewhere-against : (p : ℕ) (l : LockList) (f : File) (r : Bool) → r ≡ any (standsAgainstAt l p f 0) 64 → r ≡ stopsDelete p l f
+unfolding stopsDelete
+elsewhere-against p l f r h = h ∙ any-ext (standsAgainstAt l p f 0) (opensElsewhereAt l p f) 64 (λ i m. unfold standsAgainstAt standsAgainst opensElsewhereAt in
+    ap (λ (t : Bool). opensFileAt l f i and t) (against (not (eqb (itemAt l i .process) p)) (not (eqb (itemAt l i .mode) 0))))
+  where
+    against : (x y : Bool) → (x and (true or y)) ≡ x
+    against true y = unfold _and_ _or_ in refl
+    against false y = unfold _and_ in refl
 
-  pub delete-refused : (c ≡ 0 → ⊥) → Did (by19 kind l f b) c b
+-- the list left: where the caller has the file not open, and where it has
+pub where-same : (p : ℕ) (l : LockList) (o : ℕ) (f : File) (list : List ℕ) → 64 ≤ o → list ≡ closedWhere p l o f list
+unfolding closedWhere isOpened _if_else_
+where-same p l o f list h = rw (le-ltb _ _ h) refl
+
+pub where-closed : (p : ℕ) (l m : LockList) (o : ℕ) (f : File) (list after : List ℕ) → o < 64 → m ≡ closed p f l → after ≡ pack m
+    → after ≡ closedWhere p l o f list
+unfolding closedWhere isOpened _if_else_
+where-closed p l m o f list after h hm hp = hp ∙ ap pack hm ∙ rw (lt-ltb _ _ h) refl
+
+module _ (kind : Kind) (p : ℕ) (l : LockList) (o : ℕ) (f : File) (b : Buffers) (x : Found) (c : ℕ) (hx : x ≡ lookUp kind (b .image) f)
+    (hc : c ≡ firstOf (rows19 kind p l f x (b .fcb) (b .image))) where
+  table : c ≡ firstOf (rows19 kind p l f (lookUp kind (b .image) f) (b .fcb) (b .image))
+  table = hc ∙ ap (λ (y : Found). firstOf (rows19 kind p l f y (b .fcb) (b .image))) hx
+
+  pub delete-refused : (c ≡ 0 → ⊥) → Did (by19 kind p l o f b) c b
   unfolding by19
   delete-refused n = did-refuse _ b _ c table n
 
-  pub delete-done : (image : List ℕ) → c ≡ 0 → image ≡ erased kind f (b .image) → Did (by19 kind l f b) 0 (withImage b image)
+  pub delete-done : (image list : List ℕ) → c ≡ 0 → image ≡ erased kind f (b .image) → list ≡ closedWhere p l o f (b .list)
+      → Did (by19 kind p l o f b) 0 (buffers (b .fcb) (b .dma) list image)
   unfolding by19 does19
-  delete-done image z h =
+  delete-done image list z h k =
       did-pass _ b _ c table 0 _ z
-      (did-left refl refl refl refl h)
+      (did-left refl refl refl k h)
 
-pub delete-called : (kind : Kind) (p c : ℕ) (b : Buffers) (l : LockList) (f : File) (a : ℕ) (left : Buffers) → l ≡ unpack (b .list)
-    → f ≡ callerFile p l (b .fcb) → Did (by19 kind l f b) a left → Did (served kind (Call Delete) p c b) a left
+pub delete-called : (kind : Kind) (p c : ℕ) (b : Buffers) (l : LockList) (f : File) (o a : ℕ) (left : Buffers) → l ≡ unpack (b .list)
+    → f ≡ callerFile p l (b .fcb) → o ≡ openOf l p f → Did (by19 kind p l o f b) a left → Did (served kind (Call Delete) p c b) a left
 unfolding by19 rowsOf effectOf askedBy
-delete-called kind p c b l f a left hl hf d =
-    did-as _ _ a left (served-as kind (Call Delete) p c b l f (recordOf (b .fcb)) hl hf refl) d
+delete-called kind p c b l f o a left hl hf ho d =
+    did-as _ _ a left (served-as kind (Call Delete) p c b l f (recordOf (b .fcb)) hl hf refl) (rw ho at d)
 
 -- ---- the ends of 23
 

@@ -15,8 +15,8 @@ by15 kind p l o f b = unless (rows15 kind p l o f (lookUp kind (b .image) f) (b 
 unfoldable pub by22 : Kind → ℕ → LockList → File → Buffers → Outcome
 by22 kind p l f b = unless (rows22 kind p l (lookUp kind (b .image) f) (b .fcb) (b .image)) b (does22 kind p l f b)
 
-unfoldable pub by19 : Kind → LockList → File → Buffers → Outcome
-by19 kind l f b = unless (rows19 kind l f (lookUp kind (b .image) f) (b .fcb) (b .image)) b (does19 kind f b)
+unfoldable pub by19 : Kind → ℕ → LockList → ℕ → File → Buffers → Outcome
+by19 kind p l o f b = unless (rows19 kind p l f (lookUp kind (b .image) f) (b .fcb) (b .image)) b (does19 kind p l o f b)
 
 unfoldable pub by23 : Kind → LockList → File → File → Buffers → Outcome
 by23 kind l f new b =

@@ -29,7 +29,7 @@ use Rattle.soundness.proofs.Written.{Old, New}
 use Rattle.soundness.proofs.Placed.{free-room, at-here, at-other}
 use Rattle.soundness.proofs.Emptied.{Empties, at-gone, at-kept}
 use Rattle.soundness.proofs.Run.{Filled, running}
-use Rattle.soundness.proofs.Shapes.{packed, emptied-shape, locked-shape}
+use Rattle.soundness.proofs.Shapes.{packed, locked-shape}
 use Rattle.soundness.proofs.Left.{ListLeft, ImageLeft, list-same, one-set, run-set, emptied, image-same, entry-made, record-stored, file-erased, file-renamed}
 use Rattle.soundness.proofs.Taken.{caller-long, caller-user}
 use Rattle.soundness.proofs.Ends.{shape-of, list-of, made-of, renamed-touch, written-of, takes-of}
@@ -169,9 +169,9 @@ module _ (kind : Kind) (p c : ℕ) (b : Buffers) where
 
   -- .. and the items of other processes
   pub items-left : (t list : List ℕ) → ListLeft kind p c b t list → ItemsApart p (listOf b) (unpack list)
-  items-left t list (list-same u) = items-same p (listOf b)
+  items-left t list (list-same u follows) = items-same p (listOf b)
   items-left t list (one-set ok u mode room h) = packed (ItemsApart p (listOf b)) kind _ u h (opened-apart ok mode room)
   items-left t list (run-set ok w) = packed (ItemsApart p (listOf b)) kind _ (b .image) (locked-shape kind p c b ok w) (run-apart ok w)
-  items-left t list (emptied ok away turn e w own) =
-      packed (ItemsApart p (listOf b)) kind _ (b .image) (emptied-shape kind p c b ok away turn e w)
+  items-left t list (emptied ok u away turn e own h) =
+      packed (ItemsApart p (listOf b)) kind _ u h
       (items-gone p (listOf b) away turn e (shape-of kind p c b ok) own)

@@ -49,7 +49,7 @@ none-holding p (locks q f r m) g n w =
 none-holding p (unlocks q f r m) g n w = none-without (isBy p) _ g w
 none-holding p (ends q) g n w = none-without (isBy p) _ g w
 none-holding p (touches f r m) g n w = w
-none-holding p (drops f) g n w = w
+none-holding p (drops q f) g n w = none-without (isBy p) _ g w
 none-holding p (carries f h) g n w = w
 none-holding p tells g n w = w
 

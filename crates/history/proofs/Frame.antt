@@ -18,7 +18,7 @@ use Rattle.soundness.proofs.Renamed.{all-renamed}
 use Rattle.soundness.proofs.Written.{Old, New}
 use Rattle.soundness.proofs.Run.{running}
 use Rattle.soundness.proofs.Taken.{caller-long}
-use Rattle.soundness.proofs.Shapes.{packed, emptied-shape, locked-shape}
+use Rattle.soundness.proofs.Shapes.{packed, locked-shape}
 use Rattle.soundness.proofs.Left.{ListLeft, ImageLeft, list-same, one-set, run-set, emptied, image-same, entry-made, record-stored, file-erased, file-renamed}
 use Rattle.soundness.proofs.Ends.{image-of, shape-of, list-of, made-of, written-of, takes-of}
 use Rattle.soundness.proofs.Leaves.{listOf, fileBy, newBy}
@@ -40,15 +40,14 @@ same l = record { capacities = refl; openlimits = refl; locklimits = refl; users
 -- .. and so has the list that a call leaves;
 pub list-framed : (kind : Kind) (p c : ℕ) (b : Buffers) (t list : List ℕ) → ListLeft kind p c b t list → Framed (listOf b) (unpack list)
 unfolding opened placed lockedRun
-list-framed kind p c b t list (list-same u) = same (listOf b)
+list-framed kind p c b t list (list-same u follows) = same (listOf b)
 list-framed kind p c b t list (one-set ok u mode room h) = packed (Framed (listOf b)) kind _ u h (framed (listOf b) _)
 list-framed kind p c b t list (run-set ok w) =
     packed (Framed (listOf b)) kind _ (b .image) (locked-shape kind p c b ok w)
     (let r = running kind (b .image) (listOf b) p (fileBy p b) (recordOf (b .fcb)) c (shape-of kind p c b ok) (list-of kind p c b ok)
     (takes-of kind p c b ok w) c (omega arith) in
     rw (r .is) (framed (listOf b) (r .items)))
-list-framed kind p c b t list (emptied ok away turn e w own) = packed (Framed (listOf b)) kind _ (b .image) (emptied-shape kind p c b ok away turn e w)
-    (framed (listOf b) _)
+list-framed kind p c b t list (emptied ok u away turn e own h) = packed (Framed (listOf b)) kind _ u h (framed (listOf b) _)
 
 written-long : (kind : Kind) (s t : List ℕ) (f : File) (r : ℕ) → Old kind s t f r ⊎ New kind s t f r → length t ≡ length s
 written-long kind s t f r w = ⊎-elim (λ (k : Old kind s t f r). k .wrote .change .touches .long) (λ (k : New kind s t f r). k .wrote .change .touches .long) w

@@ -24,7 +24,7 @@ use Rattle.soundness.proofs.Written.{Old, New}
 use Rattle.soundness.proofs.Taken.{caller-long}
 use Rattle.soundness.proofs.Ends.{image-of, made-of, renamed-file, written-of}
 use Rattle.rules.proofs.Passed.{Passed}
-use Rattle.soundness.proofs.Leaves.{Leaf, MayMake, MayWrite, imageWritten, refused, reopened, newlyOpened, newlyMade, nowClosed, nowErased, nowRenamed, nowRead, nowWritten, nowRewritten, nowLocked, lockIdle, nowUnlocked, unlockIdle, nowTold, nowEnded}
+use Rattle.soundness.proofs.Leaves.{Leaf, MayMake, MayWrite, imageWritten, refused, reopened, newlyOpened, newlyMade, nowClosed, nowErased, nowDropped, nowRenamed, nowRead, nowWritten, nowRewritten, nowLocked, lockIdle, nowUnlocked, unlockIdle, nowTold, nowEnded}
 use Rattle.history.specs.History.{Ask, State, event, lent}
 use Rattle.history.specs.Deeds.{deedBy, deed}
 use Rattle.history.specs.Groups.{Group, group, touching, touchingAt, touchingRun, counting}
@@ -100,7 +100,8 @@ module _ (kind : Kind) (q : Ask) (s : State) (g : List Group) (t : Counted kind 
   count-step one o low (newlyOpened k ok w fcb) = rw (deed-done (usersIn s) q _ k) t
   count-step one o low (newlyMade k ok w fcb) = rw (deed-done (usersIn s) q _ k) (made-counted ok w)
   count-step one o low (nowClosed k ok w) = rw (deed-done (usersIn s) q _ k) t
-  count-step one o low (nowErased k ok w) = rw (deed-done (usersIn s) q _ k, file-meant q l) (dropped kind (s .image) f (image-of kind p c b ok) long g t)
+  count-step one o low (nowErased k ok w u) = rw (deed-done (usersIn s) q _ k, file-meant q l) (dropped kind (s .image) f (image-of kind p c b ok) long g t)
+  count-step one o low (nowDropped k ok w m) = rw (deed-done (usersIn s) q _ k, file-meant q l) (dropped kind (s .image) f (image-of kind p c b ok) long g t)
   count-step one o low (nowRenamed k ok w) =
       rw (deed-done (usersIn s) q _ k, file-meant q l, new-meant q l)
       (carried-over kind (s .image) f (newFile p l (q .fcb)) (image-of kind p c b ok) long (renamed-file kind p c b ok w) g t)

@@ -40,7 +40,7 @@ held es = heldAfter (replicate 16 0) es []
 counted : Kind → List Event → List Group
 counted kind es = countedAfter kind (replicate 16 0) es []
 
--- Make grants an open, Close takes it back, and so does 143
+-- Make grants an open, Close takes it back, and so do 143 and Delete
 made : held (does 22 (fcbWith 0) 0 ∷ []) ≡ freshOpen 1 orders 1 ∷ []
 unfolding rules listed history doesRun does held
 made = refl
@@ -52,6 +52,10 @@ closed = refl
 ended : held (does 22 (fcbWith 0) 0 ∷ does 143 (fcbWith 0) 0 ∷ []) ≡ []
 unfolding rules listed history doesRun does held
 ended = refl
+
+deleted : held (does 22 (fcbWith 0) 0 ∷ does 42 (fcbWith 3) 0 ∷ does 19 (fcbWith 0) 0 ∷ []) ≡ []
+unfolding rules listed history doesRun does held
+deleted = refl
 
 -- a lock is granted, and held once; in mode 0 none is
 locked-once : held (does 22 (fcbWith 0) 0 ∷ does 42 (fcbWith 3) 0 ∷ does 42 (fcbWith 3) 0 ∷ []) ≡ freshLock 1 orders 3 ∷ freshOpen 1 orders 1 ∷ []

@@ -25,11 +25,12 @@ use Rattle.rules.proofs.Items.{IsOpen, open-is, open-so, name-sym, name-is, nam
 use Rattle.rules.proofs.SoundList.{GoodOpen, GoodLock, Used, Vacant, capacity-fits, one-open, unpacked}
 use Rattle.soundness.proofs.Placed.{free-room}
 use Rattle.soundness.proofs.Emptied.{Empties, Whole, close-empties, close-whole, unlock-empties, unlock-whole, end-empties, end-whole}
-use Rattle.soundness.proofs.Shapes.{SoundShape, opened-shape, made-shape, emptied-shape, locked-shape}
+use Rattle.soundness.proofs.Shapes.{SoundShape, opened-shape, made-shape, emptied-shape, dropped-shape, locked-shape}
 use Rattle.soundness.proofs.Taken.{caller-long, caller-user, own-open, own-good}
+use Rattle.soundness.proofs.Deleted.{unopened-none, none-of-file}
 use Rattle.soundness.proofs.Ends.{shape-of, list-of, takes-of}
 use Rattle.rules.proofs.Passed.{Passed}
-use Rattle.soundness.proofs.Leaves.{Leaf, openBy, modeBy, Idle, refused, reopened, newlyOpened, newlyMade, nowClosed, nowErased, nowRenamed, nowRead, nowWritten, nowRewritten, nowLocked, lockIdle, nowUnlocked, unlockIdle, nowTold, nowEnded}
+use Rattle.soundness.proofs.Leaves.{Leaf, openBy, modeBy, Idle, refused, reopened, newlyOpened, newlyMade, nowClosed, nowErased, nowDropped, nowRenamed, nowRead, nowWritten, nowRewritten, nowLocked, lockIdle, nowUnlocked, unlockIdle, nowTold, nowEnded}
 use Rattle.history.specs.History.{Ask, State, event, lent}
 use Rattle.history.specs.Deeds.{Deed, deedBy, deed}
 use Rattle.history.specs.Held.{sameItem, isAmong, granting, grantingRun, isBy, holding}
@@ -147,11 +148,14 @@ module _ (kind : Kind) (q : Ask) (s : State) (g : List Item) (t : Tally (unpack 
       let y = tally-set l (freePlace l) it (shape-of kind p c b ok) inside (free-room l room .empty) g t in
       rw (unpacked kind (opened p f mode l) image (w .sound) (w .shape), granting-new it g none) (unfold opened placed in y)
 
+  shaped-tally : (ok : Passed kind p c b) (away : Item → Bool) (turn : Item → Item) → Empties away turn → (image : List ℕ)
+      → SoundShape kind (withItems l (map turn (l .items))) image → Tally (unpack (pack (withItems l (map turn (l .items))))) (without away g)
+  shaped-tally ok away turn e image h =
+      rw (unpacked kind (withItems l (map turn (l .items))) image (h .sound) (h .shape)) (tally-gone l away turn e (shape-of kind p c b ok) g t)
+
   gone-tally : (ok : Passed kind p c b) (away : Item → Bool) (turn : Item → Item) → Empties away turn → Whole l away
       → Tally (unpack (pack (withItems l (map turn (l .items))))) (without away g)
-  gone-tally ok away turn e w =
-      let h = emptied-shape kind p c b ok away turn e w in
-      rw (unpacked kind (withItems l (map turn (l .items))) (s .image) (h .sound) (h .shape)) (tally-gone l away turn e (shape-of kind p c b ok) g t)
+  gone-tally ok away turn e w = shaped-tally ok away turn e (s .image) (emptied-shape kind p c b ok away turn e w)
 
   -- after a plain call the list has just the items that the history then holds
   pub held-step : (o : Outcome) → Leaf kind (q .function) p c b o → Tally (unpack (o .left .list)) (holding (deed (usersIn s) (event q (o .answer))) g)
@@ -167,7 +171,12 @@ module _ (kind : Kind) (q : Ask) (s : State) (g : List Item) (t : Tally (unpack 
       rw (deed-done (usersIn s) q _ k, file-meant q l)
       (opened-tally ok (makeMode (q .fcb)) _ (made-shape kind p c b ok w) (w .room) (open-unheld ok (makeMode (q .fcb)) (none-there ok (w .gone))))
   held-step o (nowClosed k ok w) = rw (deed-done (usersIn s) q _ k, file-meant q l) (gone-tally ok _ _ (close-empties p f) (close-whole l p f))
-  held-step o (nowErased k ok w) = rw (deed-done (usersIn s) q _ k) t
+  held-step o (nowErased k ok w u) =
+      rw (deed-done (usersIn s) q _ k, file-meant q l)
+      (tally-idle l (isOfFile p f) _ (close-empties p f) (shape-of kind p c b ok) g t (none-of-file kind (s .image) p l f (shape-of kind p c b ok)
+      (list-of kind p c b ok) (sym (caller-user p l (q .fcb))) (caller-long p l (q .fcb)) (unopened-none p l f (w .none-others) u)))
+  held-step o (nowDropped k ok w m) =
+      rw (deed-done (usersIn s) q _ k, file-meant q l) (shaped-tally ok _ _ (close-empties p f) _ (dropped-shape kind p c b ok w))
   held-step o (nowRenamed k ok w) = rw (deed-done (usersIn s) q _ k) t
   held-step o (nowRead k ok dma) = rw (deed-done (usersIn s) q _ k) t
   held-step o (nowWritten k ok w zeros) =

@@ -183,6 +183,6 @@ once-holding (locks p f r n) g w =
 once-holding (unlocks p f r n) g w = once-without _ g w
 once-holding (ends p) g w = once-without _ g w
 once-holding (touches f r n) g w = w
-once-holding (drops f) g w = w
+once-holding (drops p f) g w = once-without _ g w
 once-holding (carries f h) g w = w
 once-holding tells g w = w

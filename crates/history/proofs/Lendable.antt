@@ -17,7 +17,7 @@ use Rattle.rules.specs.Several.{dmaAt, single, backAt, Run, run, callRun}
 use Rattle.rules.proofs.Packing.{pack-long}
 use Rattle.rules.proofs.Several.{Steps, begun, done, stopped, idle, steps}
 use Rattle.soundness.proofs.InBytes.{InBytes, call-bytes}
-use Rattle.soundness.proofs.Shapes.{emptied-shape, locked-shape}
+use Rattle.soundness.proofs.Shapes.{locked-shape}
 use Rattle.soundness.proofs.Left.{ListLeft, list-same, one-set, run-set, emptied, left}
 use Rattle.history.specs.History.{Ask, State, isLendable, isPossible, isKept, lent, outcomeOf, kept}
 use Rattle.history.proofs.Ways.{Way, Ran, plain, barred, whole, partly, ways}
@@ -64,11 +64,10 @@ pub record AsLong (b a : Buffers) : Type 0 where
   pub image-long : length (a .image) ≡ length (b .image)
 
 list-as-long : (kind : Kind) (p c : ℕ) (b : Buffers) (t list : List ℕ) → ListLeft kind p c b t list → length list ≡ length (b .list)
-list-as-long kind p c b t list (list-same u) = refl
+list-as-long kind p c b t list (list-same u follows) = refl
 list-as-long kind p c b t list (one-set ok u mode room h) = pack-long _ (h .shape .items-long) ∙ sym (ok .ready .list-long)
 list-as-long kind p c b t list (run-set ok w) = pack-long _ (locked-shape kind p c b ok w .shape .items-long) ∙ sym (ok .ready .list-long)
-list-as-long kind p c b t list (emptied ok away turn e w own) = pack-long _ (emptied-shape kind p c b ok away turn e w .shape .items-long)
-    ∙ sym (ok .ready .list-long)
+list-as-long kind p c b t list (emptied ok u away turn e own h) = pack-long _ (h .shape .items-long) ∙ sym (ok .ready .list-long)
 
 call-long : (kind : Kind) (n p c : ℕ) (b : Buffers) → AsLong b (call kind n p c b .left)
 call-long kind n p c b =

@@ -1,5 +1,5 @@
 -- `unfolding history` opens what the history tells, and `unfolding listed` the session as listed. Assumes nothing.
-use Rattle.session.specs.Session.{session, orders, fcbWith, dmaWith, firstImage, firstList, imageWith, unwritten, writtenWith, listWith, openBy, lockBy, none, list0, list1, list3, list11, list12, image0, image2, image5}
+use Rattle.session.specs.Session.{session, orders, fcbWith, dmaWith, firstImage, firstList, imageWith, unwritten, writtenWith, listWith, openBy, lockBy, none, list0, list1, list3, list11, list12, list13, image0, image2, image5, image13}
 use Rattle.words.specs.Bytes.{areBytes}
 use Rattle.words.specs.Lists.{tally, without}
 use Rattle.words.specs.Tests.{sumBelow}
@@ -20,5 +20,5 @@ history = tt
 -- the words of the session
 unfoldable pub listed : Unit {0}
 unfolding session orders fcbWith dmaWith firstImage firstList imageWith unwritten writtenWith listWith openBy lockBy none list0 list1 list3 list11
-    list12 image0 image2 image5
+    list12 list13 image0 image2 image5 image13
 listed = tt

@@ -41,7 +41,7 @@ solid-holding (locks p f r n) g w =
 solid-holding (unlocks p f r n) g w = none-without isNone _ g w
 solid-holding (ends p) g w = none-without isNone _ g w
 solid-holding (touches f r n) g w = w
-solid-holding (drops f) g w = w
+solid-holding (drops p f) g w = none-without isNone _ g w
 solid-holding (carries f h) g w = w
 solid-holding tells g w = w
 

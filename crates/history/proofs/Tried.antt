@@ -12,7 +12,7 @@ use Rattle.rules.specs.Drive.{blocks, freeBlocks, fileFrom, soundImage}
 use Rattle.rules.specs.Locks.{unpack, itemAt, freePlaces, freshOpen, freshLock, soundList}
 use Rattle.rules.specs.Look.{look}
 use Rattle.session.specs.Open.{rules}
-use Rattle.session.specs.Session.{Step, Line, session, orders, fcbWith, dmaWith, firstImage, list0, list3, list11, list12, image0, image2, image5}
+use Rattle.session.specs.Session.{Step, Line, session, orders, fcbWith, dmaWith, firstImage, list0, list3, list11, list12, list13, image0, image2, image5, image13}
 use Rattle.history.specs.History.{Ask, Event, event}
 use Rattle.history.specs.Held.{sameItem, isBy, heldAfter}
 use Rattle.history.specs.Groups.{Group, group, isCounted, hasBlock, groupsOf, blocksInUse, countedAfter}
@@ -46,7 +46,11 @@ after-s10 : figures 11 list3 image5 ≡ 3 ∷ 3 ∷ 0 ∷ 2 ∷ 2 ∷ 0 ∷ []
 unfolding rules listed history asked told heldTo groupsTo figures
 after-s10 = refl
 
-after-s13 : figures 14 list12 image5 ≡ 2 ∷ 2 ∷ 1 ∷ 2 ∷ 2 ∷ 0 ∷ []
+after-s12 : figures 13 list12 image5 ≡ 2 ∷ 2 ∷ 1 ∷ 2 ∷ 2 ∷ 0 ∷ []
+unfolding rules listed history asked told heldTo groupsTo figures
+after-s12 = refl
+
+after-s13 : figures 14 list13 image13 ≡ 0 ∷ 0 ∷ 3 ∷ 0 ∷ 0 ∷ 2 ∷ []
 unfolding rules listed history asked told heldTo groupsTo figures
 after-s13 = refl
 
@@ -100,7 +104,11 @@ unfolding rules listed history asked told heldTo
 none-left = refl
 
 -- the states are sound
-sound-s13 : soundImage Small image5 ∷ soundList Small list12 image5 ∷ [] ≡ true ∷ true ∷ []
+sound-s12 : soundImage Small image5 ∷ soundList Small list12 image5 ∷ [] ≡ true ∷ true ∷ []
+unfolding rules listed
+sound-s12 = refl
+
+sound-s13 : soundImage Small image13 ∷ soundList Small list13 image13 ∷ [] ≡ true ∷ true ∷ []
 unfolding rules listed
 sound-s13 = refl
 

@@ -23,6 +23,7 @@ use Rattle.rules.specs.Serves.{Buffers}
 use Rattle.rules.specs.Drive.{legalName, fileFrom, blockOf, recordAt, soundImage, blocks}
 use Rattle.rules.specs.Locks.{itemAt, fileOf, isLow, anyOpen}
 use Rattle.rules.specs.Asks.{recordOf}
+use Rattle.rules.specs.Codes.{stopsDelete}
 use Rattle.rules.specs.Look.{mayLook, lookBlock, partAt, lookAt, partFrom, look}
 use Rattle.rules.proofs.Sizes.{record-inside, block-inside, record-over}
 use Rattle.rules.proofs.Sound.{SoundImage, length-whole}
@@ -33,6 +34,7 @@ use Rattle.soundness.proofs.Erased.{all-erased, erased-touches}
 use Rattle.soundness.proofs.Renamed.{all-renamed}
 use Rattle.soundness.proofs.Held.{others-found}
 use Rattle.soundness.proofs.Taken.{caller-long, no-items}
+use Rattle.soundness.proofs.Deleted.{items-own}
 use Rattle.soundness.proofs.Ends.{shape-of, list-of, made-of, renamed-touch, written-of}
 use Rattle.rules.proofs.Passed.{Passed}
 use Rattle.soundness.proofs.Left.{ImageLeft, image-same, entry-made, record-stored, file-erased, file-renamed}
@@ -72,6 +74,10 @@ module _ (kind : Kind) (q c : ℕ) (b : Buffers) (i : ℕ) (inside : i < 64) (ot
     apart : anyOpen l (fileBy q b) ≡ false → f ≡ fileBy q b → ⊥
     apart none e = no-items kind s l (list-of kind q c b ok) (fileBy q b) none i inside good e
 
+    -- and so is one that no other process has open
+    unheld : stopsDelete q l (fileBy q b) ≡ false → f ≡ fileBy q b → ⊥
+    unheld none e = other (items-own q l (fileBy q b) none kind s (list-of kind q c b ok) i inside good e)
+
     -- the record that is written is another
     unwritten : MayWrite kind q b → (f ≡ fileBy q b) × (r ≡ recordOf (b .fcb)) → ⊥
     unwritten w e =
@@ -100,7 +106,7 @@ module _ (kind : Kind) (q c : ℕ) (b : Buffers) (i : ℕ) (inside : i < 64) (ot
       let h = caller-long q l (b .fcb) in
       let d = all-erased kind s (fileBy q b) g h in
       seen-all kind s _ f r block g (d .len) at (d .past) (at-forth kind s _ (fileBy q b) (fileBy q b) f (erased-touches kind s (fileBy q b) g h)
-      (apart ok (w .unopened)) r block at)
+      (unheld ok (w .none-others)) r block at)
   seen-left t (file-renamed ok w) =
       let d = all-renamed kind s (fileBy q b) (newBy q b .name) g in
       seen-all kind s _ f r block g (d .len) at (d .past) (at-forth kind s _ (fileBy q b) (newBy q b) f (renamed-touch kind q c b ok w)

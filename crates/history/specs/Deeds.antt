@@ -25,7 +25,7 @@ pub data Deed : Type 0 where
   unlocks : ℕ → File → ℕ → ℕ → Deed
   ends : ℕ → Deed
   touches : File → ℕ → ℕ → Deed
-  drops : File → Deed
+  drops : ℕ → File → Deed
   carries : File → File → Deed
   tells : Deed
 
@@ -41,7 +41,7 @@ newBy users q = fileFrom (byte users (q .process)) (q .fcb) 17
 unfoldable pub deedBy : Chosen → List ℕ → Ask → Deed
 deedBy (Call Open) users q = opens (q .process) (fileBy users q) (openMode (q .fcb))
 deedBy (Call Close) users q = closes (q .process) (fileBy users q)
-deedBy (Call Delete) users q = drops (fileBy users q)
+deedBy (Call Delete) users q = drops (q .process) (fileBy users q)
 deedBy (Call Make) users q = opens (q .process) (fileBy users q) (makeMode (q .fcb))
 deedBy (Call Rename) users q = carries (fileBy users q) (newBy users q)
 deedBy (Call Read) users q = nothing

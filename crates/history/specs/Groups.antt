@@ -92,7 +92,7 @@ counting kind (locks p f r n) g = g
 counting kind (unlocks p f r n) g = g
 counting kind (ends p) g = g
 counting kind (touches f r n) g = touchingRun kind f r n g
-counting kind (drops f) g = without (ofFile f) g
+counting kind (drops p f) g = without (ofFile f) g
 counting kind (carries f h) g = map (carried f h) g
 counting kind tells g = g
 

@@ -35,7 +35,7 @@ unfoldable pub isBy : ℕ → Item → Bool
 isBy p it = eqb (it .process) p
 
 -- An open, by each accepted 15 or 22; the run's records, by each accepted 42 of a file open unlocked (in modes 0 and 2 it
--- grants nothing). Close, 43 and 143 take back.
+-- grants nothing). Close, 43 and 143 take back, and Delete does (T-03).
 unfoldable pub holding : Deed → List Item → List Item
 holding nothing g = g
 holding (opens p f mode) g = granting (freshOpen p (f .name) mode) g
@@ -44,7 +44,7 @@ holding (locks p f r n) g = grantingRun p (f .name) r n g if isAmong (freshOpen 
 holding (unlocks p f r n) g = without (isInRun p f r n) g
 holding (ends p) g = without (isBy p) g
 holding (touches f r n) g = g
-holding (drops f) g = g
+holding (drops p f) g = without (isOfFile p f) g
 holding (carries f h) g = g
 holding tells g = g
 
@@ -62,7 +62,7 @@ isGrant p (locks q f r n) = false
 isGrant p (unlocks q f r n) = false
 isGrant p (ends q) = false
 isGrant p (touches f r n) = false
-isGrant p (drops f) = false
+isGrant p (drops q f) = false
 isGrant p (carries f h) = false
 isGrant p tells = false
 

@@ -102,15 +102,16 @@ passes-16 o h = opened-so o (or-fst _ _ h)
 
 -- ---- 19
 
-pub record Passes19 (kind : Kind) (l : LockList) (f : File) (x : Found) (fcb s : List ℕ) : Type 0 where
+pub record Passes19 (kind : Kind) (p : ℕ) (l : LockList) (f : File) (x : Found) (fcb s : List ℕ) : Type 0 where
   pub legal : legalName fcb 1 ≡ true
   pub there : x .entry < entries kind
-  pub unstopped : stopsDelete l f ≡ false
+  pub unstopped : stopsDelete p l f ≡ false
   pub writable : readOnly s (x .entry) ≡ false
 
-pub passes-19 : (kind : Kind) (l : LockList) (f : File) (x : Found) (fcb s : List ℕ) → anyRow (rows19 kind l f x fcb s) ≡ false → Passes19 kind l f x fcb s
+pub passes-19 : (kind : Kind) (p : ℕ) (l : LockList) (f : File) (x : Found) (fcb s : List ℕ) → anyRow (rows19 kind p l f x fcb s) ≡ false
+    → Passes19 kind p l f x fcb s
 unfolding rows19 missing anyRow
-passes-19 kind l f x fcb s h =
+passes-19 kind p l f x fcb s h =
     let file = or-snd _ _ h in
     let opens = or-snd _ _ file in
     record {

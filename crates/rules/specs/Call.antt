@@ -63,7 +63,7 @@ asked kind p c b =
 unfoldable pub rowsOf : Chosen → Asked → Buffers → List Row
 rowsOf (Call Open) a b = rows15 (a .kind) (a .process) (a .list) (a .place) (a .file) (a .found) (b .fcb)
 rowsOf (Call Close) a b = rows16 (a .place)
-rowsOf (Call Delete) a b = rows19 (a .kind) (a .list) (a .file) (a .found) (b .fcb) (b .image)
+rowsOf (Call Delete) a b = rows19 (a .kind) (a .process) (a .list) (a .file) (a .found) (b .fcb) (b .image)
 rowsOf (Call Make) a b = rows22 (a .kind) (a .process) (a .list) (a .found) (b .fcb) (b .image)
 rowsOf (Call Rename) a b = rows23 (a .kind) (a .list) (a .file) (a .found) (lookUp (a .kind) (b .image) (newFile (a .process) (a .list) (b .fcb))) (b .fcb) (b .image)
 rowsOf (Call Read) a b = rows33 (a .kind) (a .place) (a .entry) (a .recordNumber) (b .image)
@@ -80,7 +80,7 @@ rowsOf Unknown a b = []
 unfoldable pub effectOf : Chosen → Asked → Buffers → Outcome
 effectOf (Call Open) a b = does15 (a .process) (a .list) (a .place) (a .file) (a .found) b
 effectOf (Call Close) a b = does16 (a .process) (a .list) (a .file) b
-effectOf (Call Delete) a b = does19 (a .kind) (a .file) b
+effectOf (Call Delete) a b = does19 (a .kind) (a .process) (a .list) (a .place) (a .file) b
 effectOf (Call Make) a b = does22 (a .kind) (a .process) (a .list) (a .file) b
 effectOf (Call Rename) a b = does23 (a .kind) (a .file) (newFile (a .process) (a .list) (b .fcb)) b
 effectOf (Call Read) a b = does33 (a .kind) (a .entry) (a .recordNumber) b

@@ -89,21 +89,25 @@ rows16 o = 255 ∕ 6 when not (isOpened o) ∷ []
 
 -- ---- 19
 
--- open by anybody, the caller too
-unfoldable pub stopsDelete : LockList → File → Bool
-stopsDelete l f = anyOpen l f
+-- the item at place i is another process's open of the file
+unfoldable pub opensElsewhereAt : LockList → ℕ → File → ℕ → Bool
+opensElsewhereAt l p f i = opensFileAt l f i and not (eqb (itemAt l i .process) p)
 
-unfoldable pub rows19 : Kind → LockList → File → Found → List ℕ → List ℕ → List Row
-rows19 kind l f x fcb s =
+-- "only when another process has the file open" (T-03)
+unfoldable pub stopsDelete : ℕ → LockList → File → Bool
+stopsDelete p l f = any (opensElsewhereAt l p f) places
+
+unfoldable pub rows19 : Kind → ℕ → LockList → File → Found → List ℕ → List ℕ → List Row
+rows19 kind p l f x fcb s =
     255 ∕ 9 when not (legalName fcb 1)
     ∷ 255 ∕ 0 when missing kind x
-    ∷ 255 ∕ 5 when stopsDelete l f
+    ∷ 255 ∕ 5 when stopsDelete p l f
     ∷ 255 ∕ 3 when readOnly s (x .entry)
     ∷ []
 
 -- ---- 23
 
--- as for 19
+-- open by anybody, the caller too
 unfoldable pub stopsRename : LockList → File → Bool
 stopsRename l f = anyOpen l f
 

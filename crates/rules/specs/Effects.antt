@@ -78,9 +78,6 @@ erasedAt f e s = set s (entrySize * e) 0xE5 if isOf s f e else s
 unfoldable pub erased : Kind → File → List ℕ → List ℕ
 erased kind f s = turns (erasedAt f) (entries kind) s
 
-unfoldable pub does19 : Kind → File → Buffers → Outcome
-does19 kind f b = accept (withImage b (erased kind f (b .image)))
-
 -- Rename changes the low seven bits of the eleven bytes in each.
 unfoldable pub lowChanged : List ℕ → ℕ → List ℕ → ℕ → ℕ
 lowChanged s at name k = byte s (at + k) / 128 * 128 + byte name k
@@ -187,6 +184,14 @@ terminated p l = withItems l (map (unlessBy p) (l .items))
 
 unfoldable pub does16 : ℕ → LockList → File → Buffers → Outcome
 does16 p l f b = accept (withList b (pack (closed p f l)))
+
+-- Delete takes away the caller's open and the caller's locks on the file (T-03): the list is left as Close leaves it, and as it was
+-- where the caller has the file not open.
+unfoldable pub closedWhere : ℕ → LockList → ℕ → File → List ℕ → List ℕ
+closedWhere p l o f list = pack (closed p f l) if isOpened o else list
+
+unfoldable pub does19 : Kind → ℕ → LockList → ℕ → File → Buffers → Outcome
+does19 kind p l o f b = accept (withImage (withList b (closedWhere p l o f (b .list))) (erased kind f (b .image)))
 
 unfoldable pub does143 : ℕ → LockList → Buffers → Outcome
 does143 p l b = accept (withList b (pack (terminated p l)))

@@ -15,7 +15,7 @@ pub enum ImageAnswer {
     NoFirst(usize),
 }
 
-// The paper's number of an answer.
+// The number of an answer.
 pub fn image_number(answer: ImageAnswer) -> u32
     ensures { λ r. ⌜ (r ≡ imageNumber answer) × (r < 9) ⌝ }
 {

@@ -10,7 +10,7 @@ use Rattle.rules.specs.Several.{servesRun, callRun}
 use Rattle.rules.proofs.Several.{run-plain}
 use Rattle.rules.proofs.OneRecord.{one-record}
 use Rattle.session.specs.Open.{rules}
-use Rattle.session.specs.Session.{AsListed, session, orders, fcbWith, dmaWith, firstImage, firstList, imageWith, unwritten, writtenWith, listWith, openBy, lockBy, none, list0, list1, list3, list11, list12, image0, image2, image5}
+use Rattle.session.specs.Session.{AsListed, session, orders, fcbWith, dmaWith, firstImage, firstList, imageWith, unwritten, writtenWith, listWith, openBy, lockBy, none, list0, list1, list3, list11, list12, list13, image0, image2, image5, image13}
 
 s0 : call Small 22 1 1 (buffers (fcbWith 0) (dmaWith 0) firstList firstImage) ≡ outcome (0 ∕ 0) (buffers (fcbWith 0) (dmaWith 0) list0 image0)
 unfolding rules orders fcbWith dmaWith firstImage firstList imageWith unwritten writtenWith listWith openBy lockBy none image0 list0
@@ -64,8 +64,8 @@ s12 : call Small 42 2 1 (buffers (fcbWith 8) (dmaWith 1) list11 image5) ≡ outc
 unfolding rules orders fcbWith dmaWith firstImage firstList imageWith unwritten writtenWith listWith openBy lockBy none image5 list11 list12
 s12 = refl
 
-s13 : call Small 19 2 1 (buffers (fcbWith 0) (dmaWith 1) list12 image5) ≡ outcome (255 ∕ 5) (buffers (fcbWith 0) (dmaWith 1) list12 image5)
-unfolding rules orders fcbWith dmaWith firstImage firstList imageWith unwritten writtenWith listWith openBy lockBy none image5 list12
+s13 : call Small 19 2 1 (buffers (fcbWith 0) (dmaWith 1) list12 image5) ≡ outcome (0 ∕ 0) (buffers (fcbWith 0) (dmaWith 1) list13 image13)
+unfolding rules orders fcbWith dmaWith firstImage firstList imageWith unwritten writtenWith listWith openBy lockBy none image13 image5 list12 list13
 s13 = refl
 
 -- of one record, and of no run of records, the call is the plain one

@@ -43,10 +43,10 @@ firstImage = replicate 4096 0xE5
 unfoldable pub firstList : List ℕ
 firstList = 3 ∷ 2 ∷ 2 ∷ replicate 1296 0
 
--- entry 0 with its count and its first two map bytes, the rest of the directory empty, then blocks 2 and 3
-unfoldable pub imageWith : ℕ → ℕ → ℕ → List ℕ → List ℕ → List ℕ
-imageWith count m₀ m₁ two three =
-    0 ∷ (orders ++ (0 ∷ 0 ∷ 0 ∷ count ∷ m₀ ∷ m₁ ∷ (replicate 14 0 ++ (replicate 2016 0xE5 ++ (two ++ three)))))
+-- entry 0 with its first byte, its count and its first two map bytes, the rest of the directory empty, then blocks 2 and 3
+unfoldable pub imageWith : ℕ → ℕ → ℕ → ℕ → List ℕ → List ℕ → List ℕ
+imageWith first count m₀ m₁ two three =
+    first ∷ (orders ++ (0 ∷ 0 ∷ 0 ∷ count ∷ m₀ ∷ m₁ ∷ (replicate 14 0 ++ (replicate 2016 0xE5 ++ (two ++ three)))))
 
 -- a block nobody has written
 unfoldable pub unwritten : List ℕ
@@ -71,7 +71,7 @@ none = replicate 20 0
 
 -- ---- The states between the calls: what is in the list, and what is in the image
 
--- after S0, S1, S3, S11 and S12
+-- after S0, S1, S3, S11, S12 and S13
 unfoldable pub list0 : List ℕ
 list0 = listWith (openBy 1) none none
 
@@ -87,15 +87,21 @@ list11 = listWith none (openBy 2) none
 unfoldable pub list12 : List ℕ
 list12 = listWith (lockBy 2 8) (openBy 2) none
 
--- after S0, S2 and S5
+unfoldable pub list13 : List ℕ
+list13 = listWith none none none
+
+-- after S0, S2, S5 and S13
 unfoldable pub image0 : List ℕ
-image0 = imageWith 0 0 0 unwritten unwritten
+image0 = imageWith 0 0 0 0 unwritten unwritten
 
 unfoldable pub image2 : List ℕ
-image2 = imageWith 1 2 0 (writtenWith 0) unwritten
+image2 = imageWith 0 1 2 0 (writtenWith 0) unwritten
 
 unfoldable pub image5 : List ℕ
-image5 = imageWith 9 2 3 (writtenWith 0) (writtenWith 1)
+image5 = imageWith 0 9 2 3 (writtenWith 0) (writtenWith 1)
+
+unfoldable pub image13 : List ℕ
+image13 = imageWith 0xE5 9 2 3 (writtenWith 0) (writtenWith 1)
 
 -- ---- The calls, and what each answers and leaves
 
@@ -135,8 +141,8 @@ session =
     ∷ line (step 1 143 0 1 0) (0 ∕ 0) (fcbWith 0) (dmaWith 0) list11 image5
     -- S12, 2 42, record 8: place 0
     ∷ line (step 2 42 8 1 1) (0 ∕ 0) (fcbWith 8) (dmaWith 1) list12 image5
-    -- S13, 2 Delete
-    ∷ line (step 2 19 0 1 1) (255 ∕ 5) (fcbWith 0) (dmaWith 1) list12 image5
+    -- S13, 2 Delete: places 0, 1 and entry 0 empty (0/0 since T-03)
+    ∷ line (step 2 19 0 1 1) (0 ∕ 0) (fcbWith 0) (dmaWith 1) list13 image13
     ∷ []
 
 -- each call, from what the one before it left, has the outcome listed

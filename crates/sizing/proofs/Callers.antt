@@ -17,7 +17,7 @@ use Rattle.rules.specs.Call.{call}
 use Rattle.rules.proofs.SoundList.{capacity-fits}
 use Rattle.soundness.proofs.Placed.{at-here, at-other}
 use Rattle.soundness.proofs.Emptied.{at-gone, at-kept}
-use Rattle.soundness.proofs.Shapes.{packed, emptied-shape, locked-shape}
+use Rattle.soundness.proofs.Shapes.{packed, locked-shape}
 use Rattle.soundness.proofs.Run.{Filled, running}
 use Rattle.soundness.proofs.Leaves.{listOf, fileBy}
 use Rattle.soundness.proofs.Ends.{shape-of, list-of, takes-of}
@@ -27,7 +27,7 @@ use Rattle.sizing.specs.Sizes.{isCaller, OnlyBy}
 module _ (kind : Kind) (callers : List ℕ) (p c : ℕ) (b : Buffers) (on : isCaller callers p ≡ true) (only : OnlyBy callers (listOf b)) where
   left-only : (t list : List ℕ) → ListLeft kind p c b t list → OnlyBy callers (unpack list)
   unfolding opened placed lockedRun
-  left-only t list (list-same u) = only
+  left-only t list (list-same u follows) = only
   left-only t list (one-set ok u mode room h) =
       let j = freePlace (listOf b) in
       let it = freshOpen p (fileBy p b .name) mode in
@@ -53,9 +53,9 @@ module _ (kind : Kind) (callers : List ℕ) (p c : ℕ) (b : Buffers) (on : isCa
             ap (λ (x : Item). isCaller callers (x .process)) (e .now) ∙ on)
             (r .place i m);
       }))
-  left-only t list (emptied ok away turn e w own) =
+  left-only t list (emptied ok u away turn e own h) =
       let shape = shape-of kind p c b ok in
-      packed (OnlyBy callers) kind _ (b .image) (emptied-shape kind p c b ok away turn e w) (record {
+      packed (OnlyBy callers) kind _ u h (record {
         each = λ i m z. ⊎-elim
             (λ (q : away (itemAt (listOf b) i) ≡ true). absurd (z (ap (λ (x : Item). x .kind) (at-gone (listOf b) away turn e shape i m q))))
             (λ (q : away (itemAt (listOf b) i) ≡ false).

@@ -32,7 +32,7 @@ use Rattle.rules.specs.Effects.{madeEntry, made, erasedAt, erased, lowChanged, 
 use Rattle.rules.specs.Call.{Asked, asked, effectOf, rowsCall, call}
 use Rattle.rules.proofs.Tables.{accepted}
 use Rattle.rules.proofs.SoundList.{Shape, GoodOpen, GoodLock, Used, Vacant, SoundLocks, isPlain}
-use Rattle.soundness.proofs.Shapes.{SoundShape, emptied-shape, locked-shape}
+use Rattle.soundness.proofs.Shapes.{SoundShape, locked-shape}
 use Rattle.soundness.proofs.Leaves.{listOf, fileBy, newBy}
 use Rattle.soundness.proofs.Left.{ListLeft, ImageLeft, list-same, one-set, run-set, emptied, image-same, entry-made, record-stored, file-erased, file-renamed, left}
 use Rattle.rules.proofs.Sizes.{top-fits}
@@ -201,10 +201,10 @@ module _ (kind : Kind) (n p c : ℕ) (b : Buffers) (w : InBytes b) where
   newly = said (userOf (listOf b) p) (b .fcb) 17 (user-small (b .list) p (w .list-bytes))
 
   list-left : (t list : List ℕ) → ListLeft kind p c b t list → areBytes list ≡ true
-  list-left t list (list-same u) = w .list-bytes
+  list-left t list (list-same u follows) = w .list-bytes
   list-left t list (one-set ok u mode room h) = packed _ u h
   list-left t list (run-set ok m) = packed _ (b .image) (locked-shape kind p c b ok m)
-  list-left t list (emptied ok away turn e m own) = packed _ (b .image) (emptied-shape kind p c b ok away turn e m)
+  list-left t list (emptied ok u away turn e own h) = packed _ u h
 
   image-left : (t : List ℕ) → ImageLeft kind p c b t → areBytes t ≡ true
   image-left t image-same = w .image-bytes

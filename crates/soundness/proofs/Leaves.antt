@@ -18,7 +18,7 @@ use Rattle.rules.specs.Serves.{Buffers, Outcome, buffers, outcome, chosen, with
 use Rattle.rules.specs.Drive.{blocks, legalName, entryOf, freeEntry, freeBlock, blockIn, blockOf}
 use Rattle.rules.specs.Locks.{itemAt, unpack, pack, openOf, anyOpen, lockedByOther, opensBy, locksBy, freePlace, freePlaces}
 use Rattle.rules.specs.Asks.{callerFile, newFile, recordOf, openMode, makeMode}
-use Rattle.rules.specs.Codes.{standsAgainstAt, isNew}
+use Rattle.rules.specs.Codes.{standsAgainstAt, stopsDelete, isNew}
 use Rattle.rules.proofs.Passed.{Passed}
 use Rattle.rules.specs.Effects.{accept, opened, made, erased, renamed, written, spotAt, closed, lockedRun, unlockedRun, terminated}
 
@@ -66,7 +66,7 @@ pub record MayMake (kind : Kind) (p : ℕ) (b : Buffers) : Type 0 where
 pub record MayDelete (kind : Kind) (p : ℕ) (b : Buffers) : Type 0 where
   pub legal : legalName (b .fcb) 1 ≡ true
   pub there : entryOf kind (b .image) (fileBy p b) 0 < entries kind
-  pub unopened : anyOpen (listOf b) (fileBy p b) ≡ false
+  pub none-others : stopsDelete p (listOf b) (fileBy p b) ≡ false
 
 pub record MayRename (kind : Kind) (p : ℕ) (b : Buffers) : Type 0 where
   pub legal : legalName (b .fcb) 1 ≡ true
@@ -120,7 +120,10 @@ pub data Leaf (kind : Kind) (n p c : ℕ) (b : Buffers) : Outcome → Type 0 whe
       → Leaf kind n p c b (accept (buffers fcb (b .dma) (pack (opened p (fileBy p b) (makeMode (b .fcb)) (listOf b)))
       (made (freeEntry kind (b .image)) (fileBy p b) (b .image))))
   nowClosed : chosen n ≡ Call Close → Passed kind p c b → openBy p b < 64 → Leaf kind n p c b (accept (withList b (pack (closed p (fileBy p b) (listOf b)))))
-  nowErased : chosen n ≡ Call Delete → Passed kind p c b → MayDelete kind p b → Leaf kind n p c b (accept (withImage b (erased kind (fileBy p b) (b .image))))
+  nowErased : chosen n ≡ Call Delete → Passed kind p c b → MayDelete kind p b → 64 ≤ openBy p b
+      → Leaf kind n p c b (accept (withImage b (erased kind (fileBy p b) (b .image))))
+  nowDropped : chosen n ≡ Call Delete → Passed kind p c b → MayDelete kind p b → openBy p b < 64
+      → Leaf kind n p c b (accept (withImage (withList b (pack (closed p (fileBy p b) (listOf b)))) (erased kind (fileBy p b) (b .image))))
   nowRenamed : chosen n ≡ Call Rename → Passed kind p c b → MayRename kind p b
       → Leaf kind n p c b (accept (withImage b (renamed kind (fileBy p b) (newBy p b .name) (b .image))))
   nowRead : chosen n ≡ Call Read → Passed kind p c b → (dma : List ℕ) → Leaf kind n p c b (accept (withDma b dma))

@@ -1,6 +1,6 @@
 -- What a call does to the list and to the image: each end of a call is one of a few. Assumes nothing.
 use Prim.Native.Nat.{ℕ, _≤_, _<_}
-use mathlib.Core.Path.{_≡_}
+use mathlib.Core.Path.{_≡_, refl}
 use mathlib.Core.Bool.{Bool, true, false}
 use mathlib.Core.List.{List, map}
 use native.Mathlib.Omega.{arith}
@@ -18,21 +18,22 @@ use Rattle.rules.specs.Locks.{freePlace, pack, withItems}
 use Rattle.rules.specs.Asks.{recordOf}
 use Rattle.rules.specs.Effects.{opened, made, erased, renamed, closed, lockedRun, unlockedRun, terminated, isOfFile, isInRun}
 use Rattle.rules.specs.Call.{call}
+use Rattle.rules.proofs.SoundList.{SoundLocks}
 use Rattle.rules.proofs.Passed.{Passed}
 use Rattle.soundness.proofs.Emptied.{Empties, Whole, close-empties, close-whole, unlock-empties, unlock-whole, end-empties, end-whole}
-use Rattle.soundness.proofs.Shapes.{SoundShape, opened-shape, made-shape}
-use Rattle.soundness.proofs.Leaves.{Leaf, listOf, fileBy, newBy, MayMake, MayDelete, MayRename, MayWrite, MayLock, imageWritten, refused, reopened, newlyOpened, newlyMade, nowClosed, nowErased, nowRenamed, nowRead, nowWritten, nowRewritten, nowLocked, lockIdle, nowUnlocked, unlockIdle, nowTold, nowEnded}
+use Rattle.soundness.proofs.Shapes.{SoundShape, opened-shape, made-shape, emptied-shape, dropped-shape, written-follows, erased-follows, renamed-follows}
+use Rattle.soundness.proofs.Leaves.{Leaf, listOf, fileBy, newBy, MayMake, MayDelete, MayRename, MayWrite, MayLock, imageWritten, refused, reopened, newlyOpened, newlyMade, nowClosed, nowErased, nowDropped, nowRenamed, nowRead, nowWritten, nowRewritten, nowLocked, lockIdle, nowUnlocked, unlockIdle, nowTold, nowEnded}
 use Rattle.soundness.proofs.Walk.{walk}
 
--- the list, beside the image t: nothing, one place set, a run set, places emptied
+-- the list, beside the image t: nothing (and it is then sound beside t if it was before), one place set, a run set, places emptied
 pub data ListLeft (kind : Kind) (p c : ℕ) (b : Buffers) : List ℕ → List ℕ → Type 0 where
-  list-same : (t : List ℕ) → ListLeft kind p c b t (b .list)
+  list-same : (t : List ℕ) → (SoundLocks kind (listOf b) (b .image) → SoundLocks kind (listOf b) t) → ListLeft kind p c b t (b .list)
   one-set : Passed kind p c b → (t : List ℕ) (mode : ℕ) → freePlace (listOf b) < listOf b .capacity → SoundShape kind (opened p (fileBy p b) mode (listOf b)) t
       → ListLeft kind p c b t (pack (opened p (fileBy p b) mode (listOf b)))
   run-set : Passed kind p c b → MayLock kind p c b → ListLeft kind p c b (b .image) (pack (lockedRun p (fileBy p b) (recordOf (b .fcb)) c (listOf b)))
-  emptied : Passed kind p c b → (away : Item → Bool) (turn : Item → Item) → Empties away turn → Whole (listOf b) away
-      → ((it : Item) → away it ≡ true → it .process ≡ p)
-      → ListLeft kind p c b (b .image) (pack (withItems (listOf b) (map turn (listOf b .items))))
+  emptied : Passed kind p c b → (t : List ℕ) (away : Item → Bool) (turn : Item → Item) → Empties away turn → ((it : Item) → away it ≡ true → it .process ≡ p)
+      → SoundShape kind (withItems (listOf b) (map turn (listOf b .items))) t
+      → ListLeft kind p c b t (pack (withItems (listOf b) (map turn (listOf b .items))))
 
 -- the image: nothing, an entry made, a record written, a file's entries erased or renamed
 pub data ImageLeft (kind : Kind) (p c : ℕ) (b : Buffers) : List ℕ → Type 0 where
@@ -61,34 +62,50 @@ module _ (kind : Kind) (n p c : ℕ) (b : Buffers) where
   dma-full : Passed kind p c b → 128 ≤ length (b .dma)
   dma-full ok = let w = ok .ready .dma-long in omega arith
 
+  -- list and image as they were
+  nothing-left : (o : Outcome) → o .left .list ≡ b .list → o .left .image ≡ b .image → Left kind p c b o
+  nothing-left o e f = record { list = rw (e, f) (list-same _ (λ g. g)); image = rw f image-same }
+
+  -- places emptied, and the image as it was
+  gone : (ok : Passed kind p c b) (away : Item → Bool) (turn : Item → Item) → Empties away turn → Whole (listOf b) away
+      → ((it : Item) → away it ≡ true → it .process ≡ p) → ListLeft kind p c b (b .image) (pack (withItems (listOf b) (map turn (listOf b .items))))
+  gone ok away turn e w own = emptied ok _ away turn e own (emptied-shape kind p c b ok away turn e w)
+
   left-by : (o : Outcome) → Leaf kind n p c b o → Left kind p c b o
   unfolding closed unlockedRun terminated
-  left-by o (refused code z) = record { list = list-same _; image = image-same }
-  left-by o (reopened k ok w fcb) = record { list = list-same _; image = image-same }
+  left-by o (refused code z) = nothing-left _ refl refl
+  left-by o (reopened k ok w fcb) = nothing-left _ refl refl
   left-by o (newlyOpened k ok w fcb) = record { list = one-set ok _ _ (w .room) (opened-shape kind p c b ok w); image = image-same }
   left-by o (newlyMade k ok w fcb) = record { list = one-set ok _ _ (w .room) (made-shape kind p c b ok w); image = entry-made ok w }
   left-by o (nowClosed k ok w) = record {
-    list = emptied ok _ _ (close-empties p (fileBy p b)) (close-whole (listOf b) p (fileBy p b)) (close-own p (fileBy p b));
+    list = gone ok _ _ (close-empties p (fileBy p b)) (close-whole (listOf b) p (fileBy p b)) (close-own p (fileBy p b));
     image = image-same;
   }
-  left-by o (nowErased k ok w) = record { list = list-same _; image = file-erased ok w }
-  left-by o (nowRenamed k ok w) = record { list = list-same _; image = file-renamed ok w }
-  left-by o (nowRead k ok dma) = record { list = list-same _; image = image-same }
-  left-by o (nowWritten k ok w zeros) = record { list = list-same _; image = record-stored ok w zeros (b .dma) (dma-full ok) (λ h. h) }
+  left-by o (nowErased k ok w u) = record { list = list-same _ (λ g. erased-follows kind p c b ok w u); image = file-erased ok w }
+  left-by o (nowDropped k ok w m) = record {
+    list = emptied ok _ _ _ (close-empties p (fileBy p b)) (close-own p (fileBy p b)) (dropped-shape kind p c b ok w);
+    image = file-erased ok w;
+  }
+  left-by o (nowRenamed k ok w) = record { list = list-same _ (λ g. renamed-follows kind p c b ok w); image = file-renamed ok w }
+  left-by o (nowRead k ok dma) = nothing-left _ refl refl
+  left-by o (nowWritten k ok w zeros) = record {
+    list = list-same _ (λ g. written-follows kind p c b ok w zeros (b .dma) (dma-full ok));
+    image = record-stored ok w zeros (b .dma) (dma-full ok) (λ h. h);
+  }
   left-by o (nowRewritten k ok w some v full from) = record {
-    list = list-same _;
+    list = list-same _ (λ g. written-follows kind p c b ok w false v full);
     image = record-stored ok w false v full (λ h. rw from (bytes-part 128 128 (b .dma) h));
   }
   left-by o (nowLocked k ok w) = record { list = run-set ok w; image = image-same }
-  left-by o (lockIdle k ok w) = record { list = list-same _; image = image-same }
+  left-by o (lockIdle k ok w) = nothing-left _ refl refl
   left-by o (nowUnlocked k ok w) = record {
-    list = emptied ok _ _ (unlock-empties p (fileBy p b) (recordOf (b .fcb)) c) (unlock-whole (listOf b) p (fileBy p b) (recordOf (b .fcb)) c)
+    list = gone ok _ _ (unlock-empties p (fileBy p b) (recordOf (b .fcb)) c) (unlock-whole (listOf b) p (fileBy p b) (recordOf (b .fcb)) c)
         (unlock-own p (fileBy p b) (recordOf (b .fcb)) c);
     image = image-same;
   }
-  left-by o (unlockIdle k ok w) = record { list = list-same _; image = image-same }
-  left-by o (nowTold k ok dma) = record { list = list-same _; image = image-same }
-  left-by o (nowEnded k ok) = record { list = emptied ok _ _ (end-empties p) (end-whole (listOf b) p) (λ it h. eqb-true _ _ h); image = image-same }
+  left-by o (unlockIdle k ok w) = nothing-left _ refl refl
+  left-by o (nowTold k ok dma) = nothing-left _ refl refl
+  left-by o (nowEnded k ok) = record { list = gone ok _ _ (end-empties p) (end-whole (listOf b) p) (λ it h. eqb-true _ _ h); image = image-same }
 
   -- every call leaves one of these
   pub left : Left kind p c b (call kind n p c b)

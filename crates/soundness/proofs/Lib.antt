@@ -17,6 +17,7 @@ pub mod Follows
 pub mod Held
 pub mod Run
 pub mod Taken
+pub mod Deleted
 pub mod Ends
 pub mod Shapes
 pub mod Left

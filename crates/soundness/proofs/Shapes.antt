@@ -1,26 +1,34 @@
 -- A list after each change of it: its shape, and that it is sound. Assumes nothing.
-use Prim.Native.Nat.{ℕ, _<_}
-use mathlib.Core.Path.{sym, subst}
-use mathlib.Core.Bool.{Bool}
+use Prim.Native.Nat.{ℕ, _≤_, _<_}
+use mathlib.Core.Path.{_≡_, sym, subst}
+use mathlib.Core.Bool.{Bool, false}
 use mathlib.Core.List.{List, map}
+use mathlib.Core.Logic.{⊎-elim}
 use native.Mathlib.Omega.{arith}
+use lib.ListN.{length}
 use Rattle.rules.specs.declared.kind.Kind.{Kind}
+use Rattle.rules.specs.declared.file.File.{File}
 use Rattle.rules.specs.declared.item.Item.{Item}
 use Rattle.rules.specs.declared.list.LockList.{LockList}
 use Rattle.rules.specs.Serves.{Buffers}
 use Rattle.rules.specs.Drive.{freeEntry}
-use Rattle.rules.specs.Locks.{freshOpen, freePlace, withItems, unpack, pack}
+use Rattle.rules.specs.Locks.{freshOpen, freePlace, anyOpen, withItems, unpack, pack}
 use Rattle.rules.specs.Asks.{recordOf, openMode, makeMode}
-use Rattle.rules.specs.Effects.{placed, opened, made, lockedRun}
+use Rattle.rules.specs.Effects.{placed, opened, made, erased, renamed, isOfFile, unlessOfFile, closed, lockedRun}
+use Rattle.rules.proofs.Sound.{SoundImage}
 use Rattle.rules.proofs.SoundList.{Shape, SoundLocks, capacity-fits, unpacked}
 use Rattle.rules.proofs.Passed.{Passed}
 use Rattle.soundness.proofs.Placed.{free-room, Fits, set-shape, set-sound}
-use Rattle.soundness.proofs.Emptied.{Empties, Whole, gone-shape, gone-sound}
-use Rattle.soundness.proofs.Follows.{follow-grown}
+use Rattle.soundness.proofs.Changes.{Grown, Touches}
+use Rattle.soundness.proofs.Written.{Old, New}
+use Rattle.soundness.proofs.Erased.{erased-sound, erased-touches}
+use Rattle.soundness.proofs.Emptied.{Empties, Whole, gone-shape, gone-sound, close-empties, close-whole}
+use Rattle.soundness.proofs.Follows.{follow-grown, follow-touched}
 use Rattle.soundness.proofs.Run.{running}
-use Rattle.soundness.proofs.Taken.{mayopen-fits, maymake-fits}
-use Rattle.soundness.proofs.Leaves.{listOf, fileBy, MayOpen, MayMake, MayLock}
-use Rattle.soundness.proofs.Ends.{shape-of, list-of, made-of, made-there, takes-of}
+use Rattle.soundness.proofs.Taken.{caller-long, mayopen-fits, maymake-fits, no-items}
+use Rattle.soundness.proofs.Deleted.{unopened-none, closed-none}
+use Rattle.soundness.proofs.Leaves.{listOf, fileBy, newBy, openBy, MayOpen, MayMake, MayDelete, MayRename, MayWrite, MayLock, imageWritten}
+use Rattle.soundness.proofs.Ends.{image-of, shape-of, list-of, made-of, made-there, renamed-of, renamed-touch, written-of, takes-of}
 
 -- the list has its shape and is sound
 pub record SoundShape (kind : Kind) (l : LockList) (s : List ℕ) : Type 0 where
@@ -70,6 +78,24 @@ module _ (kind : Kind) (p c : ℕ) (b : Buffers) (ok : Passed kind p c b) where
     sound = gone-sound (listOf b) away turn t (shape-of kind p c b ok) kind (b .image) (list-of kind p c b ok) w;
   }
 
+  -- .. with a deleted file's, ..
+  pub dropped-shape : MayDelete kind p b → SoundShape kind (closed p (fileBy p b) (listOf b)) (erased kind (fileBy p b) (b .image))
+  dropped-shape w =
+      let f = fileBy p b in
+      let long = caller-long p (listOf b) (b .fcb) in
+      let k = close-shape in
+      let gone = no-items kind (b .image) (closed p f (listOf b)) (k .sound) f (closed-none p (listOf b) f (w .none-others) (shape-of kind p c b ok)) in
+      record {
+        shape = k .shape;
+        sound = follow-touched kind (b .image) (erased kind f (b .image)) (closed p f (listOf b)) (k .shape)
+            (erased-sound kind (b .image) f (image-of kind p c b ok) long) (k .sound) f f
+            (erased-touches kind (b .image) f (image-of kind p c b ok) long) gone;
+      }
+    where
+      close-shape : SoundShape kind (closed p (fileBy p b) (listOf b)) (b .image)
+      close-shape = unfold closed in emptied-shape (isOfFile p (fileBy p b)) (unlessOfFile p (fileBy p b)) (close-empties p (fileBy p b))
+          (close-whole (listOf b) p (fileBy p b))
+
   -- .. and with a run of locks
   pub locked-shape : MayLock kind p c b → SoundShape kind (lockedRun p (fileBy p b) (recordOf (b .fcb)) c (listOf b)) (b .image)
   unfolding lockedRun
@@ -77,3 +103,32 @@ module _ (kind : Kind) (p c : ℕ) (b : Buffers) (ok : Passed kind p c b) where
       let k = running kind (b .image) (listOf b) p (fileBy p b) (recordOf (b .fcb)) c (shape-of kind p c b ok) (list-of kind p c b ok)
       (takes-of kind p c b ok w) c (omega arith) in
       rw (k .is) (record { shape = k .shape; sound = k .sound })
+
+  -- ---- the list stays, and the image changes
+
+  grown : (t : List ℕ) → SoundImage kind t → Grown kind (b .image) t → SoundLocks kind (listOf b) t
+  grown t g w = follow-grown kind (b .image) t (listOf b) (shape-of kind p c b ok) g (list-of kind p c b ok) w
+
+  touched : (t : List ℕ) (h : File) → SoundImage kind t → Touches kind (b .image) t (fileBy p b) h → anyOpen (listOf b) (fileBy p b) ≡ false
+      → SoundLocks kind (listOf b) t
+  touched t h g w none = follow-touched kind (b .image) t (listOf b) (shape-of kind p c b ok) g (list-of kind p c b ok) (fileBy p b) h w
+      (no-items kind (b .image) (listOf b) (list-of kind p c b ok) (fileBy p b) none)
+
+  -- a list that stays is sound beside a record written, ..
+  pub written-follows : MayWrite kind p b → (zeros : Bool) (v : List ℕ) → 128 ≤ length v → SoundLocks kind (listOf b) (imageWritten kind zeros p b v)
+  written-follows w zeros v full =
+      let t = imageWritten kind zeros p b v in
+      ⊎-elim (λ (k : Old kind (b .image) t (fileBy p b) (recordOf (b .fcb))). grown t (k .wrote .change .sound) (k .wrote .change .grown))
+      (λ (k : New kind (b .image) t (fileBy p b) (recordOf (b .fcb))). grown t (k .wrote .change .sound) (k .wrote .change .grown))
+      (written-of kind p c b ok w zeros v full)
+
+  -- .. a file erased that nobody has open, ..
+  pub erased-follows : MayDelete kind p b → 64 ≤ openBy p b → SoundLocks kind (listOf b) (erased kind (fileBy p b) (b .image))
+  erased-follows w u =
+      let long = caller-long p (listOf b) (b .fcb) in
+      touched _ (fileBy p b) (erased-sound kind (b .image) (fileBy p b) (image-of kind p c b ok) long)
+      (erased-touches kind (b .image) (fileBy p b) (image-of kind p c b ok) long) (unopened-none p (listOf b) (fileBy p b) (w .none-others) u)
+
+  -- .. or renamed
+  pub renamed-follows : MayRename kind p b → SoundLocks kind (listOf b) (renamed kind (fileBy p b) (newBy p b .name) (b .image))
+  renamed-follows w = touched _ (newBy p b) (renamed-of kind p c b ok w) (renamed-touch kind p c b ok w) (w .unopened)

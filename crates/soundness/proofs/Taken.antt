@@ -181,22 +181,40 @@ module _ (kind : Kind) (s : List ℕ) (p c : ℕ) (b : Buffers) (ok : Passed kin
 
 -- ---- a file that nobody has open has no items
 
-module _ (kind : Kind) (s : List ℕ) (l : LockList) (g : SoundLocks kind l s) (f : File) (none : anyOpen l f ≡ false) where
-  no-open : (i : ℕ) → i < 64 → itemAt l i .kind ≡ 1 → userOf l (itemAt l i .process) ≡ f .user → sameName (itemAt l i .name) (f .name) ≡ true → ⊥
-  unfolding anyOpen opensFileAt opensFile
-  no-open i m k u n = never (and-both _ _ (eq-eqb _ _ k) (and-both _ _ (eq-eqb _ _ u) n)) (any-at (opensFileAt l f) 64 i none m)
+-- the process has the file open, at some place
+pub record Opener (l : LockList) (f : File) (p : ℕ) : Type 0 where
+  pub place : ℕ
+  pub below : place < 64
+  pub opens : opensFileAt l f place ≡ true
+  pub by : itemAt l place .process ≡ p
 
-  -- no item is of the file
-  pub no-items : (i : ℕ) → i < 64 → GoodOpen kind s l (itemAt l i) ⊎ GoodLock kind s l (itemAt l i) → fileOf l (itemAt l i) ≡ f → ⊥
-  no-items i m c e =
+module _ (kind : Kind) (s : List ℕ) (l : LockList) (g : SoundLocks kind l s) (f : File) where
+  opens-so : (p i : ℕ) → i < 64 → itemAt l i .process ≡ p → itemAt l i .kind ≡ 1 → userOf l p ≡ f .user → sameName (itemAt l i .name) (f .name) ≡ true
+      → Opener l f p
+  unfolding opensFileAt opensFile
+  opens-so p i m b k u n = record {
+    place = i;
+    below = m;
+    opens = and-both _ _ (eq-eqb _ _ k) (and-both _ _ (eq-eqb _ _ (ap (λ (q : ℕ). userOf l q) b ∙ u)) n);
+    by = b;
+  }
+
+  -- who has an item on the file has it open, ..
+  pub opener : (i : ℕ) → i < 64 → GoodOpen kind s l (itemAt l i) ⊎ GoodLock kind s l (itemAt l i) → fileOf l (itemAt l i) ≡ f → Opener l f (itemAt l i .process)
+  opener i m c e =
       let u : userOf l (itemAt l i .process) ≡ f .user = ap (λ (k : File). k .user) e in
       let n : sameName (itemAt l i .name) (f .name) ≡ true = rw (← e) (name-refl (itemAt l i .name)) in
       ⊎-elim
-      (λ (o : GoodOpen kind s l (itemAt l i)). no-open i m (o .kind-one) u n)
+      (λ (o : GoodOpen kind s l (itemAt l i)). opens-so _ i m refl (o .kind-one) u n)
       (λ (o : GoodLock kind s l (itemAt l i)).
       let k = o .holder in
       let x = open-is _ _ (itemAt l (k .place)) (k .opens) in
-      no-open (k .place) (k .below) (x .kind-one) (ap (λ (q : ℕ). userOf l q) (x .by) ∙ u) (name-then _ _ _ (x .named) n)) c
+      opens-so _ (k .place) (k .below) (x .by) (x .kind-one) u (name-then _ _ _ (x .named) n)) c
+
+  -- .. so no item is of a file that nobody has open
+  pub no-items : anyOpen l f ≡ false → (i : ℕ) → i < 64 → GoodOpen kind s l (itemAt l i) ⊎ GoodLock kind s l (itemAt l i) → fileOf l (itemAt l i) ≡ f → ⊥
+  unfolding anyOpen
+  no-items none i m c e = let w = opener i m c e in never (w .opens) (any-at (opensFileAt l f) 64 (w .place) none (w .below))
 
 -- ---- a run of locks
 

@@ -21,13 +21,13 @@ use Rattle.rules.specs.Serves.{Buffers, Outcome, chosen, isUnknown}
 use Rattle.rules.specs.Drive.{entryOf, lookUp, blockOf}
 use Rattle.rules.specs.Locks.{isOpened}
 use Rattle.rules.specs.Asks.{recordOf}
-use Rattle.rules.specs.Codes.{rowsAll, rows42, rows43, stopsDelete, stopsRename}
-use Rattle.rules.specs.Effects.{does15, does16, does19, does22, makes, does23, does33, does34, does41, does42, does43, does46, does143}
+use Rattle.rules.specs.Codes.{rowsAll, rows42, rows43, stopsRename}
+use Rattle.rules.specs.Effects.{does15, does16, closedWhere, does19, does22, makes, does23, does33, does34, does41, does42, does43, does46, does143}
 use Rattle.rules.specs.Call.{asked, askedBy, rowsOf, effectOf, rowsCall, call}
 use Rattle.rules.proofs.Tables.{accepted, refused, nonzero-call}
 use Rattle.rules.proofs.Passed.{Passed, passed, known}
 use Rattle.rules.proofs.Rows.{passes-15, passes-16, passes-19, passes-22, passes-23, passes-34, passes-41, run-open, passes-42}
-use Rattle.soundness.proofs.Leaves.{Leaf, listOf, fileBy, newBy, openBy, modeBy, reopened, newlyOpened, newlyMade, nowClosed, nowErased, nowRenamed, nowRead, nowWritten, nowRewritten, nowLocked, lockIdle, nowUnlocked, unlockIdle, nowTold, nowEnded}
+use Rattle.soundness.proofs.Leaves.{Leaf, listOf, fileBy, newBy, openBy, modeBy, MayDelete, reopened, newlyOpened, newlyMade, nowClosed, nowErased, nowDropped, nowRenamed, nowRead, nowWritten, nowRewritten, nowLocked, lockIdle, nowUnlocked, unlockIdle, nowTold, nowEnded}
 
 -- the entries of the caller's file: of extent 0, and of the extent with the record
 abbrev first : Kind → ℕ → Buffers → ℕ
@@ -74,10 +74,14 @@ module _ (kind : Kind) (n p c : ℕ) (b : Buffers) (ok : Passed kind p c b) wher
 
   delete-leaf : chosen n ≡ Call Delete → anyRow (rowsOf (Call Delete) (asked kind p c b) b) ≡ false
       → Leaf kind n p c b (effectOf (Call Delete) (asked kind p c b) b)
-  unfolding rowsOf effectOf asked askedBy does19 lookUp stopsDelete
+  unfolding rowsOf effectOf asked askedBy does19 closedWhere lookUp isOpened _if_else_
   delete-leaf k h =
-      let w = passes-19 kind (listOf b) (fileBy p b) (lookUp kind (b .image) (fileBy p b)) (b .fcb) (b .image) h in
-      nowErased k ok (record { legal = w .legal; there = w .there; unopened = w .unstopped })
+      let w = passes-19 kind p (listOf b) (fileBy p b) (lookUp kind (b .image) (fileBy p b)) (b .fcb) (b .image) h in
+      let may : MayDelete kind p b = record { legal = w .legal; there = w .there; none-others = w .unstopped } in
+      ⊎-elim
+      (λ (q : ltb (openBy p b) 64 ≡ true). rw q (nowDropped k ok may (ltb-true _ _ q)))
+      (λ (q : ltb (openBy p b) 64 ≡ false). rw q (nowErased k ok may (ltb-false _ _ q)))
+      (either (ltb (openBy p b) 64))
 
   rename-leaf : chosen n ≡ Call Rename → anyRow (rowsOf (Call Rename) (asked kind p c b) b) ≡ false
       → Leaf kind n p c b (effectOf (Call Rename) (asked kind p c b) b)

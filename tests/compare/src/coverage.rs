@@ -76,11 +76,16 @@ const CLOSE: &[Row] = &[
 const DELETE: &[Row] = &[
     (255, 9, "illegal name"),
     (255, 0, "no such file"),
-    (255, 5, "open by the caller"),
     (255, 5, "open by another"),
+    (255, 5, "open by another and the caller"),
     (255, 3, "read-only attribute"),
+    (255, 3, "read-only attribute, open by the caller"),
     (0, 0, "deleted one entry"),
     (0, 0, "deleted several entries"),
+    (0, 0, "deleted, open locked"),
+    (0, 0, "deleted, open read-only"),
+    (0, 0, "deleted, open unlocked"),
+    (0, 0, "deleted, open unlocked with locks"),
 ];
 
 const RENAME: &[Row] = &[

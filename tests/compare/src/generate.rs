@@ -670,6 +670,11 @@ impl Generator {
         if function == 22 && self.random.chance(40) {
             return self.fresh_name();
         }
+        if function == 19 && self.random.chance(30) {
+            if let Some(name) = self.own_file(process) {
+                return name;
+            }
+        }
         if matches!(function, 19 | 23) && self.random.chance(60) {
             if let Some(name) = self.idle_file(cast.users[usize::from(process)]) {
                 return name;
@@ -682,6 +687,16 @@ impl Generator {
         let mut name = *b"NEW     TMP";
         name[3] = b'0' + self.random.below(10) as u8;
         name
+    }
+
+    /// A file that the process has open.
+    fn own_file(&mut self, process: u8) -> Option<[u8; 11]> {
+        let opens = self.opens().into_iter();
+        let own: Vec<[u8; 11]> = opens
+            .filter(|open| open.process == process)
+            .map(|open| open.name)
+            .collect();
+        self.random.pick_any(&own)
     }
 
     /// A file on the image that nobody has open.

@@ -165,7 +165,7 @@ impl History {
             15 => self.grant_open(process, file, mode_asked(call.fcb, true)),
             22 => self.grant_open(process, file, mode_asked(call.fcb, false)),
             16 => self.close(process, file),
-            19 => self.groups.retain(|group| group.file != file),
+            19 => self.delete(process, file),
             23 => self.carry_over(file, low_bits(&call.fcb[17..28])),
             34 | 40 => self.touch(file, record..record + stored),
             42 => self.grant_run(process, file, record..record + call.count),
@@ -182,6 +182,12 @@ impl History {
         self.opens.remove(&(process, file));
         self.locks
             .retain(|lock| lock.process != process || lock.file != file);
+    }
+
+    /// Nobody else has the file open. What the caller has goes as by a Close.
+    fn delete(&mut self, process: u8, file: FileName) {
+        self.groups.retain(|group| group.file != file);
+        self.close(process, file);
     }
 
     fn terminate(&mut self, process: u8) {

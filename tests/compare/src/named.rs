@@ -30,7 +30,7 @@ impl Case {
 }
 
 /// Played on drives of both kinds.
-const CASES: [(&str, Play); 32] = [
+const CASES: [(&str, Play); 33] = [
     ("the session", session),
     ("open again at the open limit and with a full list", open_again),
     ("rename to itself", rename_to_itself),
@@ -49,6 +49,10 @@ const CASES: [(&str, Play); 32] = [
     ("rows of Open", rows_of_open),
     ("rows of Make and Close", rows_of_make_and_close),
     ("rows of Delete", rows_of_delete),
+    (
+        "Delete of a file that only the caller has open",
+        delete_of_an_open_file,
+    ),
     ("rows of Rename", rows_of_rename),
     ("rows of Read", rows_of_read),
     ("rows of the writing calls", rows_of_writing),
@@ -381,7 +385,11 @@ fn session(script: &mut Script) {
     script.list_has(2, [0; 20]);
     script.call(2, 42, orders(size)).id(1, 0).ok();
     script.list_has(0, lock_item(2, orders_name, size));
-    script.call(2, 19, orders(0)).id(1, 0).gives(255, 5);
+    script.call(2, 19, orders(0)).id(1, 0).ok();
+    script.list_has(0, [0; 20]);
+    script.list_has(1, [0; 20]);
+    script.image_has(0, &[0xE5, b'O']);
+    script.call(2, 46, orders(0)).tells(2 * size);
 }
 
 fn open_again(script: &mut Script) {
@@ -835,7 +843,6 @@ fn rows_of_delete(script: &mut Script) {
     }
     script.call(0, 19, Fcb::named("NONE")).gives(255, 0);
     script.call(0, 15, other()).ok();
-    script.call(0, 19, other()).gives(255, 5);
     script.call(1, 19, other()).gives(255, 5);
     script.call(1, 19, file()).gives(255, 3);
     script.call(0, 15, file()).ok();
@@ -847,6 +854,75 @@ fn rows_of_delete(script: &mut Script) {
     script.call(1, 19, other()).gives(255, 0);
     script.call(1, 19, Fcb::named("THIRD")).ok();
     script.image_has(128, &[1]);
+    // The caller's own open of the file that may not go stays.
+    script.call(0, 19, file()).gives(255, 3);
+    script.list_has(1, open_item(0, name(FILE), 0));
+}
+
+/// Delete takes the caller's open and locks with the file, in any mode, and nothing else.
+fn delete_of_an_open_file(script: &mut Script) {
+    let drive = one_file(script.kind, 6);
+    for (fcb, mode) in [(file(), 0), (file().read_only(), 2), (shared(), 1)] {
+        script.world(&drive, [9, 9, 9]);
+        script.call(3, 15, fcb).ok();
+        script.list_has(0, open_item(3, name(FILE), mode));
+        script.call(3, 23, fcb.new_name(name("NEW"))).gives(255, 5);
+        script.call(4, 19, fcb).gives(255, 5);
+        script.call(3, 19, fcb).ok();
+        script.list_has(0, [0; 20]);
+        script.image_has(0, &[0xE5, b'F']);
+        script.image_has(32, &[0xE5, b'F']);
+        script.call(3, 33, fcb).gives(10, 0);
+        script.call(3, 16, fcb).gives(255, 6);
+        script.call(3, 19, fcb).gives(255, 0);
+        // The place and the entry are to be had again.
+        script.call(5, 22, shared()).ok();
+        script.list_has(0, open_item(5, name(FILE), 1));
+        script.image_has(0, &[0, b'F']);
+    }
+    // Locks in another file, and the same name of another user, stay as they are.
+    let size = script.size();
+    let book = script.empty(8).with(&[
+        (Entry::named(FILE).count(8), &[(0, 2), (1, 3)]),
+        (Entry::named(OTHER).count(8), &[(0, 4)]),
+        (Entry::of(1, name(FILE), 0).count(8), &[(0, 5)]),
+        (Entry::named(FILE).extent(40).count(1), &[(0, 6)]),
+    ]);
+    let mut users = [0; 16];
+    users[7] = 1;
+    script.world_of(&book, [16, 9, 9], users);
+    script.call(2, 15, other().unlocked()).ok();
+    script.call(2, 15, shared()).ok();
+    script.call(7, 15, shared()).ok();
+    script.call(2, 42, shared()).id(1, 0).count(2).ok();
+    script.call(2, 42, other()).id(0, 0).count(2).ok();
+    script.call(2, 42, shared().record(size + 1)).id(1, 0).ok();
+    script.call(7, 42, shared()).id(2, 0).ok();
+    script.call(4, 15, shared()).ok();
+    // With another's open beside it, nothing goes.
+    script.call(2, 19, file()).gives(255, 5);
+    script.call(4, 19, file()).gives(255, 5);
+    script.call(4, 16, file()).ok();
+    script.call(2, 46, file()).tells(size);
+    script.call(2, 19, file()).ok();
+    script.list_has(0, open_item(2, name(OTHER), 1));
+    script.list_has(1, [0; 20]);
+    script.list_has(2, open_item(7, name(FILE), 1));
+    script.list_has(3, [0; 20]);
+    script.list_has(4, [0; 20]);
+    script.list_has(5, lock_item(2, name(OTHER), 0));
+    script.list_has(6, lock_item(2, name(OTHER), 1));
+    script.list_has(7, [0; 20]);
+    script.list_has(8, lock_item(7, name(FILE), 0));
+    script.list_has(9, [0; 20]);
+    script.image_has(64, &[1, b'F']);
+    script.image_has(96, &[0xE5, b'F']);
+    script.call(2, 46, file()).tells(4 * size);
+    script.call(7, 33, shared()).ok();
+    script.call(7, 19, shared()).ok();
+    script.list_has(2, [0; 20]);
+    script.list_has(8, [0; 20]);
+    script.list_has(5, lock_item(2, name(OTHER), 0));
 }
 
 fn rows_of_rename(script: &mut Script) {

@@ -387,7 +387,8 @@ fn buffers_that_may_change(step: &Step, answer: u32) -> [bool; 4] {
         15 => [true, false, true, false],
         22 => [true, false, true, true],
         33 | 46 => [false, true, false, false],
-        19 | 23 | 34 | 40 | 41 => [false, false, false, true],
+        19 => [false, false, true, true],
+        23 | 34 | 40 | 41 => [false, false, false, true],
         16 | 42 | 43 | 143 => [false, false, true, false],
         _ => NONE,
     }

@@ -283,6 +283,84 @@ fn delete_clears_entries(done: &mut Done) {
     }
 }
 
+/// The places that a Delete has emptied, with what stood there.
+fn places_emptied(done: &Done) -> Vec<(usize, Vec<u8>)> {
+    let places = (0..64).map(|place| 19 + 20 * place..39 + 20 * place);
+    let emptied = places.filter(|place| done.before.list[place.clone()] != done.after.list[place.clone()]);
+    emptied
+        .map(|place| (place.start, done.before.list[place].to_vec()))
+        .collect()
+}
+
+fn delete_leaves_what_is_open(done: &mut Done) {
+    if done.is(19, 0) {
+        done.after.list = done.before.list.clone();
+    }
+}
+
+fn delete_leaves_locks(done: &mut Done) {
+    if !done.is(19, 0) {
+        return;
+    }
+    for (at, item) in places_emptied(done) {
+        if item[0] == b'L' {
+            done.after.list[at..at + 20].copy_from_slice(&item);
+        }
+    }
+}
+
+fn delete_refuses_the_callers_open(done: &mut Done) {
+    if done.is(19, 0) && !places_emptied(done).is_empty() {
+        done.after = done.before.clone();
+        done.answer = 255 + 256 * 5;
+    }
+}
+
+fn delete_needs_locked_mode(done: &mut Done) {
+    let is_unlocked = |(_, item): &(usize, Vec<u8>)| item[14] == 1;
+    if done.is(19, 0) && places_emptied(done).iter().any(is_unlocked) {
+        done.after = done.before.clone();
+        done.answer = 255 + 256 * 5;
+    }
+}
+
+fn delete_ends_the_process(done: &mut Done) {
+    if !done.is(19, 0) || places_emptied(done).is_empty() {
+        return;
+    }
+    for place in 0..64 {
+        let at = 19 + 20 * place;
+        if u32::from(done.before.list[at + 2]) == done.numbers.process {
+            done.after.list[at..at + 20].fill(0);
+        }
+    }
+}
+
+fn delete_closes_a_read_only_file(done: &mut Done) {
+    if done.is(19, 255 + 256 * 3) {
+        let close = Numbers {
+            function: 16,
+            ..done.numbers
+        };
+        done.after.call(close);
+    }
+}
+
+fn rename_passes_the_callers_open(done: &mut Done) {
+    if !done.is(23, 255 + 256 * 5) {
+        return;
+    }
+    let mut closed = done.before.clone();
+    let close = Numbers {
+        function: 16,
+        ..done.numbers
+    };
+    if closed.call(close) == 0 && closed.call(done.numbers) == 0 {
+        done.after = closed;
+        done.answer = 0;
+    }
+}
+
 fn rename_drops_attributes(done: &mut Done) {
     if !done.is(23, 0) {
         return;
@@ -570,7 +648,7 @@ fn takes_the_old_dma(done: &mut Done) {
     }
 }
 
-const FAULTS: [Fault; 44] = [
+const FAULTS: [Fault; 51] = [
     cuts_functions,
     cuts_processes,
     cuts_counts,
@@ -580,6 +658,13 @@ const FAULTS: [Fault; 44] = [
     make_leaves_byte_13,
     close_leaves_locks,
     delete_clears_entries,
+    delete_leaves_what_is_open,
+    delete_leaves_locks,
+    delete_refuses_the_callers_open,
+    delete_needs_locked_mode,
+    delete_ends_the_process,
+    delete_closes_a_read_only_file,
+    rename_passes_the_callers_open,
     rename_drops_attributes,
     rename_to_itself_succeeds,
     read_fills_the_whole_dma,

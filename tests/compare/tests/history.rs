@@ -98,7 +98,7 @@ fn a_good_run_agrees() {
         Step(3, 19, renamed, 1, 0),
         Step(3, 46, fresh, 1, 0),
         Step(1, 143, fresh, 1, 0),
-        Step(2, 16, orders(0), 1, 0),
+        Step(2, 42, orders(0), 1, 1),
         Step(2, 19, orders(0), 1, 0),
         Step(2, 46, orders(0), 1, 0),
     ] {

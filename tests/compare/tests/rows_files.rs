@@ -127,8 +127,8 @@ fn users_have_files_of_their_own() {
     assert_eq!(world.ask(1, 15, file()).go(), (255, 0));
     world.must(1, 22, file());
     assert_eq!(world.entry(1), Entry::of(1, name("FILE.DAT"), 0).0);
+    assert_eq!(world.ask(1, 23, file().new_name(name("NEW"))).go(), (255, 5));
     world.must(1, 16, file());
-    assert_eq!(world.ask(0, 19, file()).go(), (255, 5));
     world.must(1, 19, file());
     assert_eq!(world.entry(1)[0], 0xE5);
     assert_eq!(world.entry(0)[0], 0);
@@ -234,15 +234,82 @@ fn delete_rows() {
         assert_eq!(world.ask(0, 19, Fcb::named(bad)).go(), (255, 9));
     }
     assert_eq!(world.ask(0, 19, Fcb::named("NONE")).go(), (255, 0));
-    world.must(0, 15, other());
-    assert_eq!(world.ask(0, 19, other()).go(), (255, 5), "the caller's");
+    world.must(0, 15, other().read_only());
     assert_eq!(world.ask(1, 19, other()).go(), (255, 5), "another's");
+    world.must(1, 15, other().read_only());
+    assert_eq!(
+        world.ask(0, 19, other()).go(),
+        (255, 5),
+        "another's beside the caller's"
+    );
+    world.must(1, 16, other());
     assert_eq!(world.ask(0, 19, file()).go(), (255, 3));
     world.must(0, 15, file());
     assert_eq!(world.ask(1, 19, file()).go(), (255, 5), "5 before 3");
-    world.must(0, 16, other());
+    let list = world.list.clone();
+    assert_eq!(
+        world.ask(0, 19, file()).go(),
+        (255, 3),
+        "the caller's own does not matter"
+    );
+    assert_eq!(world.list, list, "and stays open");
     world.must(0, 19, other());
     assert_eq!(world.ask(0, 19, other()).go(), (255, 0));
+}
+
+/// The list left is the one that Close leaves, byte for byte; the image the one that Delete leaves
+/// of the file when nobody has it open.
+#[test]
+fn delete_of_the_callers_open_file_is_close_and_delete() {
+    let entries = [
+        Entry::named("FILE.DAT").count(9).block(0, 2).block(1, 3),
+        Entry::named("OTHER.DAT").block(0, 4),
+        Entry::named("FILE.DAT").extent(3).block(5, 5),
+    ];
+    for (mode, locks) in [(0, 0), (1, 0), (1, 3), (2, 0)] {
+        let fcb = match mode {
+            0 => file(),
+            1 => file().unlocked(),
+            _ => file().read_only(),
+        };
+        let mut world = World::new(image_with(8, &entries));
+        world.must(6, 15, other().unlocked());
+        world.must(6, 15, fcb);
+        world.must(6, 42, other());
+        if locks > 0 {
+            let lock = world.ask(6, 42, file().record(7)).id(1).count(locks);
+            assert_eq!(lock.go(), (0, 0));
+        }
+        assert_eq!(
+            world.ask(6, 23, file().new_name(name("NEW"))).go(),
+            (255, 5),
+            "Rename"
+        );
+        let mut closed = world.clone();
+        closed.must(6, 16, file());
+        let list = closed.list.clone();
+        closed.must(6, 19, file());
+        world.must(6, 19, fcb);
+        assert_eq!(world.list, list);
+        assert_eq!(world.image, closed.image);
+        assert_eq!(world.fcb, fcb.0);
+        assert_eq!(world.entry(0)[0], 0xE5);
+        assert_eq!(world.entry(2)[0], 0xE5);
+    }
+}
+
+#[test]
+fn the_same_name_of_another_user_is_not_in_the_way_of_delete() {
+    let mut users = [0; 16];
+    users[1] = 1;
+    let entries = [Entry::named("FILE.DAT"), Entry::named("FILE.DAT").user(1)];
+    let mut world = World::with_users(image_with(6, &entries), [8, 8, 8], users);
+    world.must(1, 15, file());
+    world.must(0, 15, file());
+    world.must(0, 19, file());
+    assert_eq!(world.place(0), open_item(1, name("FILE.DAT"), 0));
+    assert_eq!(world.place(1), [0; 20]);
+    assert_eq!((world.entry(0)[0], world.entry(1)[0]), (0xE5, 1));
 }
 
 #[test]

@@ -108,7 +108,15 @@ fn s0_to_s13() {
     assert_eq!(item_at(&session.world.list, 0), lock_item(2, orders_name, 8));
     assert_eq!(item_at(&session.world.list, 2), [0; 20]);
 
-    assert_eq!(session.call(2, 19, 0, 1), (255, 5), "S13");
+    let mut image = session.world.image.clone();
+    assert_eq!(session.call(2, 19, 0, 1), OK, "S13");
+    assert_eq!(item_at(&session.world.list, 0), [0; 20]);
+    assert_eq!(item_at(&session.world.list, 1), [0; 20]);
+    assert!(session.world.list[19..].iter().all(|&byte| byte == 0));
+    image[0] = 0xE5;
+    assert_eq!(session.world.image, image);
+    assert_eq!(session.call(2, 46, 0, 1), OK);
+    assert_eq!(session.world.dma[..3], [16, 0, 0], "both blocks are free");
 }
 
 #[test]

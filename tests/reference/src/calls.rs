@@ -409,8 +409,50 @@ impl Scene<'_> {
         Ok(Effects::of_list(kind, list))
     }
 
-    /// The tests that Delete and Rename share once the name is known to be legal.
-    fn may_go(&self, file: &File) -> Result<(), Refusal> {
+    /// Another process's open stops Delete; the caller's own goes with the file.
+    fn delete(&self) -> Outcome {
+        let file = self.named().ok_or(extended(9, "illegal name"))?;
+        if !self.drive.has(&file) {
+            return Err(extended(0, "no such file"));
+        }
+        let own = self.list.open(&file, self.process);
+        if self.list.is_open_by_another(&file, self.process) {
+            return Err(match own {
+                None => extended(5, "open by another"),
+                Some(_) => extended(5, "open by another and the caller"),
+            });
+        }
+        if self.drive.is_read_only(&file) {
+            return Err(match own {
+                None => extended(3, "read-only attribute"),
+                Some(_) => extended(3, "read-only attribute, open by the caller"),
+            });
+        }
+        let mut drive = self.drive.clone();
+        drive.delete(&file);
+        let Some(own) = own else {
+            let kind = match self.drive.entries_of(&file) {
+                1 => "deleted one entry",
+                _ => "deleted several entries",
+            };
+            return Ok(Effects::of_drive(kind, drive));
+        };
+        let mut list = self.list.clone();
+        let locks = list.close(&file, self.process);
+        let kind = match (own.mode, locks) {
+            (Mode::Locked, _) => "deleted, open locked",
+            (Mode::ReadOnly, _) => "deleted, open read-only",
+            (Mode::Unlocked, 0) => "deleted, open unlocked",
+            (Mode::Unlocked, _) => "deleted, open unlocked with locks",
+        };
+        Ok(Effects {
+            drive: Some(drive),
+            ..Effects::of_list(kind, list)
+        })
+    }
+
+    /// Everybody's open stops Rename.
+    fn may_be_renamed(&self, file: &File) -> Result<(), Refusal> {
         if !self.drive.has(file) {
             return Err(extended(0, "no such file"));
         }
@@ -426,22 +468,10 @@ impl Scene<'_> {
         Ok(())
     }
 
-    fn delete(&self) -> Outcome {
-        let file = self.named().ok_or(extended(9, "illegal name"))?;
-        self.may_go(&file)?;
-        let mut drive = self.drive.clone();
-        drive.delete(&file);
-        let kind = match self.drive.entries_of(&file) {
-            1 => "deleted one entry",
-            _ => "deleted several entries",
-        };
-        Ok(Effects::of_drive(kind, drive))
-    }
-
     fn rename(&self) -> Outcome {
         let old = self.named().ok_or(extended(9, "illegal old name"))?;
         let new = self.named_at(17).ok_or(extended(9, "illegal new name"))?;
-        self.may_go(&old)?;
+        self.may_be_renamed(&old)?;
         if new == old {
             return Err(extended(8, "new name is the old one"));
         }

@@ -173,6 +173,10 @@ impl LockList {
         self.opens_of(file).next().is_some()
     }
 
+    pub fn is_open_by_another(&self, file: &File, process: u8) -> bool {
+        self.opens_of(file).any(|(other, _)| other != process)
+    }
+
     /// Every other process's open of the file can stand beside one in this mode.
     pub fn others_allow(&self, file: &File, process: u8, mode: Mode) -> bool {
         self.opens_of(file)

@@ -18,7 +18,11 @@ delete-by-spec =
     (λ c. search delete-refused)
     -- erase-requires
     (λ c κs. search needs)
+    -- close-where-requires
+    (λ c κs. search needs)
     -- same-length-2
+    (λ c. search needs)
+    -- same-length-3
     (λ c. search needs)
     -- returns-2
     (λ c. search delete-done))

@@ -10,9 +10,13 @@ delete-file-spec =
     (tie.spec
     -- caller-file-requires
     (λ c κs. search needs)
+    -- open-of-requires
+    (λ c κs. search needs)
     -- delete-by-requires
     (λ c κs. search needs)
     -- same-length
+    (λ c. search needs)
+    -- same-length-2
     (λ c. search needs)
     -- returns
     (λ c. search delete-called))

@@ -1,12 +1,12 @@
 -- `files::delete::delete_refusal` meets its contract.
 use borrow.Author.Needs.{needs}
 use Rattle.words.proofs.Sets.{codes}
-use Rattle.rules.specs.Codes.{stopsDelete, rows19}
+use Rattle.rules.specs.Codes.{rows19}
 use Rattle.files.proofs.delete.delete_refusal.Statement.{statement}
 use Rattle.files.proofs.delete.delete_refusal.Tie as tie
 
 pub delete-refusal-spec : {M : Type 1} → statement M
-unfolding rows19 stopsDelete
+unfolding rows19
 delete-refusal-spec =
     tie.close
     (tie.spec
@@ -18,7 +18,7 @@ delete-refusal-spec =
     (λ c κs. search needs)
     -- returns-2
     (λ c. search codes depth 8 fits 20000)
-    -- any-open-requires
+    -- is-open-elsewhere-requires
     (λ c κs. search needs)
     -- returns-3
     (λ c. search codes depth 8 fits 20000)
