@@ -1,12 +1,13 @@
 /* The engine of an archive, with the parameters of today's mpm.h whatever version its own was: NAME_call, NAME_singly
    and NAME_check over NAME_own_call and so on, which the archive's mpm_call and so on are renamed to. NAME and VERSION,
    the number in the archive's own mpm.h, are given when it is compiled.
-   Until version 2 there was one kind of drive, and nobody was told which. 4 has other names in its header, no more. */
+   Until version 2 there was one kind of drive, and nobody was told which. 4 has other names in its header, no more; with
+   5 the check of an unsound image tells an entry. */
 #include <stddef.h>
 #include <stdint.h>
 
-#if VERSION < 2 || VERSION > 4
-#error "only engines of the versions 2 to 4 can be called"
+#if VERSION < 2 || VERSION > 5
+#error "only engines of the versions 2 to 5 can be called"
 #endif
 
 #define JOINED(name, what) name##_##what
