@@ -26,7 +26,6 @@ use Rattle.rules.specs.Several.{servesRun}
 use Rattle.rules.proofs.Tables.{nonzero-all, call-refused, call-served}
 use Rattle.rules.proofs.Passed.{GoodNumbers, Passed, good-numbers, passed, drive-good}
 use Rattle.rules.proofs.Several.{run-plain, run-refused, run-told}
-use Rattle.rules.proofs.Sound.{sound-length, length-long}
 use Rattle.rules.proofs.Ends.{did-as, did-none}
 use Rattle.drive.specs.Walks.{Walked}
 use Rattle.calls.specs.Calls.{callBy, servedBy}
@@ -106,9 +105,9 @@ module _ (n p c : ℕ) (fcb dma list : List ℕ) (r : Bool) (e : r ≡ badNumber
         (passed kind n p c (buffers fcb dma list image) q, drive-good kind n p c (buffers fcb dma list image) q)
 
 -- after `if !sound_index(..) { return .. }`
-pub image-enough : (kind : Kind) (r : Bool) (s hints : List ℕ) → Walked (soundImage kind s) s (entries kind) r hints → not r ≡ false
-    → 32 * entries kind ≤ length s
-image-enough kind r s hints w t = let k = length-long kind s (sound-length kind s (sym (w .answer) ∙ not-false r t)) in omega arith
+pub image-there : (kind : Kind) (r : Bool) (s hints : List ℕ) → Walked (soundImage kind s) s (entries kind) r hints → not r ≡ false
+    → soundImage kind s ≡ true
+image-there kind r s hints w t = sym (w .answer) ∙ not-false r t
 
 -- ---- the ends of the general table, and of a call by the fast path and by the plain engine
 

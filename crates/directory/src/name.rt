@@ -1,4 +1,5 @@
 use rules::file::File;
+use words::test::both;
 ghost use mathlib.Core.Path.{_≡_};
 ghost use Prim.Native.Nat.{_+_, _≤_};
 ghost use lib.ListN.{length};
@@ -25,14 +26,13 @@ fn legal_bytes(s: &[u8], at: usize) -> bool
     requires { ⌜ at + 11 ≤ length (now s) ⌝ }
     ensures { λ r. ⌜ r ≡ all (legalAt (now (s .entry)) at) 11 ⌝ }
 {
+    let mut good = true;
     let mut k = 0;
     while k < 11 {
-        if !legal_byte(s[at + k]) {
-            return false;
-        }
+        good = both(good, legal_byte(s[at + k]));
         k += 1;
     }
-    true
+    good
 }
 
 // The eleven bytes from `at` on are a legal name.
@@ -51,14 +51,13 @@ pub fn is_named(s: &[u8], at: usize, name: [u8; 11]) -> bool
     requires { ⌜ at + 11 ≤ length (now s) ⌝ }
     ensures { λ r. ⌜ r ≡ isNamed (now (s .entry)) at name ⌝ }
 {
+    let mut good = true;
     let mut k = 0;
     while k < 11 {
-        if s[at + k] % 128 != name[k] {
-            return false;
-        }
+        good = both(good, s[at + k] % 128 == name[k]);
         k += 1;
     }
-    true
+    good
 }
 
 // The eleven bytes from `at` on.

@@ -29,7 +29,7 @@ ghost use Rattle.words.specs.Hints.{Hints};
 ghost use Rattle.words.specs.Tables.{firstOf};
 ghost use Rattle.rules.specs.declared.kind.Kind.the-variants.{Small, Large};
 ghost use Rattle.rules.specs.Kinds.{entries, numbers, most, lastModule};
-ghost use Rattle.rules.specs.Drive.{goodLength, blocks, goodNumbers, inRange, isRepeat, fileAt, isEntry, hasFirst, soundImage, badFor, judged, headless, directoryAnswer, imageCheck};
+ghost use Rattle.rules.specs.Drive.{goodLength, blocks, goodNumbers, inRange, fileAt, isEntry, hasFirst, soundImage, badFor, judged, headless, directoryAnswer, imageCheck};
 ghost use Rattle.index.specs.Slots.{slotAt, inUse};
 ghost use Rattle.drive.specs.Marks.{Marks, Marked, fieldReasons, Judged};
 ghost use Rattle.drive.specs.Walks.{Repeats, Walked, Answered};

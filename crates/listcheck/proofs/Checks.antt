@@ -23,28 +23,6 @@ use Rattle.rules.specs.Locks.{unpack, placeAt, itemAt, isLow, sameFile, opensNa
 use Rattle.listcheck.specs.Check.{openAlone, lockAlone, itemAlone, placeAlone, placeAloneAt, lockOpened, lockOpenedAt, goodHead}
 use Rattle.rules.specs.declared.kind.Kind.{Kind}
 
--- a name's length, as a callee asks it
-pub eleven : (name : List ℕ) → length name ≡ 11 → 11 ≤ length name
-eleven name h = omega arith
-
--- not past a bound is up to it
-pub past-not : (t : Bool) (a b : ℕ) → t ≡ ltb a b → not t ≡ leb b a
-past-not t a b e =
-    ⊎-elim (λ (h : ltb a b ≡ true). let k = ltb-true a b h in rw (e, h) (sym (lt-leb b a k)))
-    (λ (h : ltb a b ≡ false). let k = ltb-false a b h in rw (e, h) (sym (le-leb b a k))) (either (ltb a b))
-
--- ---- the high bit of a name's byte
-
-pub low-yes : (name : List ℕ) (k : ℕ) → getD name k 0 < 128 → isLow name k ≡ true
-unfolding isLow
-low-yes name k h = lt-ltb _ _ h
-
-pub low-no : (name : List ℕ) (k : ℕ) → 128 ≤ getD name k 0 → isLow name k ≡ false
-unfolding isLow
-low-no name k h = le-ltb _ _ h
-
-pub ruleset lows = (alls, low-yes, low-no)
-
 -- ---- what was found of a file on the image
 
 pub missing-as : (kind : Kind) (s : List ℕ) (f g : File) (x : Found) (r : Bool) → r ≡ missing kind x → x ≡ lookUp kind s f → f ≡ g

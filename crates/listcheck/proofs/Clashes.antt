@@ -1,15 +1,15 @@
 -- Items apart: those that clash have the same slot. Assumes nothing.
-use Prim.Native.Nat.{ℕ, _+_, _≤_, _<_}
-use mathlib.Core.Path.{_≡_, refl, sym, ap, _∙_}
-use mathlib.Core.Bool.{Bool, true, false, not}
+use Prim.Native.Nat.{ℕ, _+_, _≤_}
+use mathlib.Core.Path.{_≡_, sym, _∙_}
+use mathlib.Core.Bool.{true, false, not}
 use mathlib.Core.List.{List}
 use mathlib.Core.Logic.{⊎-elim}
 use native.Mathlib.Omega.{arith}
-use lib.ListN.{length, getD, replicate}
+use lib.ListN.{getD, replicate}
 use lib.Dec.{eqb}
 use borrow.Author.Needs.{needs}
 use borrow.Author.Tests.{eq-eqb, ne-eqb, eqb-true}
-use Rattle.words.specs.Tests.{_and_, _or_, _if_else_, any}
+use Rattle.words.specs.Tests.{_and_, _if_else_, any}
 use Rattle.words.specs.Hints.{Hints, Noted}
 use Rattle.words.proofs.Tests.{either, never, and-fst, and-snd, or-so}
 use Rattle.words.proofs.Sets.{not-of-false}

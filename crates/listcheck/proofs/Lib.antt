@@ -2,3 +2,4 @@
 pub mod Checks
 pub mod Clashes
 pub mod Tallies
+pub mod Legal

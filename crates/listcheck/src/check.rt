@@ -6,11 +6,12 @@ use locklist::start::is_limit;
 use rules::kind::Kind;
 use rules::list::LockList;
 ghost use mathlib.Core.Path.{_≡_};
-ghost use Prim.Native.Nat.{_*_, _≤_, _<_};
+ghost use mathlib.Core.Bool.{true};
 ghost use lib.ListN.{length};
 ghost use Rattle.words.specs.Tests.{all};
 ghost use Rattle.words.specs.Hints.{Hints};
 ghost use Rattle.rules.specs.Kinds.{entries};
+ghost use Rattle.rules.specs.Drive.{soundImage};
 ghost use Rattle.rules.specs.Locks.{unpack, zeroAt, soundList};
 ghost use Rattle.index.specs.Slots.{slotAt, inUse};
 ghost use Rattle.listcheck.specs.Check.{placeAloneAt, lockOpenedAt, goodHead};
@@ -32,7 +33,7 @@ fn all_zero(list: &[u8]) -> bool
 
 // Each place, by itself.
 fn places_alone(kind: Kind, l: LockList, image: &[u8], hints: &[u8; 256]) -> bool
-    requires { ⌜ (32 * entries kind ≤ length (now image)) × Hints (slotAt (now image)) (inUse (now image)) (entries kind) (now hints) ⌝ }
+    requires { ⌜ (soundImage kind (now image) ≡ true) × Hints (slotAt (now image)) (inUse (now image)) (entries kind) (now hints) ⌝ }
     ensures { λ r. ⌜ r ≡ all (placeAloneAt kind (now (image .entry)) l) 64 ⌝ }
 {
     let users = l.users;
@@ -96,7 +97,7 @@ fn good_head(capacity: u8, openlimit: u8, locklimit: u8, users: [u8; 16]) -> boo
 
 // The list check: the list, unpacked and as it stands in its bytes, is sound against a sound image, whose entries the hints know.
 pub fn sound_list(kind: Kind, l: LockList, list: &[u8], image: &[u8], hints: &[u8; 256]) -> bool
-    requires { ⌜ (l ≡ unpack (now list)) × (length (now list) ≡ 1299) × (32 * entries kind ≤ length (now image)) × Hints (slotAt (now image)) (inUse (now image)) (entries kind) (now hints) ⌝ }
+    requires { ⌜ (l ≡ unpack (now list)) × (length (now list) ≡ 1299) × (soundImage kind (now image) ≡ true) × Hints (slotAt (now image)) (inUse (now image)) (entries kind) (now hints) ⌝ }
     ensures { λ r. ⌜ r ≡ soundList kind (now (list .entry)) (now (image .entry)) ⌝ }
 {
     if !all_zero(list) {

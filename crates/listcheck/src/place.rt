@@ -1,5 +1,4 @@
 use directory::find::is_missing;
-use directory::name::legal_name;
 use index::find::block_by;
 use index::find::look_up_by;
 use rules::file::File;
@@ -10,11 +9,13 @@ use rules::tests::user_in;
 ghost use mathlib.Core.Path.{_≡_};
 ghost use Prim.Native.Nat.{_*_, _≤_};
 ghost use lib.ListN.{length};
-ghost use lib.Dec.{leb, eqb};
+ghost use lib.Dec.{eqb};
+ghost use mathlib.Core.Bool.{true};
 ghost use Rattle.words.specs.Tests.{_if_else_, all};
 ghost use Rattle.words.specs.Hints.{Hints};
-ghost use Rattle.rules.specs.Kinds.{entries, top};
-ghost use Rattle.rules.specs.Locks.{isLow, isZero, goodEmpty};
+ghost use Rattle.rules.specs.Kinds.{entries};
+ghost use Rattle.rules.specs.Drive.{soundImage};
+ghost use Rattle.rules.specs.Locks.{isZero, goodEmpty};
 ghost use Rattle.index.specs.Slots.{slotAt, inUse};
 ghost use Rattle.listcheck.specs.Check.{fileBy, openAlone, lockAlone, itemAlone, placeAlone};
 
@@ -25,20 +26,6 @@ fn zero_name(name: [u8; 11]) -> bool
     let mut k = 0;
     while k < 11 {
         if name[k] != 0 {
-            return false;
-        }
-        k += 1;
-    }
-    true
-}
-
-// Eleven bytes with high bits zero.
-fn low_name(name: [u8; 11]) -> bool
-    ensures { λ r. ⌜ r ≡ all (isLow name) 11 ⌝ }
-{
-    let mut k = 0;
-    while k < 11 {
-        if 128 <= name[k] {
             return false;
         }
         k += 1;
@@ -114,29 +101,15 @@ fn kind_alone(kind: Kind, image: &[u8], hints: &[u8; 256], users: [u8; 16], it: 
     lock_alone(kind, image, hints, users, it)
 }
 
-// A record number is at most the highest.
-fn number_fits(kind: Kind, number: u32) -> bool
-    ensures { λ r. ⌜ r ≡ leb number (top kind) ⌝ }
-{
-    !is_past(kind, number as usize)
-}
-
-// An item, by itself.
+// An item, by itself. A name that a sound image has is legal, with high bits zero.
 fn item_alone(kind: Kind, image: &[u8], hints: &[u8; 256], users: [u8; 16], it: Item) -> bool
-    requires { ⌜ (32 * entries kind ≤ length (now image)) × Hints (slotAt (now image)) (inUse (now image)) (entries kind) (now hints) ⌝ }
+    requires { ⌜ (soundImage kind (now image) ≡ true) × Hints (slotAt (now image)) (inUse (now image)) (entries kind) (now hints) ⌝ }
     ensures { λ r. ⌜ r ≡ itemAlone kind (now (image .entry)) users it ⌝ }
 {
     if 15 < it.process {
         return false;
     }
-    let name = it.name;
-    if !legal_name(&name, 0) {
-        return false;
-    }
-    if !low_name(name) {
-        return false;
-    }
-    if !number_fits(kind, it.number) {
+    if is_past(kind, it.number as usize) {
         return false;
     }
     kind_alone(kind, image, hints, users, it)
@@ -152,7 +125,7 @@ pub fn place_alone(
     i: usize,
     it: Item,
 ) -> bool
-    requires { ⌜ (32 * entries kind ≤ length (now image)) × Hints (slotAt (now image)) (inUse (now image)) (entries kind) (now hints) ⌝ }
+    requires { ⌜ (soundImage kind (now image) ≡ true) × Hints (slotAt (now image)) (inUse (now image)) (entries kind) (now hints) ⌝ }
     ensures { λ r. ⌜ r ≡ placeAlone kind (now (image .entry)) users capacity i it ⌝ }
 {
     if it.kind == 0 {

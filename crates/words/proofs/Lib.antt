@@ -11,3 +11,4 @@ pub mod Sets
 pub mod Items
 pub mod Bitwise
 pub mod Hints
+pub mod Joined

@@ -1,5 +1,4 @@
 // Hints: for each slot a number that is not above any thing of that slot.
-ghost use mathlib.Core.Path.{_≡_};
 ghost use Prim.Native.Nat.{_<_, _≤_};
 ghost use lib.ListN.{getD};
 ghost use Rattle.words.specs.Hints.{Noted};

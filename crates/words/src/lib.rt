@@ -1,3 +1,4 @@
-// The vocabulary of the rules and the proofs, bits of bytes, and hints.
+// The vocabulary of the rules and the proofs, bits of bytes, hints, and tests joined.
 pub mod bits;
 pub mod hint;
+pub mod test;

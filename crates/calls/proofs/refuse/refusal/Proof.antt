@@ -3,7 +3,7 @@ use borrow.Author.Needs.{needs}
 use Rattle.words.proofs.Sets.{codes}
 use Rattle.rules.specs.Codes.{rowsInside}
 use Rattle.drive.proofs.Walks.{known-none, walked-answer, walked-knows}
-use Rattle.calls.proofs.Passing.{image-enough}
+use Rattle.calls.proofs.Passing.{image-there}
 use Rattle.calls.proofs.refuse.refusal.Statement.{statement}
 use Rattle.calls.proofs.refuse.refusal.Tie as tie
 
@@ -20,7 +20,7 @@ refusal-spec =
     (λ c κs.
     let w = c .before .before .sound-index .ensures in
     let t = c .before .if1 .left in
-    (search needs, search needs, image-enough _ _ _ _ w t, walked-knows _ _ _ _ _ w t))
+    (search needs, search needs, image-there _ _ _ _ w t, walked-knows _ _ _ _ _ w t))
     -- returns-2
     (λ c. search (codes, walked-answer) depth 8 fits 20000)
     -- bad-drive-requires

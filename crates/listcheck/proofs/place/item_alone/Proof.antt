@@ -2,7 +2,7 @@
 use borrow.Author.Needs.{needs}
 use Rattle.words.proofs.Sets.{choices}
 use Rattle.listcheck.specs.Check.{itemAlone}
-use Rattle.listcheck.proofs.Checks.{eleven}
+use Rattle.listcheck.proofs.Legal.{image-long, item-far, item-by}
 use Rattle.listcheck.proofs.place.item_alone.Statement.{statement}
 use Rattle.listcheck.proofs.place.item_alone.Tie as tie
 
@@ -13,21 +13,13 @@ item-alone-spec =
     (tie.spec
     -- returns
     (λ c. search choices depth 8 fits 20000)
-    -- slice-aggregate-legal-name
+    -- cast-is-past
     (λ c. search needs)
-    -- legal-name-requires
-    (λ c κs. search (needs, eleven))
+    -- is-past-requires
+    (λ c κs. search needs)
     -- returns-2
-    (λ c. search choices depth 8 fits 20000)
-    -- low-name-requires
-    (λ c κs. search needs)
-    -- returns-3
-    (λ c. search choices depth 8 fits 20000)
-    -- number-fits-requires
-    (λ c κs. search needs)
-    -- returns-4
-    (λ c. search choices depth 8 fits 20000)
+    (λ c. search item-far)
     -- kind-alone-requires
-    (λ c κs. search needs)
-    -- returns-5
-    (λ c. search choices depth 8 fits 20000))
+    (λ c κs. search (needs, image-long))
+    -- returns-3
+    (λ c. search (needs, item-by)))
