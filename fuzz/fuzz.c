@@ -74,6 +74,7 @@ static const struct rule rules[] = {
      {DIRECTORY}},
     {MPM_FN_READ, {READ}, {{DMA, 0, MPM_DMA_LEN}}},
     {MPM_FN_WRITE, {FILL}, {DRIVE}},
+    {MPM_FN_SIZE, {ALL, MPM_ERR_BAD_NAME, MPM_ERR_NOT_FOUND}, {{FCB, MPM_FCB_RECORD, MPM_FCB_LEN}}},
     {MPM_FN_WRITE_ZEROS, {FILL}, {DRIVE}},
     {MPM_FN_TEST_WRITE, {WRITE, NO_RECORD, MPM_ERR_DIFFERS}, {DRIVE}},
     {MPM_FN_LOCK,

@@ -159,6 +159,8 @@ selftest() {
     local faults=("WRITES_AT_REFUSAL writes at a refusal" "LEAVES_LOCKS leaves locks" "NO_ZERO_FILL fills no zeros"
         "SHORT_LOCK locks 15 of 16" "WRONG_CODE has 4/0 for 6/0" "SHORT_FCB overreads" "OTHER_SINGLY differs singly"
         "KEEPS_OWN_OPEN leaves the open of a deleted file" "REFUSES_OWN_OPEN refuses to delete the caller's open file"
+        "SIZE_OF_LAST takes the highest entry for the highest extent" "SIZE_BY_EX leaves the module out of the size"
+        "SIZE_BY_COUNT_0 tells the size by extent 0's count" "SIZE_IN_TWO_BYTES tells the size in two bytes"
         "HIGH_BYTE_DROPPED stores a number without its high byte" "BLOCK_4097 takes 4,097 blocks"
         "SIXTEEN_NUMBERS reads eight numbers as sixteen" "FREE_BY_EIGHT counts eight records to a large block"
         "CLEARS_SEVEN clears seven of fifteen records" "UNKNOWN_AS_LARGE takes an unknown kind as large"

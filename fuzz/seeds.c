@@ -131,6 +131,7 @@ static void all_functions(uint32_t kind) {
     call(0, MPM_FN_WRITE_ZEROS, A, 262143, 1, 0);
     call(0, MPM_FN_READ, A, 262143, 1, 0);
     call(0, MPM_FN_TEST_WRITE, A, 262143, 1, 0)[1] = KEEP_DMA;
+    call(0, MPM_FN_SIZE, A, 0, 1, 0);
     call(0, MPM_FN_LOCK, A, 0, 1, 0);
     call(0, MPM_FN_CLOSE, A, 0, 1, 0);
     call(0, MPM_FN_OPEN, A_UNLOCKED, 0, 1, 0);
@@ -164,6 +165,31 @@ static void own_files_deleted(uint32_t kind) {
     call(0, MPM_FN_TERMINATE, A, 0, 1, 0);
     call(1, MPM_FN_OPEN, C, 0, 1, 0);
     call(1, MPM_FN_DELETE, C, 0, 1, 0);
+    save();
+}
+
+/* Extents in any order, a module, a count of 0, the last record; another user's file, a missing and a bad name. */
+static void file_sizes(uint32_t kind) {
+    set_drive(kind, fewest(kind, 16));
+    PUT(LIST, MPM_LIST_USERS + 4, 12, 1, 0, "\004");
+    ENTRY(0, 1, "\000" A "\002\000\000\005");
+    ENTRY(1, 1, "\000" A "\037\000\000\200");
+    ENTRY(2, 1, "\000" A "\001\000\002\003");
+    ENTRY(3, 1, "\000" A "\000\000\000\177\002");
+    ENTRY(4, 1, "\000" B "\000\000\000\200\003");
+    ENTRY(5, 1, "\000" B "\001");
+    ENTRY(6, 1, "\000" C "\037\000\077\200");
+    ENTRY(7, 1, "\000" C);
+    ENTRY(8, 1, "\004" A "\000\000\000\007");
+    call(0, MPM_FN_SIZE, A, 262143, 1, 0);
+    call(1, MPM_FN_SIZE, A_UNLOCKED, 65535, 16, 0);
+    call(0, MPM_FN_SIZE, B, 70000, 1, 0);
+    call(0, MPM_FN_SIZE, C, 1, 1, 0);
+    call(4, MPM_FN_SIZE, A, 0, 1, 0);
+    call(4, MPM_FN_SIZE, B, 0, 1, 0);
+    call(0, MPM_FN_SIZE, "?RDERS  DAT", 0, 1, 0);
+    call(2, MPM_FN_OPEN, A, 0, 1, 0);
+    call(3, MPM_FN_SIZE, A, 0, 1, 0);
     save();
 }
 
@@ -436,6 +462,7 @@ static void seeds_of(uint32_t kind) {
     two_clerks(kind);
     all_functions(kind);
     own_files_deleted(kind);
+    file_sizes(kind);
     files_in_use(kind);
     broken_bytes(kind);
     runs(kind);

@@ -19,6 +19,10 @@ enum {
     OTHER_SINGLY,
     KEEPS_OWN_OPEN,    /* 19 leaves the caller's open and locks where they were */
     REFUSES_OWN_OPEN,  /* 19 refuses the caller's own open too */
+    SIZE_OF_LAST,      /* 35 takes the file's highest entry for its highest extent */
+    SIZE_BY_EX,        /* 35 leaves the module out */
+    SIZE_BY_COUNT_0,   /* 35 takes the count of extent 0 */
+    SIZE_IN_TWO_BYTES, /* 35 leaves FCB byte 35 as it was */
     HIGH_BYTE_DROPPED, /* stores a block number of two bytes without the second */
     BLOCK_4097,        /* takes a large drive of 4,097 blocks */
     SIXTEEN_NUMBERS,   /* 33 reads a large drive's eight block numbers as sixteen of one byte */
@@ -111,8 +115,37 @@ static bool refuses_own(struct lent c) {
     return call(&c) == MPM_OK;
 }
 
+static const uint8_t *entry_at(const uint8_t *image, uint32_t e) { return image + MPM_ENTRY_LEN * e; }
+
+static bool is_named(const struct lent *c, const uint8_t *entry) {
+    for (size_t i = 1; i <= MPM_NAME_LEN; i++)
+        if ((entry[i] ^ c->fcb[i]) & 0x7F) return false;
+    return entry[0] == c->list[MPM_LIST_USERS + c->process];
+}
+
+static uint32_t extent_of(const uint8_t *entry) { return entry[12] + 32u * entry[14]; }
+
+/* What the bad ones make of an accepted 35. */
+static uint32_t bad_size(const struct lent *c, uint8_t old) {
+    const uint8_t *highest = 0, *last = 0, *first = 0;
+    for (uint32_t e = 0; e < mpm_entries(c->kind); e++) {
+        const uint8_t *entry = entry_at(c->image, e);
+        if (!is_named(c, entry)) continue;
+        last = entry;
+        if (extent_of(entry) == 0) first = entry;
+        if (!highest || extent_of(entry) > extent_of(highest)) highest = entry;
+    }
+    switch (SPOILED) {
+    case SIZE_OF_LAST: return MPM_EXTENT_RECORDS * extent_of(last) + last[15];
+    case SIZE_BY_EX: return MPM_EXTENT_RECORDS * highest[12] + highest[15];
+    case SIZE_BY_COUNT_0: return MPM_EXTENT_RECORDS * extent_of(highest) + first[15];
+    case SIZE_IN_TWO_BYTES: return record_of(c->fcb) % 65536u + 65536u * old;
+    default: return record_of(c->fcb);
+    }
+}
+
 static uint32_t bad_call(struct lent c) {
-    uint8_t old[MPM_LIST_LEN];
+    uint8_t old[MPM_LIST_LEN], highest_byte = c.fcb_len == MPM_FCB_LEN ? c.fcb[MPM_FCB_LEN - 1] : 0;
     if (c.list_len == sizeof old) memcpy(old, c.list, sizeof old);
     if (SPOILED == REFUSES_OWN_OPEN && refuses_own(c)) return MPM_ERR_IN_USE;
     if (SPOILED == NO_ZERO_FILL && c.function == MPM_FN_WRITE_ZEROS) c.function = MPM_FN_WRITE;
@@ -120,6 +153,7 @@ static uint32_t bad_call(struct lent c) {
     if (SPOILED == SHORT_FCB && c.function == MPM_FN_READ && c.fcb_len == MPM_FCB_LEN) c.fcb = short_copy(c.fcb);
     uint32_t answer = call(&c);
     if (SPOILED == WRITES_AT_REFUSAL && answer == MPM_ERR_LOCKED) c.dma[MPM_DMA_LEN - 1] ^= 1;
+    if (c.function == MPM_FN_SIZE && answer == MPM_OK) set_record(c.fcb, bad_size(&c, highest_byte));
     if (SPOILED == LEAVES_LOCKS && c.function == MPM_FN_CLOSE && answer == MPM_OK) put_locks_back(c.list, old);
     if (SPOILED == KEEPS_OWN_OPEN && c.function == MPM_FN_DELETE && answer == MPM_OK) memcpy(c.list, old, sizeof old);
     if (SPOILED == WRONG_CODE && c.function == MPM_FN_READ && answer == MPM_ERR_PAST_END) answer = MPM_ERR_NO_EXTENT;
@@ -299,8 +333,6 @@ static uint32_t bad_run(const struct lent *c) {
 }
 
 /* ---- Faults of the image check ---- */
-
-static const uint8_t *entry_at(const uint8_t *image, uint32_t e) { return image + MPM_ENTRY_LEN * e; }
 
 static uint32_t number_at(uint32_t kind, const uint8_t *entry, uint32_t k) {
     const uint8_t *map = entry + MPM_ENTRY_LEN - MPM_MAP_LEN;

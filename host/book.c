@@ -1,16 +1,19 @@
 /* The desk's program: looks at images that customers bring, without changing them. The kind of a drive is taken from
    the length of its image.
 
-     book check IMAGE..    for each image one line: sound, or the lowest bad entry of its directory and what is wrong
+     book check IMAGE..                for each image one line: sound, or the lowest bad entry of its directory and what
+                                       is wrong
+     book size IMAGE [USER:]NAME..     for each file, of user 0 unless said, one line with its size
 
-   Exit status: 0 if all images are sound, 1 if one is not, 2 for an image that cannot be read and for wrong use. */
+   Exit status: 0 if all images are sound and all files there, 1 if one is not, 2 for an image that cannot be read, a
+   word that is no file's name and for wrong use. */
 
 #include "mpm.h"
 
 #include <stdio.h>
 #include <string.h>
 
-enum { DONE, UNSOUND, FAILED };
+enum { DONE, NOT_SO, FAILED };
 enum { EX = 12, MODULE = 14, COUNT = 15, MAP = 16 }; /* where they stand in an entry */
 enum { NAME_PART = 8, TEXT = 16 };
 
@@ -20,7 +23,7 @@ static uint8_t bytes[MPM_LARGE_MAX_BLOCKS * MPM_LARGE_BLOCK_LEN + 1];
 struct image {
     const char *path;
     uint32_t kind; /* MPM_KINDS where no drive has this length */
-    const uint8_t *bytes;
+    uint8_t *bytes;
     size_t length;
 };
 
@@ -196,35 +199,87 @@ static int say_check(const struct image *image, uint32_t check) {
     } else {
         say[code](image, entry);
     }
-    return check == MPM_CHECK_SOUND ? DONE : UNSOUND;
+    return check == MPM_CHECK_SOUND ? DONE : NOT_SO;
 }
 
-static int check_image(const char *path) {
-    struct image image;
-    if (!load(&image, path)) return fail(path, "cannot be read");
-    uint32_t check = mpm_check(image.kind, image.bytes, image.length);
-    printf("%s: ", path);
-    int status = say_check(&image, check);
+static int check_image(const struct image *image) {
+    printf("%s: ", image->path);
+    int status = say_check(image, mpm_check(image->kind, image->bytes, image->length));
     printf("\n");
     return status;
 }
 
+static int worse(int one, int other) { return one > other ? one : other; }
+
 static int check_all(int count, char **words) {
+    struct image image;
     int status = DONE;
-    for (int i = 0; i < count; i++) {
-        int of_one = check_image(words[i]);
-        if (of_one > status) status = of_one;
+    for (int i = 0; i < count; i++)
+        status = worse(status, load(&image, words[i]) ? check_image(&image) : fail(words[i], "cannot be read"));
+    return status;
+}
+
+/* The user before the colon, and where the name begins. A number of users where it is none. */
+static uint32_t user_of(const char *word, const char **name) {
+    uint32_t user = 0;
+    size_t digits = 0;
+    for (; word[digits] >= '0' && word[digits] <= '9' && digits < 2; digits++)
+        user = 10u * user + (uint32_t)(word[digits] - '0');
+    if (digits > 0 && word[digits] == ':' && user < MPM_USERS) {
+        *name = word + digits + 1;
+        return user;
     }
+    *name = word;
+    for (size_t i = 0; word[i] != 0; i++)
+        if (word[i] == ':') return MPM_USERS;
+    return 0;
+}
+
+/* A list on which every process is this user, for one call. The image stays as it is: 35 writes the FCB alone. */
+static uint32_t ask_size(const struct image *image, uint32_t user, uint8_t *fcb) {
+    static uint8_t list[MPM_LIST_LEN], dma[MPM_DMA_LEN];
+    uint8_t users[MPM_USERS_LEN];
+    struct mpm_book book = {image->kind, list, sizeof list, image->bytes, image->length};
+    memset(users, (int)user, sizeof users);
+    uint32_t answer = mpm_start(image->kind, 1, 1, 1, users, sizeof users, list, sizeof list);
+    return answer == MPM_OK ? mpm_book_call(&book, MPM_FN_SIZE, 0, 1, fcb, dma) : answer;
+}
+
+static int say_size(const struct image *image, const char *word) {
+    uint8_t fcb[MPM_FCB_LEN];
+    const char *name;
+    uint32_t user = user_of(word, &name);
+    if (user == MPM_USERS) return fail(word, "A user is a number from 0 to 15.");
+    uint32_t naming = mpm_set_fcb(fcb, name, MPM_MODE_LOCKED);
+    if (naming != MPM_NAMING_OK) return fail(word, mpm_naming_text(naming));
+    uint32_t answer = ask_size(image, user, fcb);
+    printf("%s: %s of user %u: ", image->path, name, (unsigned)user);
+    if (answer == MPM_OK) {
+        printf("%u records, %u bytes\n", (unsigned)mpm_size(fcb), (unsigned)(MPM_RECORD_LEN * mpm_size(fcb)));
+    } else {
+        printf("%s\n", mpm_answer_text(MPM_FN_SIZE, answer));
+    }
+    return answer == MPM_OK ? DONE : NOT_SO;
+}
+
+/* Of an image that is not sound only that is said. */
+static int size_all(int count, char **words) {
+    struct image image;
+    int status = DONE;
+    if (!load(&image, words[0])) return fail(words[0], "cannot be read");
+    if (mpm_check(image.kind, image.bytes, image.length) != MPM_CHECK_SOUND) return check_image(&image);
+    for (int i = 1; i < count; i++) status = worse(status, say_size(&image, words[i]));
     return status;
 }
 
 static const struct verb {
     const char *word;
     const char *words; /* what stands behind it */
-    int least, most;   /* how many; a most of 0 is any number */
+    int least;         /* so many at least */
     int (*run)(int count, char **words);
 } verbs[] = {
-    {"check", "IMAGE..", 1, 0, check_all},
+    {"check", "IMAGE..", 1, check_all},
+    {"size", "IMAGE [USER:]NAME..", 2, size_all},
 };
 
 static int wrong_use(void) {
@@ -237,8 +292,7 @@ int main(int argc, char **argv) {
     for (size_t i = 0; argc > 1 && i < sizeof verbs / sizeof verbs[0]; i++) {
         const struct verb *verb = &verbs[i];
         if (strcmp(argv[1], verb->word) != 0) continue;
-        if (argc - 2 < verb->least || (verb->most != 0 && argc - 2 > verb->most)) return wrong_use();
-        return verb->run(argc - 2, argv + 2);
+        return argc - 2 < verb->least ? wrong_use() : verb->run(argc - 2, argv + 2);
     }
     return wrong_use();
 }

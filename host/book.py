@@ -1,16 +1,16 @@
 """The desk's program on images that are damaged in each way, on both kinds of drive: one line for each, as it has to
-be, and its exit status.
+be, and its exit status; and the sizes that it tells.
 
 book.py FOLDER BOOK..
 
-BOOK.. is the command of book. FOLDER is for the images. Exit status: 0 if all was well, 1 if not."""
+BOOK.. is the command of book. FOLDER is for the images. Exit status: 0 if all was well, 1 at the first fault."""
 
 import os
 import subprocess
 import sys
 
 ENTRY = 32
-SOUND, UNSOUND, FAILED = 0, 1, 2
+DONE, NOT_SO, FAILED = 0, 1, 2
 
 
 class Kind:
@@ -116,7 +116,7 @@ def lengths():
 
 class Desk:
     def __init__(self, folder, command):
-        self.folder, self.command, self.images, self.faults = folder, command, 0, 0
+        self.folder, self.command, self.images = folder, command, 0
 
     def keep(self, content):
         path = os.path.join(self.folder, f"image-{self.images}")
@@ -129,48 +129,91 @@ class Desk:
         done = subprocess.run([*self.command, *words], capture_output=True, text=True)
         said = (done.stdout.splitlines(), done.returncode, done.stderr)
         if said != (lines, status, errors):
-            self.faults += 1
             for got, wanted in zip(said[0] + [""] * len(lines), lines + [""] * len(said[0])):
                 if got != wanted:
                     print(f"FAULT: said {got!r}, not {wanted!r}")
             print(f"FAULT: book {' '.join(words)[:80]}: exit status {done.returncode}, to be {status} {done.stderr}")
+            sys.exit(1)
+
+    def has_kept(self, path, content):
+        """What it looks at stays as it was."""
+        with open(path, "rb") as stream:
+            if stream.read() != content:
+                print(f"FAULT: {path} has changed")
+                sys.exit(1)
 
 
 def check(desk):
     kept = [(desk.keep(image.bytes), line) for kind in (SMALL, LARGE) for image, line in damages(kind)]
     kept += [(desk.keep(content), line) for content, line in lengths()]
     all_lines = [f"{path}: {line}" for path, line in kept]
-    desk.says(["check", *(path for path, _ in kept)], all_lines, UNSOUND)
+    desk.says(["check", *(path for path, _ in kept)], all_lines, NOT_SO)
     sound = [line for line in all_lines if line.endswith(": sound")]
     sound_paths = [path for path, line in kept if line == "sound"]
-    desk.says(["check", *sound_paths], sound, SOUND)
+    desk.says(["check", *sound_paths], sound, DONE)
     (bad, why), missing = kept[1], os.path.join(desk.folder, "none")
-    desk.says(["check", sound_paths[0], bad], [f"{sound_paths[0]}: sound", f"{bad}: {why}"], UNSOUND)
+    desk.says(["check", sound_paths[0], bad], [f"{sound_paths[0]}: sound", f"{bad}: {why}"], NOT_SO)
     for unreadable in (missing, desk.folder):
         lines = [f"{bad}: {why}", f"{unreadable}: cannot be read", f"{sound_paths[0]}: sound"]
         desk.says(["check", bad, unreadable, sound_paths[0]], lines, FAILED)
-    # What it looks at stays as it was.
     for (path, _), content in zip(kept, (image.bytes for kind in (SMALL, LARGE) for image, _ in damages(kind))):
-        with open(path, "rb") as stream:
-            if stream.read() != content:
-                desk.faults += 1
-                print(f"FAULT: {path} has changed")
+        desk.has_kept(path, content)
+
+
+def sizes(desk, kind):
+    """BUDGET.DAT's highest extent is 33 and has 7 records. FALLING's stands before its others, with the least count."""
+    image = Image(kind)
+    image.put(1, entry(7, "FALLING", 64, 9)).put(2, entry(7, "FALLING", 31, 128)).put(3, entry(7, "FALLING", 0, 127))
+    image.put(4, entry(0, "LAST", 2047, 128)).put(6, entry(0, "LAST", 0, 0)).put(7, entry(0, "NIL.X", 0, 0))
+    path = desk.keep(image.bytes)
+
+    def line(file, user, records):
+        return f"{path}: {file} of user {user}: {records} records, {128 * records} bytes"
+
+    known = {
+        "3:BUDGET.DAT": line("BUDGET.DAT", 3, 128 * 33 + 7),
+        "03:budget.dat": line("budget.dat", 3, 128 * 33 + 7),
+        "7:FALLING": line("FALLING", 7, 128 * 64 + 9),
+        "LAST": line("LAST", 0, 262144),
+        "0:LAST": line("LAST", 0, 262144),
+        "NIL.X": line("NIL.X", 0, 0),
+        "ORDERS": line("ORDERS", 0, 1),
+    }
+    desk.says(["size", path, *known], list(known.values()), DONE)
+    for word, name, user in (("BUDGET.DAT", "BUDGET.DAT", 0), ("15:LAST", "LAST", 15), ("NIL", "NIL", 0)):
+        missing = f"{path}: {name} of user {user}: There is no such file."
+        desk.says(["size", path, word], [missing], NOT_SO)
+        desk.says(["size", path, word, "LAST"], [missing, known["LAST"]], NOT_SO)
+    for word in ("16:LAST", "A:LAST", ":LAST", "003:LAST"):
+        desk.says(["size", path, word, "LAST"], [f"{word}: A user is a number from 0 to 15.", known["LAST"]], FAILED)
+    long = "A file name has at most eight characters before the dot."
+    desk.says(["size", path, "NINELETTE"], [f"NINELETTE: {long}"], FAILED)
+    desk.says(["size", path, "3:"], ["3:: A file name has at least one character before the dot."], FAILED)
+    bad = desk.keep(Image(kind).poke(9, 15, 129).bytes)
+    desk.says(
+        ["size", bad, "ORDERS", "LAST"],
+        [f"{bad}: entry 9, BUDGET.DAT of user 3: its record count is 129, over 128"],
+        NOT_SO,
+    )
+    desk.has_kept(path, image.bytes)
 
 
 def wrong_use(desk):
-    use = "use: book check IMAGE..\n"
-    for words in ([], ["check"], ["chekc", "x"], ["-h"]):
+    use = "use: book check IMAGE..\nuse: book size IMAGE [USER:]NAME..\n"
+    for words in ([], ["check"], ["chekc", "x"], ["-h"], ["size"], ["size", "x"]):
         desk.says(words, [], FAILED, use)
+    none = os.path.join(desk.folder, "none")
+    desk.says(["size", none, "LAST"], [f"{none}: cannot be read"], FAILED)
 
 
 def main():
     desk = Desk(sys.argv[1], sys.argv[2:])
     check(desk)
+    for kind in (SMALL, LARGE):
+        sizes(desk, kind)
     wrong_use(desk)
-    if desk.faults == 0:
-        print(f"book says what it has to of {desk.images} images")
-    return 0 if desk.faults == 0 else 1
+    print(f"book says what it has to of {desk.images} images")
 
 
 if __name__ == "__main__":
-    sys.exit(main())
+    main()

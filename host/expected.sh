@@ -142,12 +142,13 @@ step  who      call  what                                           A/H     name
   32  clerk 2    43  unlocks lines 4 to 6                           0/0     MPM_OK
   33  clerk 2    16  closes it                                      0/0     MPM_OK
   34  clerk 3    16  closes it                                      0/0     MPM_OK
-  35  office     22  makes WORK.\$\$\$, locked, for the import         0/0     MPM_OK
-  36  office     40  writes lines 0 to 9 of it                      0/0     MPM_OK, 10 lines done
-  37  clerk 2    19  deletes it: the office has it open             255/5   MPM_ERR_IN_USE
-  38  office     19  deletes it, open as it is                      0/0     MPM_OK
-  39  office     46  asks for the free space                        0/0     MPM_OK, $((free - 2 * records)) records free
-  40  host        -  writes ORDERS.BOOK, reads it again; checks it  0       MPM_CHECK_SOUND
+  35  office     35  asks for its size                              0/0     MPM_OK, $((pair + 4)) records
+  36  office     22  makes WORK.\$\$\$, locked, for the import         0/0     MPM_OK
+  37  office     40  writes lines 0 to 9 of it                      0/0     MPM_OK, 10 lines done
+  38  clerk 2    19  deletes it: the office has it open             255/5   MPM_ERR_IN_USE
+  39  office     19  deletes it, open as it is                      0/0     MPM_OK
+  40  office     46  asks for the free space                        0/0     MPM_OK, $((free - 2 * records)) records free
+  41  host        -  writes ORDERS.BOOK, reads it again; checks it  0       MPM_CHECK_SOUND
 
 The lock list at night
   0 of 12 places taken
@@ -156,5 +157,5 @@ What Look shows of ORDERS.DAT
   line  begins at  text
 $(shown_lines)
 
-All 40 steps went as expected.
+All 41 steps went as expected.
 TEXT

@@ -82,8 +82,8 @@ uint32_t header_kind(uint32_t kind, size_t image_len) {
 uint32_t header_function(uint32_t number) {
     switch (number) {
     case MPM_FN_OPEN: case MPM_FN_CLOSE: case MPM_FN_DELETE: case MPM_FN_MAKE: case MPM_FN_RENAME: case MPM_FN_READ:
-    case MPM_FN_WRITE: case MPM_FN_WRITE_ZEROS: case MPM_FN_TEST_WRITE: case MPM_FN_LOCK: case MPM_FN_UNLOCK:
-    case MPM_FN_FREE_SPACE: case MPM_FN_TERMINATE: return 1u;
+    case MPM_FN_WRITE: case MPM_FN_SIZE: case MPM_FN_WRITE_ZEROS: case MPM_FN_TEST_WRITE: case MPM_FN_LOCK:
+    case MPM_FN_UNLOCK: case MPM_FN_FREE_SPACE: case MPM_FN_TERMINATE: return 1u;
     default: return 0u;
     }
 }

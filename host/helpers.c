@@ -80,6 +80,8 @@ static void try_numbers(void) {
     fcb[33] = 63, fcb[34] = 0, fcb[35] = 0;
     mpm_set_file_id(dma, mpm_file_id(fcb));
     want(dma[0] == 63 && dma[1] == 0 && dma[2] == 9 && dma[3] == 9, "a File ID");
+    fcb[33] = 0, fcb[34] = 0, fcb[35] = 4;
+    want(mpm_size(fcb) == MPM_RECORDS, "the greatest size");
 }
 
 static void try_kinds(void) {
@@ -147,6 +149,8 @@ static void try_book(void) {
     memset(dma, 'x', MPM_RECORD_LEN);
     want(mpm_book_call(&book, MPM_FN_WRITE_ZEROS, 3, 1, fcb, dma) == MPM_OK, "a record is written");
     want(mpm_look(book.kind, 0, fcb + 1, 11, 7, image, sizeof image) == 2 * 1024 + 7 * 128, "Look shows the record");
+    want(mpm_book_call(&book, MPM_FN_SIZE, 9, 1, fcb, dma) == MPM_OK && mpm_size(fcb) == 8, "eight records");
+    mpm_set_record(fcb, 7);
     mpm_set_file_id(dma, file_id);
     want(mpm_book_call(&book, MPM_FN_LOCK, 3, 1, fcb, dma) == MPM_OK, "it is locked");
     mpm_set_file_id(dma, file_id + 1);

@@ -71,6 +71,7 @@ static int measure_kind(uint32_t kind, size_t image_len) {
            measure_call("43 Unlock, 16", MPM_FN_UNLOCK, 1, 16, call) &&
            measure_call("42 Lock, 16", MPM_FN_LOCK, 1, 16, call) &&
            measure_call("46 Free Space", MPM_FN_FREE_SPACE, 2, 1, call) &&
+           measure_call("35 File Size", MPM_FN_SIZE, 3, 1, call) &&
            measure_call("16 Close", MPM_FN_CLOSE, 2, 1, call) &&
            measure_call("143 Terminate", MPM_FN_TERMINATE, 1, 1, call);
     return good && mpm_set_name(fcb + MPM_FCB_NEW_NAME, "OLD.DAT") == MPM_NAMING_OK &&

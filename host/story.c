@@ -51,6 +51,7 @@ static uint32_t kind, blocks; /* of the drive */
 static struct buffers now, before, singly, told;
 static uint8_t lines[MOST_LINES][MPM_RECORD_LEN]; /* what each line must hold */
 static uint8_t has_block[MOST_LINES];
+static uint32_t size; /* one more than the highest line that was written */
 static uint32_t file_ids[MPM_PROCESSES];
 static uint32_t steps, faults;
 
@@ -258,6 +259,7 @@ static uint32_t call(const struct step *step) {
     for (uint32_t i = 0; i < done && is_write(step->function) && used_file == ORDERS; i++) {
         compose(lines[step->first + i], step->first + i, step->process);
         give_block(step->first + i);
+        if (size < step->first + i + 1) size = step->first + i + 1;
     }
     check_lines();
     return answer;
@@ -276,6 +278,11 @@ static void show_free_records(void) {
     uint32_t records = mpm_get(now.dma + MPM_DMA_FREE, 3);
     printf(", %u records free\n", (unsigned)records);
     expect_figure(records, free_records());
+}
+
+static void show_size(void) {
+    printf(", %u records\n", (unsigned)mpm_size(now.fcb));
+    expect_figure(mpm_size(now.fcb), size);
 }
 
 /* How many lines a call of several has done. A line read must be the line written. */
@@ -300,6 +307,7 @@ static void show_effect(const struct step *step) {
             printf("\n");
         break;
     case MPM_FN_FREE_SPACE: show_free_records(); break;
+    case MPM_FN_SIZE: show_size(); break;
     default: printf("\n");
     }
 }
@@ -517,6 +525,7 @@ static void evening(void) {
         {CLERK_2, MPM_FN_UNLOCK, "unlocks lines 4 to 6", 4, 6, MPM_OK, 0},
         {CLERK_2, MPM_FN_CLOSE, "closes it", 0, 0, MPM_OK, 0},
         {CLERK_3, MPM_FN_CLOSE, "closes it", 0, 0, MPM_OK, 0},
+        {OFFICE, MPM_FN_SIZE, "asks for its size", 0, 0, MPM_OK, 0},
     };
     play_all(all, COUNT(all));
 }

@@ -97,8 +97,8 @@ says_what_is_bad() { # BOOK..
     rm -rf "$work/desk" && mkdir "$work/desk" && python3 "$here/book.py" "$work/desk" "$@"
 }
 
-sees_a_bad_check() { # SPOILED
-    kit_clang -std=c99 -O2 -fPIC -Dmpm_check=spoiled_check -c "$here/book.c" -o "$work/bad.o" &&
+sees_a_bad_answer() { # SPOILED
+    kit_clang -std=c99 -O2 -fPIC -Dmpm_check=spoiled_check -Dmpm_call=spoiled_call -c "$here/book.c" -o "$work/bad.o" &&
         kit_clang -std=c99 -O2 -fPIC "${warnings[@]}" -DSPOILED="$1" -c "$spoiled" -o "$work/spoiled.o" &&
         kit_link "$work/bad" "$work/bad.o" "$work/spoiled.o" "$archive" &&
         ends_with 1 says_what_is_bad "$run" "$work/bad"
@@ -213,10 +213,14 @@ with_the_kit() {
     try ".. on a large drive" sees_a_fault UNKNOWN_AS_LARGE large
     "$build" "$here/book.c" "$work/book-program"
     try "the desk's program on images damaged in each way" says_what_is_bad "$run" "$work/book-program"
-    try "a repeat charged to the earlier entry is seen" sees_a_bad_check EARLIER_ENTRY
-    try "a repeated block told before one out of range is seen" sees_a_bad_check REPEAT_FIRST
-    try "a missing extent 0 told in its entry's turn is seen" sees_a_bad_check EXTENT_0_IN_TURN
-    try "another entry than 0 told for a wrong length is seen" sees_a_bad_check LENGTH_OF_ENTRY_1
+    try "a repeat charged to the earlier entry is seen" sees_a_bad_answer EARLIER_ENTRY
+    try "a repeated block told before one out of range is seen" sees_a_bad_answer REPEAT_FIRST
+    try "a missing extent 0 told in its entry's turn is seen" sees_a_bad_answer EXTENT_0_IN_TURN
+    try "another entry than 0 told for a wrong length is seen" sees_a_bad_answer LENGTH_OF_ENTRY_1
+    try "a size by the highest entry is seen" sees_a_bad_answer SIZE_OF_LAST
+    try "a size without the module is seen" sees_a_bad_answer SIZE_BY_EX
+    try "a size by the count of extent 0 is seen" sees_a_bad_answer SIZE_BY_COUNT_0
+    try "a size in two bytes is seen" sees_a_bad_answer SIZE_IN_TWO_BYTES
 }
 
 with_the_system() { # ARCHIVE

@@ -17,7 +17,7 @@
    - Each pointer is valid for the length given with it. With a length of 0 it may be any pointer.
    - The buffers of one call do not overlap, and nobody else uses them until it returns.
 
-   Below stand the five functions and a book in one struct, then by name the thirteen calls, the answers, the sizes and
+   Below stand the five functions and a book in one struct, then by name the fourteen calls, the answers, the sizes and
    the places in the buffers, and last the few helpers that every host writes. docs/INTEGRATION.md tells the rest. */
 #ifndef MPM_H
 #define MPM_H
@@ -126,6 +126,10 @@ static inline uint32_t mpm_book_call(struct mpm_book *book, uint32_t function, u
    or its block is missing.
    NOT_OPEN, READ_ONLY, PAST_END, LOCKED, DIRECTORY_FULL, DISK_FULL */
 #define MPM_FN_WRITE 34u
+/* 35: sets FCB bytes 33 to 35 to the file's size in records: 128 times its highest extent plus that extent's count, up
+   to 262,144. The file need not be open.
+   BAD_NAME, NOT_FOUND */
+#define MPM_FN_SIZE 35u
 /* 40: as 34, refusals too; a record that takes a block has the block's other records cleared, seven on a small drive
    and fifteen on a large one. */
 #define MPM_FN_WRITE_ZEROS 40u
@@ -178,7 +182,7 @@ static inline uint32_t mpm_done(uint32_t answer, uint32_t count) {
 #define MPM_ERR_BAD_DRIVE MPM_ANSWER(255u, 4u)
 
 /* Of whole files.
-   255/0: 15, 19, 23: no such file */
+   255/0: 15, 19, 23, 35: no such file */
 #define MPM_ERR_NOT_FOUND MPM_ANSWER(255u, 0u)
 /* 255/0 too, the same number: 22: no empty entry in the directory */
 #define MPM_ERR_NO_EMPTY_ENTRY MPM_ANSWER(255u, 0u)
@@ -191,7 +195,7 @@ static inline uint32_t mpm_done(uint32_t answer, uint32_t count) {
 #define MPM_ERR_CLOSE_NOT_OPEN MPM_ANSWER(255u, 6u)
 /* 255/8: 22: the file exists; 23: the new name exists, the old one included */
 #define MPM_ERR_EXISTS MPM_ANSWER(255u, 8u)
-/* 255/9: 15, 19, 22: illegal name; 23: either name */
+/* 255/9: 15, 19, 22, 35: illegal name; 23: either name */
 #define MPM_ERR_BAD_NAME MPM_ANSWER(255u, 9u)
 /* 255/10: 15, 22: the caller is at the open limit */
 #define MPM_ERR_OPEN_LIMIT MPM_ANSWER(255u, 10u)
@@ -347,7 +351,8 @@ static inline uint32_t mpm_capacity_for(uint32_t processes, uint32_t open_limit,
 #define MPM_FCB_COUNT 15u    /* 15, 22 set it: record count of extent 0 */
 #define MPM_FCB_MAP 16u      /* 15, 22 set it: extent 0's 16 map bytes as they are: 16 block numbers, or 8 if large */
 #define MPM_FCB_NEW_NAME 17u /* 23: 11 bytes */
-#define MPM_FCB_RECORD 33u   /* 3 bytes: the record number; 15 and 22 leave the File ID here in unlocked mode */
+#define MPM_FCB_RECORD 33u   /* 3 bytes: the record number; 15 and 22 leave the File ID here in unlocked mode, 35 the
+                                size */
 
 #define MPM_DMA_FILE_ID 0u /* 42, 43: 2 bytes, the caller's File ID of the file */
 #define MPM_DMA_RECORD 0u  /* 33 puts the first record here; 34 and 40 take it; 41 compares its record */
@@ -401,6 +406,9 @@ static inline void mpm_set_record(uint8_t *fcb, uint32_t record) {
 static inline uint32_t mpm_file_id(const uint8_t *fcb) { return mpm_record(fcb); }
 
 static inline void mpm_set_file_id(uint8_t *dma, uint32_t file_id) { mpm_put(dma + MPM_DMA_FILE_ID, 2, file_id); }
+
+/* The number of records that an accepted 35 has left in the FCB. */
+static inline uint32_t mpm_size(const uint8_t *fcb) { return mpm_record(fcb); }
 
 /* What mpm_set_name says of a text. */
 #define MPM_NAMING_OK 0u

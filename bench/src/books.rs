@@ -66,7 +66,7 @@ pub fn kind_title(kind: Kind) -> &'static str {
     }
 }
 
-pub const FUNCTIONS: [(u32, &str); 13] = [
+pub const FUNCTIONS: [(u32, &str); 14] = [
     (15, "Open"),
     (16, "Close"),
     (19, "Delete"),
@@ -74,6 +74,7 @@ pub const FUNCTIONS: [(u32, &str); 13] = [
     (23, "Rename"),
     (33, "Read"),
     (34, "Write"),
+    (35, "Size"),
     (40, "Write, zero fill"),
     (41, "Test and Write"),
     (42, "Lock"),

@@ -12,7 +12,7 @@ const COLUMN: f64 = 62.0;
 pub const TOP: f64 = 70.0;
 const PANEL: f64 = 190.0;
 const INNER: f64 = 150.0;
-const WIDTH: f64 = LEFT + COLUMN * 13.0 + 20.0;
+const WIDTH: f64 = LEFT + COLUMN * FUNCTIONS.len() as f64 + 20.0;
 
 /// The scale is in powers of two of a microsecond, from the first to the last.
 const LOWEST: f64 = -2.0;

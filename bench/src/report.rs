@@ -136,7 +136,7 @@ fn ratio_goals(rows: &[Row], several: &[Several]) -> String {
 /// A call's time may grow with the entries, not with n.
 fn growth_goals(rows: &[Row], kind: Kind) -> String {
     match kind {
-        Kind::First => growth_goal(rows, kind, "the thirteen calls", &[]),
+        Kind::First => growth_goal(rows, kind, "the fourteen calls", &[]),
         Kind::Second => {
             growth_goal(rows, kind, "the calls but 40 and 46", &BY_BLOCKS) + &block_goal(rows, kind)
         }

@@ -13,6 +13,7 @@
      rename USER NAME NEW              23
      write USER NAME FIRST COUNT FILE  34: copies COUNT records of FILE, from record FIRST on, to the same records
      fill USER NAME FIRST COUNT FILE   40, likewise
+     size USER NAME                    35: prints the number of records
      get USER NAME FILE                15, 33, 16: copies the records from 0 to the first refusal to FILE; prints how
                                        many, the record count that 15 gave and the refusal. Look must show the same.
 
@@ -159,6 +160,17 @@ static int whole_file(const struct command *command, char **operands) {
     return report(command, operands, call(command->function, user));
 }
 
+static int file_size(const struct command *command, char **operands) {
+    uint32_t user;
+    uint8_t name[MPM_NAME_LEN];
+    if (!read_number(operands[0], &user) || !read_name(operands[1], name)) return wrong(operands[1]);
+    fill_fcb(name, 0);
+    uint32_t answer = call(command->function, user);
+    if (answer != MPM_OK) return report(command, operands, answer);
+    printf("%s.%s %u\n", operands[0], operands[1], (unsigned)mpm_size(fcb));
+    return DONE;
+}
+
 static int write_records(const struct command *command, char **operands) {
     uint32_t user, first, count, answer = MPM_OK;
     uint8_t name[MPM_NAME_LEN];
@@ -233,6 +245,7 @@ static const struct command commands[] = {
     {"rename", MPM_FN_RENAME, 3, whole_file},
     {"write", MPM_FN_WRITE, 5, write_records},
     {"fill", MPM_FN_WRITE_ZEROS, 5, write_records},
+    {"size", MPM_FN_SIZE, 2, file_size},
     {"get", MPM_FN_READ, 3, get},
 };
 

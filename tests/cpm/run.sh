@@ -149,12 +149,30 @@ same_free() { # FORMAT IMAGE; with less than three files cpmls -D says nothing
     expect "free records of $2" $((8 * kilobytes)) "$(book "$2" free)"
 }
 
+# cpmls tells bytes, 35 the records that have them: the last extent of each of these files tells its size.
+same_sizes() { # FORMAT IMAGE
+    local path base commands=()
+    for path in "$2".in/*; do
+        base=${path##*/}
+        commands+=(size "${base%%.*}" "${base#*.}")
+    done
+    expect "the sizes of the files of $2" \
+        "$(tool cpmls "$1" -u -l "$2" | awk '/:$/ { user = $1 + 0; next } NF { print user "." $NF, int(($2 + 127) / 128) }' | sort)" \
+        "$(book "$2" "${commands[@]}" | sort)"
+}
+
+desk_tells_size() { # IMAGE USER NAME RECORDS
+    expect "the desk's program on $3 of $1" "$1: $3 of user $2: $4 records, $((128 * $4)) bytes" \
+        "$(bash "$root/machine/run.sh" "$work/desk" size "$1" "$2:$3")"
+}
+
 agree() { # FORMAT IMAGE
     checked sound "$2"
     engine_reads "$2"
     tool_reads "$1" "$2"
     fsck_silent "$1" "$2"
     same_free "$1" "$2"
+    same_sizes "$1" "$2"
 }
 
 # ---- What the tools made ----
@@ -590,7 +608,7 @@ engine_fills mpm64 ours64 140 130 60 16 150
 engine_fills mpm256 ours256 320 200 150 128 300
 for n in 64 256; do
     agree "mpm$n" "ours$n"
-    ok "$n blocks, made by the engine: cpmls lists $(find "ours$n.in" -type f | wc -l) files, cpmcp copies their bytes, fsck.cpm is silent, the free space is the same"
+    ok "$n blocks, made by the engine: cpmls lists $(find "ours$n.in" -type f | wc -l) files, cpmcp copies their bytes, fsck.cpm is silent, the free space and the sizes are the same"
 done
 both_change mpm64 ours64 4000
 both_change mpm256 ours256 20000
@@ -608,7 +626,10 @@ agree large1027 made1027
 zeros_follow made1027
 ok "1,027 blocks of 2,048 bytes, made by mkfs.cpm and cpmcp: sound, and the files have their bytes"
 desk_finds_sound made64 made256 made257 made300 made1027
-ok "the desk's program: all five images that cpmtools made are sound"
+desk_tells_size made64 15 RECORD1.TXT 2
+desk_tells_size made256 15 LONGNAME.BIG 313
+desk_tells_size made300 0 EXTP1.DAT 129
+ok "the desk's program: all five images that cpmtools made are sound, and files have the sizes that they were given"
 for n in 257 1027; do
     engine_fills "large$n" "ours$n" 640 400 300 128 600
     agree "large$n" "ours$n"

@@ -23,7 +23,7 @@ PATIENCE = 120
 HEADER = "call process function A H\n"
 EMPTY = 0xE5
 
-OPEN, CLOSE, DELETE, MAKE, READ, WRITE, WRITE_ZEROS = 15, 16, 19, 22, 33, 34, 40
+OPEN, CLOSE, DELETE, MAKE, READ, WRITE, SIZE, WRITE_ZEROS = 15, 16, 19, 22, 33, 34, 35, 40
 LOCK, FREE_SPACE, TERMINATE = 42, 46, 143
 
 
@@ -218,6 +218,10 @@ Case("DISK.OUT read back and used", SESSION_OUT,
 # edges
 Case("record 262,143", blank(3), [start(), call(MAKE, 1, fcb()), call(WRITE, 1, fcb(LAST), LAST_DMA), call(READ, 1, fcb(LAST))],
      lines("0 1 22 0 0", "1 1 34 0 0", "2 1 33 0 0", "end 3"), LAST_OUT)
+Case("function 35", blank(4),
+     [start(), call(SIZE, 1, fcb()), call(MAKE, 1, fcb()), call(SIZE, 2, fcb(7)), call(SIZE, 1, fcb()[:1] + b"ORDERS  DA?" + fcb()[12:]),
+      call(SIZE, 1, b"\2" + fcb()[1:])],
+     lines("0 1 35 255 0", "1 1 22 0 0", "2 2 35 0 0", "3 1 35 255 9", "4 1 35 255 4", "end 5"), MADE_4)
 Case("byte 35 of 4", blank(4),
      [start(), call(MAKE, 1, fcb()), call(READ, 1, fcb(0x40000)), call(WRITE, 1, fcb(0x40000)), call(WRITE_ZEROS, 1, fcb(0x40000)),
       call(LOCK, 1, fcb(0x40000))],

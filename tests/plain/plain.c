@@ -1,4 +1,4 @@
-/* The thirteen calls in plain C: the checks and the work of the engine, step by step the same, as one would write them
+/* The fourteen calls in plain C: the checks and the work of the engine, step by step the same, as one would write them
    by hand. Structs are passed by address. A run of records has its checks made once and each extent found once.
    It is compiled once for each kind of drive, KIND being SMALL or LARGE, so that the sizes are constants.
    plain_call.c has the choice. */
@@ -542,6 +542,21 @@ static uint32_t delete_file(struct job *j) {
     return MPM_OK;
 }
 
+static uint32_t file_size(struct job *j) {
+    if (!legal_name(j->fcb + 1)) return MPM_ERR_BAD_NAME;
+    const uint8_t *highest = 0;
+    for (size_t e = 0; e < ENTRIES; e++) {
+        const uint8_t *entry = entry_at(&j->drive, e);
+        if (is_of(entry, &j->file) && (!highest || extent_at(entry) > extent_at(highest))) highest = entry;
+    }
+    if (!highest) return MPM_ERR_NOT_FOUND;
+    uint32_t records = 128 * extent_at(highest) + highest[15];
+    j->fcb[33] = (uint8_t)records;
+    j->fcb[34] = (uint8_t)(records >> 8);
+    j->fcb[35] = (uint8_t)(records >> 16);
+    return MPM_OK;
+}
+
 static void rename_entry(uint8_t *entry, const uint8_t *name) {
     for (size_t k = 0; k < NAME; k++) entry[1 + k] = (uint8_t)((entry[1 + k] & 0x80) | name[k]);
 }
@@ -761,6 +776,7 @@ static bool is_known(uint32_t function) {
     case MPM_FN_RENAME:
     case MPM_FN_READ:
     case MPM_FN_WRITE:
+    case MPM_FN_SIZE:
     case MPM_FN_WRITE_ZEROS:
     case MPM_FN_TEST_WRITE:
     case MPM_FN_LOCK:
@@ -791,6 +807,8 @@ static uint32_t serve(uint32_t function, struct job *j) {
         return read_records(j);
     case MPM_FN_WRITE:
         return write_records(j, false);
+    case MPM_FN_SIZE:
+        return file_size(j);
     case MPM_FN_WRITE_ZEROS:
         return write_records(j, true);
     case MPM_FN_TEST_WRITE:

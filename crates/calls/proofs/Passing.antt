@@ -15,7 +15,7 @@ use Rattle.words.proofs.Tables.{zero-none}
 use Rattle.words.proofs.Sets.{row-yes, row-no}
 use Rattle.rules.specs.Kinds.{entries}
 use Rattle.rules.specs.declared.routine.Routine.{Routine}
-use Rattle.rules.specs.declared.routine.Routine.the-variants.{Open, Close, Delete, Make, Rename, Read, Write, WriteZeros, TestWrite, Lock, Unlock, FreeSpace, Terminate}
+use Rattle.rules.specs.declared.routine.Routine.the-variants.{Open, Close, Delete, Make, Rename, Read, Write, Size, WriteZeros, TestWrite, Lock, Unlock, FreeSpace, Terminate}
 use Rattle.rules.specs.declared.routine.Chosen.{Chosen}
 use Rattle.rules.specs.declared.routine.Chosen.the-variants.{Call, Unknown}
 use Rattle.rules.specs.Serves.{Buffers, Did, buffers, outcome, functionOf, chosen, isUnknown}
@@ -58,9 +58,9 @@ pub chosen-number : (n : ℕ) (k : Routine) → chosen n ≡ Call k → n ≡ fu
 unfolding chosen functionOf
 chosen-number n k h =
     key n 15 Open k _ refl h (λ h. key n 16 Close k _ refl h (λ h. key n 19 Delete k _ refl h (λ h. key n 22 Make k _ refl h (λ h.
-    key n 23 Rename k _ refl h (λ h. key n 33 Read k _ refl h (λ h. key n 34 Write k _ refl h (λ h. key n 40 WriteZeros k _ refl h (λ h.
+    key n 23 Rename k _ refl h (λ h. key n 33 Read k _ refl h (λ h. key n 34 Write k _ refl h (λ h. key n 35 Size k _ refl h (λ h. key n 40 WriteZeros k _ refl h (λ h.
     key n 41 TestWrite k _ refl h (λ h. key n 42 Lock k _ refl h (λ h. key n 43 Unlock k _ refl h (λ h. key n 46 FreeSpace k _ refl h (λ h.
-    key n 143 Terminate k _ refl h (λ (h : Unknown ≡ Call k). let z : _≡_ {A = ℕ} 0 1 = cc in absurd (omega arith))))))))))))))
+    key n 143 Terminate k _ refl h (λ (h : Unknown ≡ Call k). let z : _≡_ {A = ℕ} 0 1 = cc in absurd (omega arith)))))))))))))))
 
 drive-by : (k : Routine) → readsDrive k ≡ (not (eqb (functionOf k) 46) and not (eqb (functionOf k) 143))
 unfolding readsDrive functionOf _and_
@@ -71,6 +71,7 @@ drive-by Make = refl
 drive-by Rename = refl
 drive-by Read = refl
 drive-by Write = refl
+drive-by Size = refl
 drive-by WriteZeros = refl
 drive-by TestWrite = refl
 drive-by Lock = refl

@@ -6,7 +6,7 @@ use mathlib.Core.List.{List}
 use borrow.Author.Tests.{ne-eqb, not-true, not-false}
 use Rattle.words.specs.Tests.{_or_, _if_else_}
 use Rattle.rules.specs.declared.routine.Routine.{Routine}
-use Rattle.rules.specs.declared.routine.Routine.the-variants.{Open, Close, Delete, Make, Rename, Read, Write, WriteZeros, TestWrite, Lock, Unlock, FreeSpace, Terminate}
+use Rattle.rules.specs.declared.routine.Routine.the-variants.{Open, Close, Delete, Make, Rename, Read, Write, Size, WriteZeros, TestWrite, Lock, Unlock, FreeSpace, Terminate}
 use Rattle.rules.specs.declared.routine.Chosen.the-variants.{Call}
 use Rattle.rules.specs.Serves.{Buffers, Did}
 use Rattle.rules.specs.Codes.{badDrive}
@@ -27,6 +27,7 @@ any-count kind Make p c d b h = refl
 any-count kind Rename p c d b h = refl
 any-count kind Read p c d b h = refl
 any-count kind Write p c d b h = refl
+any-count kind Size p c d b h = refl
 any-count kind WriteZeros p c d b h = refl
 any-count kind TestWrite p c d b h = refl
 any-count kind Lock p c d b h = absurd (true≢false h)

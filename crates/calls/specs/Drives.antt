@@ -1,7 +1,7 @@
 -- Which calls look at FCB byte 0, and which use count. Assumes nothing.
 use mathlib.Core.Bool.{Bool, true, false}
 use Rattle.rules.specs.declared.routine.Routine.{Routine}
-use Rattle.rules.specs.declared.routine.Routine.the-variants.{Open, Close, Delete, Make, Rename, Read, Write, WriteZeros, TestWrite, Lock, Unlock, FreeSpace, Terminate}
+use Rattle.rules.specs.declared.routine.Routine.the-variants.{Open, Close, Delete, Make, Rename, Read, Write, Size, WriteZeros, TestWrite, Lock, Unlock, FreeSpace, Terminate}
 
 -- (not for 46, 143)
 unfoldable pub readsDrive : Routine → Bool
@@ -12,6 +12,7 @@ readsDrive Make = true
 readsDrive Rename = true
 readsDrive Read = true
 readsDrive Write = true
+readsDrive Size = true
 readsDrive WriteZeros = true
 readsDrive TestWrite = true
 readsDrive Lock = true
@@ -28,6 +29,7 @@ usesCount Make = false
 usesCount Rename = false
 usesCount Read = false
 usesCount Write = false
+usesCount Size = false
 usesCount WriteZeros = false
 usesCount TestWrite = false
 usesCount Lock = true

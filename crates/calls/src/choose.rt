@@ -15,6 +15,7 @@ pub fn routine_of(function: u32) -> Chosen
         23 => Chosen::Call(Routine::Rename),
         33 => Chosen::Call(Routine::Read),
         34 => Chosen::Call(Routine::Write),
+        35 => Chosen::Call(Routine::Size),
         40 => Chosen::Call(Routine::WriteZeros),
         41 => Chosen::Call(Routine::TestWrite),
         42 => Chosen::Call(Routine::Lock),

@@ -61,6 +61,7 @@ fn reads_drive(routine: Routine) -> bool
         Routine::Rename => true,
         Routine::Read => true,
         Routine::Write => true,
+        Routine::Size => true,
         Routine::WriteZeros => true,
         Routine::TestWrite => true,
         Routine::Lock => true,

@@ -34,6 +34,7 @@ pub fn serve(
         Routine::Rename => files::rename::rename_file(kind, p, l, &*fcb, &*dma, &*list, image),
         Routine::Read => records::read::read_random(kind, p, l, &*fcb, dma, &*list, &*image),
         Routine::Write => records::write::write_random(kind, p, l, &*fcb, &*dma, &*list, image),
+        Routine::Size => files::size::file_size(kind, p, l, fcb, &*dma, &*list, &*image),
         Routine::WriteZeros => records::write::write_zero_fill(
             kind,
             p,

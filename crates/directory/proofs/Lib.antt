@@ -1,3 +1,4 @@
 -- The proofs of `directory`.
 pub mod Arms
 pub mod Places
+pub mod Looking

@@ -1,5 +1,7 @@
+use crate::entry::extent_at;
 use crate::entry::is_empty;
 use crate::entry::is_entry;
+use crate::entry::is_of;
 use crate::entry::map_number;
 use crate::place::map_place;
 use rules::file::File;
@@ -9,9 +11,11 @@ use rules::kind::entries;
 ghost use mathlib.Core.Path.{_≡_};
 ghost use Prim.Native.Nat.{_+_, _*_, _<_, _≤_};
 ghost use lib.ListN.{length};
-ghost use Rattle.words.specs.Tests.{any};
+ghost use lib.Dec.{leb, ltb, eqb};
+ghost use Rattle.words.specs.Tests.{_and_, _if_else_, any};
 ghost use Rattle.rules.specs.Kinds.{entries};
 ghost use Rattle.rules.specs.Drive.{isEntry, entryOf, lookUp, missing, readOnly, freeEntry, blockIn, blockOf};
+ghost use Rattle.directory.specs.Looking.{foundTo};
 
 // An entry below `n` is that extent of the file.
 pub fn any_entry(image: &[u8], f: File, extent: usize, n: usize) -> bool
@@ -44,14 +48,70 @@ pub fn entry_of(kind: Kind, image: &[u8], f: File, extent: usize) -> usize
     e
 }
 
+// The entry of extent 0 so far: entry `e`, of that extent number, where none was before.
+fn first_with(first: usize, extent: usize, e: usize, none: usize) -> usize
+    ensures { λ r. ⌜ r ≡ (e if eqb extent 0 and leb none first else first) ⌝ }
+{
+    if extent != 0 {
+        return first;
+    }
+    if first < none {
+        return first;
+    }
+    e
+}
+
+// An entry of the file was found, and its extent is at least this one.
+fn is_highest(x: Found, extent: usize, none: usize) -> bool
+    ensures { λ r. ⌜ r ≡ (ltb (x .last) none and leb extent (x .extent)) ⌝ }
+{
+    if none <= x.last {
+        return false;
+    }
+    extent <= x.extent
+}
+
+// What the entries before `e` told, and entry `e`; `none` stands for no entry.
+fn look_on(image: &[u8], f: File, x: Found, e: usize, none: usize) -> Found
+    requires { ⌜ (32 * e + 32 ≤ length (now image)) × (e ≤ none) × (x ≡ foundTo none (now image) f e) ⌝ }
+    ensures { λ r. ⌜ r ≡ foundTo none (now (image .entry)) f (e + 1) ⌝ }
+{
+    if !is_of(image, f, e) {
+        return x;
+    }
+    let extent = extent_at(image, e);
+    let first = first_with(x.entry, extent, e, none);
+    if is_highest(x, extent, none) {
+        return Found {
+            entry: first,
+            extent: x.extent,
+            last: x.last,
+        };
+    }
+    Found {
+        entry: first,
+        extent: extent,
+        last: e,
+    }
+}
+
 // Looks up a file.
 pub fn look_up(kind: Kind, image: &[u8], f: File) -> Found
     requires { ⌜ 32 * entries kind ≤ length (now image) ⌝ }
-    ensures { λ r. ⌜ (r ≡ lookUp kind (now (image .entry)) f) × (r .entry ≤ entries kind) ⌝ }
+    ensures { λ r. ⌜ (r ≡ lookUp kind (now (image .entry)) f) × (r .entry ≤ entries kind) × (r .last ≤ entries kind) ⌝ }
 {
-    Found {
-        entry: entry_of(kind, image, f, 0),
+    let n = entries(kind);
+    let mut x = Found {
+        entry: n,
+        extent: 0,
+        last: n,
+    };
+    let mut e = 0;
+    while e < n {
+        x = look_on(image, f, x, e, n);
+        e += 1;
     }
+    x
 }
 
 // No such file.

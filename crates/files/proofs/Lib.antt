@@ -2,3 +2,4 @@
 pub mod Opening
 pub mod Making
 pub mod Removing
+pub mod Measured

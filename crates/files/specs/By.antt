@@ -4,8 +4,8 @@ use Rattle.rules.specs.declared.file.File.{File}
 use Rattle.rules.specs.declared.list.LockList.{LockList}
 use Rattle.rules.specs.Serves.{Buffers, Outcome}
 use Rattle.rules.specs.Drive.{lookUp}
-use Rattle.rules.specs.Codes.{rows15, rows19, rows22, rows23}
-use Rattle.rules.specs.Effects.{does15, does19, does22, does23}
+use Rattle.rules.specs.Codes.{rows15, rows19, rows22, rows23, rows35}
+use Rattle.rules.specs.Effects.{does15, does19, does22, does23, does35}
 use Rattle.rules.specs.Call.{unless}
 use Rattle.rules.specs.declared.kind.Kind.{Kind}
 
@@ -21,3 +21,6 @@ by19 kind p l o f b = unless (rows19 kind p l f (lookUp kind (b .image) f) (b .f
 unfoldable pub by23 : Kind → LockList → File → File → Buffers → Outcome
 by23 kind l f new b =
     unless (rows23 kind l f (lookUp kind (b .image) f) (lookUp kind (b .image) new) (b .fcb) (b .image)) b (does23 kind f new b)
+
+unfoldable pub by35 : Kind → File → Buffers → Outcome
+by35 kind f b = unless (rows35 kind (lookUp kind (b .image) f) (b .fcb)) b (does35 (lookUp kind (b .image) f) b)

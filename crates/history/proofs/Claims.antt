@@ -16,7 +16,7 @@ use Rattle.rules.specs.declared.kind.Told.{Told}
 use Rattle.rules.specs.declared.kind.Told.the-variants.{Known, Other}
 use Rattle.rules.specs.Kinds.{toldKind}
 use Rattle.rules.specs.Serves.{Outcome, outcome}
-use Rattle.rules.specs.Drive.{soundImage, imageCheck, imageNumber, imageEntry, imageTold}
+use Rattle.rules.specs.Drive.{lookUp, soundImage, imageCheck, imageNumber, imageEntry, imageTold}
 use Rattle.rules.specs.Locks.{start}
 use Rattle.rules.specs.Several.{callRun}
 use Rattle.rules.specs.Told.{callTold, checkTold, lookTold}
@@ -28,6 +28,8 @@ use Rattle.rules.proofs.SoundList.{list-sound-of, unpack-shape, unpacked}
 use Rattle.rules.proofs.Look.{look-inside, look-apart}
 use Rattle.rules.proofs.Answers.{one-told}
 use Rattle.rules.proofs.Checks.{check-tells}
+use Rattle.rules.proofs.Highest.{highest-most}
+use Rattle.soundness.proofs.SizedCalls.{made-zero, size-written, size-rewritten, size-renamed}
 use Rattle.rules.proofs.Told.{other-call, other-check, other-look}
 use Rattle.session.specs.Open.{rules}
 use Rattle.session.specs.Session.{firstList}
@@ -38,11 +40,12 @@ use Rattle.filling.proofs.Least.{least}
 use Rattle.history.specs.History.{Ask, State, Engine, isWord, isPossible, isKept, lent, outcomeOf, withCount}
 use Rattle.history.specs.Deeds.{doneIn}
 use Rattle.history.specs.Demands.{NoTrace, Demand1, Demand2}
-use Rattle.history.specs.Claims.{Claims, KeepsContract, Refuses, ToldClaims, TheSession, LookClaims, CheckClaims, AllClaims}
+use Rattle.history.specs.Claims.{Claims, KeepsContract, Refuses, ToldClaims, TheSession, LookClaims, CheckClaims, SizeClaims, AllClaims}
 use Rattle.history.proofs.First.{leaves-no-trace, counted-possible, fewer-possible}
 use Rattle.history.proofs.Alike.{meets-third}
 use Rattle.history.proofs.Unlocks.{unlock-order}
 use Rattle.history.proofs.Sizing.{nobody-turned-away}
+use Rattle.history.proofs.Sized.{size-most, size-told, run-kept}
 use Rattle.history.proofs.Wrong.{refusing-differs, accepting-differs, idle-differs, not-idle, not-pretending, made-up-differs, not-made-up, not-unbitted, not-lavish, not-promoting}
 
 -- ---- of an engine that serves as the rules do
@@ -164,6 +167,18 @@ look-claims = record {
 check-claims : CheckClaims
 check-claims = record { tells = check-tells; told = λ kind s. unfold checkTold in refl; told-apart = one-told }
 
+size-claims : SizeClaims
+size-claims = record {
+  told = size-told;
+  most = size-most;
+  highest = λ kind s f e l h. unfold lookUp in highest-most kind s f e l h;
+  made = made-zero;
+  written = size-written;
+  rewritten = size-rewritten;
+  kept = run-kept;
+  renamed = size-renamed;
+}
+
 -- every promise, of every engine that keeps the contract, and of the rules
 pub all-claims : AllClaims
 all-claims = record {
@@ -189,5 +204,6 @@ all-claims = record {
   looks = look-claims;
   checks = check-claims;
   unlocks = record { unlocking = unlocking-told; wrong-fall = wrong-unlocks };
+  sizes = size-claims;
   least = least;
 }

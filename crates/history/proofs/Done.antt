@@ -8,7 +8,7 @@ use native.Mathlib.Omega.{arith}
 use borrow.Author.Tests.{ne-eqb}
 use Rattle.words.proofs.Tests.{equal?}
 use Rattle.rules.specs.declared.kind.Kind.{Kind}
-use Rattle.rules.specs.declared.routine.Routine.the-variants.{Open, Close, Delete, Make, Rename, Read, Write, WriteZeros, TestWrite, Lock, Unlock, FreeSpace, Terminate}
+use Rattle.rules.specs.declared.routine.Routine.the-variants.{Open, Close, Delete, Make, Rename, Read, Write, Size, WriteZeros, TestWrite, Lock, Unlock, FreeSpace, Terminate}
 use Rattle.rules.specs.declared.routine.Chosen.the-variants.{Call, Unknown}
 use Rattle.words.specs.Tests.{_if_else_}
 use Rattle.words.specs.Lists.{turns}
@@ -80,6 +80,7 @@ tells-is (Call Make) users q h = let z : _≡_ {A = ℕ} 0 1 = cc in absurd (ome
 tells-is (Call Rename) users q h = let z : _≡_ {A = ℕ} 0 1 = cc in absurd (omega arith)
 tells-is (Call Read) users q h = let z : _≡_ {A = ℕ} 0 1 = cc in absurd (omega arith)
 tells-is (Call Write) users q h = let z : _≡_ {A = ℕ} 0 1 = cc in absurd (omega arith)
+tells-is (Call Size) users q h = let z : _≡_ {A = ℕ} 0 1 = cc in absurd (omega arith)
 tells-is (Call WriteZeros) users q h = let z : _≡_ {A = ℕ} 0 1 = cc in absurd (omega arith)
 tells-is (Call TestWrite) users q h = let z : _≡_ {A = ℕ} 0 1 = cc in absurd (omega arith)
 tells-is (Call Lock) users q h = let z : _≡_ {A = ℕ} 0 1 = cc in absurd (omega arith)

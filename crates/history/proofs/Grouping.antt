@@ -24,7 +24,7 @@ use Rattle.soundness.proofs.Written.{Old, New}
 use Rattle.soundness.proofs.Taken.{caller-long}
 use Rattle.soundness.proofs.Ends.{image-of, made-of, renamed-file, written-of}
 use Rattle.rules.proofs.Passed.{Passed}
-use Rattle.soundness.proofs.Leaves.{Leaf, MayMake, MayWrite, imageWritten, refused, reopened, newlyOpened, newlyMade, nowClosed, nowErased, nowDropped, nowRenamed, nowRead, nowWritten, nowRewritten, nowLocked, lockIdle, nowUnlocked, unlockIdle, nowTold, nowEnded}
+use Rattle.soundness.proofs.Leaves.{Leaf, MayMake, MayWrite, imageWritten, refused, reopened, newlyOpened, newlyMade, nowClosed, nowErased, nowDropped, nowRenamed, nowRead, nowSized, nowWritten, nowRewritten, nowLocked, lockIdle, nowUnlocked, unlockIdle, nowTold, nowEnded}
 use Rattle.history.specs.History.{Ask, State, event, lent}
 use Rattle.history.specs.Deeds.{deedBy, deed}
 use Rattle.history.specs.Groups.{Group, group, touching, touchingAt, touchingRun, counting}
@@ -115,5 +115,6 @@ module _ (kind : Kind) (q : Ask) (s : State) (g : List Group) (t : Counted kind 
   count-step one o low (lockIdle k ok w) = rw (deed-done (usersIn s) q _ k) t
   count-step one o low (nowUnlocked k ok w) = rw (deed-done (usersIn s) q _ k) t
   count-step one o low (unlockIdle k ok w) = rw (deed-done (usersIn s) q _ k) t
+  count-step one o low (nowSized k ok fcb) = rw (deed-done (usersIn s) q _ k) t
   count-step one o low (nowTold k ok dma) = rw (deed-done (usersIn s) q _ k) t
   count-step one o low (nowEnded k ok) = rw (deed-done (usersIn s) q _ k) t

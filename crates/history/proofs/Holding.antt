@@ -30,7 +30,7 @@ use Rattle.soundness.proofs.Taken.{caller-long, caller-user, own-open, own-good
 use Rattle.soundness.proofs.Deleted.{unopened-none, none-of-file}
 use Rattle.soundness.proofs.Ends.{shape-of, list-of, takes-of}
 use Rattle.rules.proofs.Passed.{Passed}
-use Rattle.soundness.proofs.Leaves.{Leaf, openBy, modeBy, Idle, refused, reopened, newlyOpened, newlyMade, nowClosed, nowErased, nowDropped, nowRenamed, nowRead, nowWritten, nowRewritten, nowLocked, lockIdle, nowUnlocked, unlockIdle, nowTold, nowEnded}
+use Rattle.soundness.proofs.Leaves.{Leaf, openBy, modeBy, Idle, refused, reopened, newlyOpened, newlyMade, nowClosed, nowErased, nowDropped, nowRenamed, nowRead, nowSized, nowWritten, nowRewritten, nowLocked, lockIdle, nowUnlocked, unlockIdle, nowTold, nowEnded}
 use Rattle.history.specs.History.{Ask, State, event, lent}
 use Rattle.history.specs.Deeds.{Deed, deedBy, deed}
 use Rattle.history.specs.Held.{sameItem, isAmong, granting, grantingRun, isBy, holding}
@@ -195,5 +195,6 @@ module _ (kind : Kind) (q : Ask) (s : State) (g : List Item) (t : Tally (unpack 
   held-step o (unlockIdle k ok w) =
       rw (deed-done (usersIn s) q _ k, file-meant q l)
       (tally-idle l (isInRun p f (recordOf (q .fcb)) c) _ (unlock-empties p f (recordOf (q .fcb)) c) (shape-of kind p c b ok) g t (no-locks ok w))
+  held-step o (nowSized k ok fcb) = rw (deed-done (usersIn s) q _ k) t
   held-step o (nowTold k ok dma) = rw (deed-done (usersIn s) q _ k) t
   held-step o (nowEnded k ok) = rw (deed-done (usersIn s) q _ k) (gone-tally ok _ (unlessBy p) (end-empties p) (end-whole l p))

@@ -33,6 +33,7 @@ pub mod Lendable
 pub mod Alike
 pub mod Unlocks
 pub mod Sizing
+pub mod Sized
 pub mod Histories
 pub mod Wrong
 pub mod Claims

@@ -11,15 +11,20 @@ use Rattle.words.specs.Tables.{_∕_, firstOf, anyRow}
 use Rattle.rules.specs.declared.kind.Kind.{Kind}
 use Rattle.rules.specs.declared.kind.Kind.the-variants.{Small, Large}
 use Rattle.rules.specs.declared.kind.Told.{Told}
+use Rattle.rules.specs.declared.file.File.{File}
+use Rattle.rules.specs.declared.routine.Routine.the-variants.{Delete, Make, Rename, Write, Size, WriteZeros, TestWrite}
+use Rattle.rules.specs.declared.routine.Chosen.the-variants.{Call}
 use Rattle.rules.specs.declared.kind.Told.the-variants.{Known}
 use Rattle.rules.specs.Kinds.{toldKind, entries}
 use Rattle.rules.specs.Serves.{Buffers, outcome, Did, chosen, listSize}
 use Rattle.rules.specs.declared.answer.ImageAnswer.{ImageAnswer}
-use Rattle.rules.specs.Drive.{entrySize, recordSize, fileFrom, soundImage, imageCheck, imageTold}
+use Rattle.rules.specs.Drive.{entrySize, recordSize, fileFrom, extentAt, isOf, lookUp, soundImage, imageCheck, imageTold}
 use Rattle.rules.specs.Checks.{CheckTells}
 use Rattle.rules.specs.Locks.{pack, unpack, soundList, start}
 use Rattle.rules.specs.Call.{asked, rowsCall, effectOf, call}
-use Rattle.rules.specs.Several.{callSingly}
+use Rattle.rules.specs.Asks.{callerFile, newFile, recordOf}
+use Rattle.rules.specs.Effects.{fileSize}
+use Rattle.rules.specs.Several.{callSingly, callRun}
 use Rattle.rules.specs.Look.{lookAt}
 use Rattle.rules.specs.Told.{callTold, checkTold, lookTold}
 use Rattle.session.specs.Session.{AsListed, session, firstImage, firstList}
@@ -78,6 +83,10 @@ pub record ToldClaims (e : ℕ → Engine) : Type 0 where
   pub second-as-first : EachCall (λ (before : List Ask) (q : Ask) (s : State). soundImage Large (s .image) ≡ true → Refuses e 0 before q s)
 
 -- ---- Of the rules
+
+-- the caller's file
+abbrev fileIn : ℕ → Buffers → File
+fileIn p b = callerFile p (unpack (b .list)) (b .fcb)
 
 -- "Shut out by demand 2: an engine refusing everything, one answering 0/0 to everything, one that answers well but stores nothing.
 -- Demand 3 too stops the last, at the first Make, and one that does the first call's work and then pretends. A made-up figure from
@@ -138,6 +147,27 @@ pub record UnlockClaims : Type 0 where
   pub unlocking : (t : Told) → Unlocking (locksTold t) (unlocksTold t)
   pub wrong-fall : WrongUnlocks
 
+-- T-05, "Compute File Size", of every call that a row does not refuse; f is any file, its name of eleven bytes.
+pub record SizeClaims : Type 0 where
+  -- "FCB bytes 33 to 35 become 128 times the highest extent plus that extent's count .. up to 262,144"; no entry has a higher extent
+  pub told : (kind : Kind) (n p c : ℕ) (b : Buffers) → anyRow (rowsCall kind n p c b) ≡ false → chosen n ≡ Call Size
+      → recordOf (call kind n p c b .left .fcb) ≡ fileSize kind (b .image) (fileIn p b)
+  pub most : (kind : Kind) (s : List ℕ) (f : File) → length (f .name) ≡ 11 → soundImage kind s ≡ true → fileSize kind s f ≤ 262144
+  pub highest : (kind : Kind) (s : List ℕ) (f : File) (e : ℕ) → e < entries kind → isOf s f e ≡ true → extentAt s e ≤ lookUp kind s f .extent
+  -- + a file just made has size 0; after a 34, 40 or 41 of record r it is at least r + 1; ..
+  pub made : (kind : Kind) (n p c : ℕ) (b : Buffers) → anyRow (rowsCall kind n p c b) ≡ false → chosen n ≡ Call Make
+      → fileSize kind (call kind n p c b .left .image) (fileIn p b) ≡ 0
+  pub written : (kind : Kind) (n p c : ℕ) (b : Buffers) → anyRow (rowsCall kind n p c b) ≡ false
+      → (chosen n ≡ Call Write) ⊎ (chosen n ≡ Call WriteZeros) → recordOf (b .fcb) + 1 ≤ fileSize kind (call kind n p c b .left .image) (fileIn p b)
+  pub rewritten : (kind : Kind) (n p c : ℕ) (b : Buffers) → anyRow (rowsCall kind n p c b) ≡ false → chosen n ≡ Call TestWrite
+      → recordOf (b .fcb) + 1 ≤ fileSize kind (call kind n p c b .left .image) (fileIn p b)
+  -- .. no call, with one record or several, lowers it but the file's own Delete or Rename; and Rename gives the new name the old size.
+  pub kept : (kind : Kind) (n p c : ℕ) (b : Buffers) (f : File) → length (f .name) ≡ 11
+      → ((chosen n ≡ Call Delete) ⊎ (chosen n ≡ Call Rename) → f ≡ fileIn p b → ⊥)
+      → fileSize kind (b .image) f ≤ fileSize kind (callRun kind n p c b .left .image) f
+  pub renamed : (kind : Kind) (n p c : ℕ) (b : Buffers) → anyRow (rowsCall kind n p c b) ≡ false → chosen n ≡ Call Rename
+      → fileSize kind (call kind n p c b .left .image) (newFile p (unpack (b .list)) (b .fcb)) ≡ fileSize kind (b .image) (fileIn p b)
+
 -- ---- All of it
 
 pub record AllClaims : Type 0 where
@@ -149,5 +179,6 @@ pub record AllClaims : Type 0 where
   pub looks : LookClaims
   pub checks : CheckClaims
   pub unlocks : UnlockClaims
+  pub sizes : SizeClaims
   -- T-10: "Give also a sequence with one place fewer where one of them is": + for all limits and numbers of processes, so that the bound is the least.
   pub least : Least

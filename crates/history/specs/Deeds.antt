@@ -7,7 +7,7 @@ use Rattle.words.specs.Tests.{_or_, _if_else_}
 use Rattle.words.specs.Bytes.{byte}
 use Rattle.words.specs.Tables.{_∕_}
 use Rattle.rules.specs.declared.file.File.{File}
-use Rattle.rules.specs.declared.routine.Routine.the-variants.{Open, Close, Delete, Make, Rename, Read, Write, WriteZeros, TestWrite, Lock, Unlock, FreeSpace, Terminate}
+use Rattle.rules.specs.declared.routine.Routine.the-variants.{Open, Close, Delete, Make, Rename, Read, Write, Size, WriteZeros, TestWrite, Lock, Unlock, FreeSpace, Terminate}
 use Rattle.rules.specs.declared.routine.Chosen.{Chosen}
 use Rattle.rules.specs.declared.routine.Chosen.the-variants.{Call, Unknown}
 use Rattle.rules.specs.Serves.{chosen}
@@ -37,7 +37,7 @@ unfoldable pub newBy : List ℕ → Ask → File
 newBy users q = fileFrom (byte users (q .process)) (q .fcb) 17
 
 -- An open, by each accepted 15 or 22; the run's records, by each accepted 42; an accepted 34 or 40 has touched the
--- groups of its records; an accepted Rename carries them over, an accepted Delete drops them. 33 and 41 do none of these.
+-- groups of its records; an accepted Rename carries them over, an accepted Delete drops them. 33, 35 and 41 do none of these.
 unfoldable pub deedBy : Chosen → List ℕ → Ask → Deed
 deedBy (Call Open) users q = opens (q .process) (fileBy users q) (openMode (q .fcb))
 deedBy (Call Close) users q = closes (q .process) (fileBy users q)
@@ -46,6 +46,7 @@ deedBy (Call Make) users q = opens (q .process) (fileBy users q) (makeMode (q .f
 deedBy (Call Rename) users q = carries (fileBy users q) (newBy users q)
 deedBy (Call Read) users q = nothing
 deedBy (Call Write) users q = touches (fileBy users q) (recordOf (q .fcb)) (q .count)
+deedBy (Call Size) users q = nothing
 deedBy (Call WriteZeros) users q = touches (fileBy users q) (recordOf (q .fcb)) (q .count)
 deedBy (Call TestWrite) users q = nothing
 deedBy (Call Lock) users q = locks (q .process) (fileBy users q) (recordOf (q .fcb)) (q .count)

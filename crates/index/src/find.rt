@@ -2,7 +2,6 @@ use crate::slot::slot_of;
 use directory::entry::is_entry;
 use directory::find::block_in;
 use rules::file::File;
-use rules::file::Found;
 use rules::kind::Kind;
 use rules::kind::entries;
 use words::hint::hint;
@@ -13,7 +12,7 @@ ghost use lib.ListN.{length};
 ghost use Rattle.words.specs.Tests.{any, lowest};
 ghost use Rattle.words.specs.Hints.{Hints};
 ghost use Rattle.rules.specs.Kinds.{entries};
-ghost use Rattle.rules.specs.Drive.{isEntry, entryOf, lookUp, blockOf};
+ghost use Rattle.rules.specs.Drive.{isEntry, entryOf, blockOf};
 ghost use Rattle.index.specs.Slots.{slotOf, slotAt, inUse};
 
 // The lowest entry below `n` that is that extent of the file, `n` where there is none. None below `from` is.
@@ -54,16 +53,6 @@ pub fn entry_by(kind: Kind, image: &[u8], hints: &[u8; 256], f: File, extent: us
     let n = entries(kind);
     let h = slot_of(f, extent);
     entry_below(image, hints, h, f, extent, n)
-}
-
-// Looks up a file.
-pub fn look_up_by(kind: Kind, image: &[u8], hints: &[u8; 256], f: File) -> Found
-    requires { ⌜ (32 * entries kind ≤ length (now image)) × Hints (slotAt (now image)) (inUse (now image)) (entries kind) (now hints) ⌝ }
-    ensures { λ r. ⌜ (r ≡ lookUp kind (now (image .entry)) f) × (r .entry ≤ entries kind) ⌝ }
-{
-    Found {
-        entry: entry_by(kind, image, hints, f, 0),
-    }
 }
 
 // The block of a record of the file, 0 where it has none.

@@ -8,26 +8,29 @@ use native.Mathlib.Omega.{arith}
 use lib.ListN.{length, getD}
 use lib.Dec.{leb, ltb, eqb}
 use borrow.Author.Needs.{needs}
-use borrow.Author.Tests.{lt-ltb, le-ltb, le-leb, lt-leb, ltb-true, ltb-false, eq-eqb, ne-eqb, eqb-true}
+use borrow.Author.Tests.{lt-ltb, le-ltb, le-leb, lt-leb, ltb-true, ltb-false, leb-true, leb-false, eq-eqb, ne-eqb, eqb-true}
 use Rattle.words.specs.Tests.{_and_, _if_else_, all, any, lowest}
 use Rattle.words.specs.Bytes.{byte, part}
 use Rattle.words.proofs.Bytes.{part-byte}
 use Rattle.words.proofs.Tests.{either, all-none, all-more, any-none, any-found, any-never}
 use Rattle.words.proofs.Sets.{alls, answers, choices, and-first, and-then, and-left, or-none, not-of-false, not-of-true, not-yes, not-no, any-goes, all-stops, all-ends, lowest-stops, lowest-ends}
 use Rattle.rules.specs.declared.file.File.{File}
-use Rattle.rules.specs.declared.file.Found.{Found}
 use Rattle.rules.specs.declared.item.Item.{Item}
 use Rattle.rules.specs.declared.list.LockList.{LockList}
-use Rattle.rules.specs.Drive.{lookUp, missing, blockOf}
+use Rattle.rules.specs.Kinds.{entries}
+use Rattle.rules.specs.Drive.{entryOf, lookUp, missing, blockOf}
 use Rattle.rules.specs.Locks.{unpack, placeAt, itemAt, isLow, sameFile, opensNameAt, openOf, isOpened, opensUnlocked, clash, clashAt, isApart, goodOpen, goodLock, goodItem, goodPlace, keepsLimits, zeroAt, soundLocks, soundList}
 use Rattle.listcheck.specs.Check.{openAlone, lockAlone, itemAlone, placeAlone, placeAloneAt, lockOpened, lockOpenedAt, goodHead}
 use Rattle.rules.specs.declared.kind.Kind.{Kind}
 
 -- ---- what was found of a file on the image
 
-pub missing-as : (kind : Kind) (s : List ℕ) (f g : File) (x : Found) (r : Bool) → r ≡ missing kind x → x ≡ lookUp kind s f → f ≡ g
-    → not r ≡ not (missing kind (lookUp kind s g))
-missing-as kind s f g x r h e d = cc
+pub missing-as : (kind : Kind) (s : List ℕ) (f g : File) (e n : ℕ) → e ≡ entryOf kind s f 0 → n ≡ entries kind → f ≡ g
+    → ltb e n ≡ not (missing kind (lookUp kind s g))
+unfolding missing lookUp
+missing-as kind s f g e n h k d =
+    rw (← d, ← h, ← k) (⊎-elim (λ (q : leb n e ≡ true). rw (q, le-ltb e n (leb-true n e q)) refl)
+    (λ (q : leb n e ≡ false). rw (q, lt-ltb e n (leb-false n e q)) refl) (either (leb n e)))
 
 pub block-as : (kind : Kind) (s : List ℕ) (f g : File) (r b : ℕ) → b ≡ blockOf kind s f r → f ≡ g → not (eqb b 0) ≡ not (eqb (blockOf kind s g r) 0)
 block-as kind s f g r b h e = cc

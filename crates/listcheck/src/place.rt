@@ -1,9 +1,9 @@
-use directory::find::is_missing;
 use index::find::block_by;
-use index::find::look_up_by;
+use index::find::entry_by;
 use rules::file::File;
 use rules::item::Item;
 use rules::kind::Kind;
+use rules::kind::entries;
 use rules::kind::is_past;
 use rules::tests::user_in;
 ghost use mathlib.Core.Path.{_≡_};
@@ -74,8 +74,7 @@ fn open_alone(kind: Kind, image: &[u8], hints: &[u8; 256], users: [u8; 16], it: 
         return false;
     }
     let f = file_by(users, it);
-    let found = look_up_by(kind, image, hints, f);
-    !is_missing(kind, found)
+    entry_by(kind, image, hints, f, 0) < entries(kind)
 }
 
 // A lock: its mode, and that its record has a block.

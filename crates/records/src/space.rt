@@ -1,28 +1,17 @@
 use drive::free::free_blocks;
 use rules::bytes::put_bytes;
+use rules::bytes::three_bytes;
 use rules::kind::Kind;
 use rules::kind::block_records;
 ghost use mathlib.Core.Path.{_≡_};
 ghost use Prim.Native.Nat.{_*_, _≤_};
 ghost use lib.ListN.{length};
-ghost use Rattle.words.specs.Bytes.{le};
 ghost use Rattle.rules.specs.Kinds.{blockRecords, most, entries};
 ghost use Rattle.rules.specs.Drive.{blocks, freeBlocks};
 ghost use Rattle.rules.specs.Serves.{Did, buffers};
 ghost use Rattle.rules.specs.Call.{Ready, served};
 ghost use Rattle.rules.specs.declared.routine.Chosen.the-variants.{Call};
 ghost use Rattle.rules.specs.declared.routine.Routine.the-variants.{FreeSpace};
-
-// A number in three bytes, low byte first.
-fn three_bytes(n: usize) -> [u8; 3]
-    ensures { λ r. ⌜ r ≡ le 3 n ⌝ }
-{
-    [
-        (n % 256) as u8,
-        (n / 256 % 256) as u8,
-        (n / 256 / 256 % 256) as u8,
-    ]
-}
 
 // The records of all free blocks.
 fn free_records(kind: Kind, image: &[u8]) -> usize

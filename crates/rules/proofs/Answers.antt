@@ -11,7 +11,7 @@ use Rattle.rules.specs.declared.kind.Kind.the-variants.{Small, Large}
 use Rattle.rules.specs.declared.answer.ImageAnswer.{ImageAnswer}
 use Rattle.rules.specs.declared.answer.ImageAnswer.the-variants.{Sound, WrongLength, BadUser, BadName, BadNumbers, BlockOutside, BlockBefore, ExtentBefore, NoFirst}
 use Rattle.rules.specs.declared.routine.Routine.{Routine}
-use Rattle.rules.specs.declared.routine.Routine.the-variants.{Open, Close, Delete, Make, Rename, Read, Write, WriteZeros, TestWrite, Lock, Unlock, FreeSpace, Terminate}
+use Rattle.rules.specs.declared.routine.Routine.the-variants.{Open, Close, Delete, Make, Rename, Read, Write, Size, WriteZeros, TestWrite, Lock, Unlock, FreeSpace, Terminate}
 use Rattle.rules.specs.declared.routine.Chosen.the-variants.{Call}
 use Rattle.rules.specs.Serves.{functionOf, chosen}
 use Rattle.rules.specs.Drive.{badFor, imageNumber, imageEntry, imageTold}
@@ -83,6 +83,7 @@ chosen-back Make = refl
 chosen-back Rename = refl
 chosen-back Read = refl
 chosen-back Write = refl
+chosen-back Size = refl
 chosen-back WriteZeros = refl
 chosen-back TestWrite = refl
 chosen-back Lock = refl

@@ -15,6 +15,7 @@ pub mod SoundList
 pub mod Frames
 pub mod Passed
 pub mod Rows
+pub mod Highest
 pub mod Singles
 pub mod Several
 pub mod OneRecord

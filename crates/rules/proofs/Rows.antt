@@ -17,7 +17,7 @@ use Rattle.rules.specs.Kinds.{entries, top}
 use Rattle.rules.specs.Drive.{recordSize, legalName, missing, noEntry, readOnly, freeEntry, freeBlock, blocks, blockIn, blockOf, recordAt}
 use Rattle.rules.specs.Locks.{places, itemAt, modeUnlocked, modeReadOnly, isOpened, lockedByOther, opensBy, locksBy, freePlace, freePlaces}
 use Rattle.rules.specs.Asks.{openMode, lastOf}
-use Rattle.rules.specs.Codes.{standsAgainstAt, rowsNew, rows15, rows16, stopsDelete, rows19, rows22, stopsRename, rows23, rowsThere, rows33, rowsMay, rowsRoom, rows34, differs, rowsDiffer, rows41, isFileId, rowsRun, lacks, firstLacking, rowsLacking, isOthers, isNew, rowsTake, rows42}
+use Rattle.rules.specs.Codes.{standsAgainstAt, rowsNew, rows15, rows16, stopsDelete, rows19, rows22, stopsRename, rows23, rowsThere, rows33, rowsMay, rowsRoom, rows34, rows35, differs, rowsDiffer, rows41, isFileId, rowsRun, lacks, firstLacking, rowsLacking, isOthers, isNew, rowsTake, rows42}
 
 -- ---- whether the caller has the file open
 
@@ -212,6 +212,16 @@ unfolding rows34
 passes-34 kind p l o f e₀ e r s h =
     let g = any-append (rowsMay kind p l o f e₀ r s) (rowsRoom kind s e r) h in
     record { may = passes-may kind p l o f e₀ r s (g .0); room = passes-room kind s e r (g .1) }
+
+-- ---- 35
+
+pub record Passes35 (kind : Kind) (x : Found) (fcb : List ℕ) : Type 0 where
+  pub legal : legalName fcb 1 ≡ true
+  pub there : x .entry < entries kind
+
+pub passes-35 : (kind : Kind) (x : Found) (fcb : List ℕ) → anyRow (rows35 kind x fcb) ≡ false → Passes35 kind x fcb
+unfolding rows35 missing anyRow
+passes-35 kind x fcb h = record { legal = not-false _ (or-fst _ _ h); there = leb-false _ _ (or-fst _ _ (or-snd _ _ h)) }
 
 -- ---- 41
 

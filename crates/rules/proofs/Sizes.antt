@@ -55,6 +55,12 @@ unfolding lastModule top
 module-last Small = refl
 module-last Large = refl
 
+-- the highest record is the last one of its module
+pub top-whole : (kind : Kind) → 4096 * (lastModule kind + 1) ≡ top kind + 1
+unfolding lastModule top
+top-whole Small = refl
+top-whole Large = refl
+
 -- no length is one of both kinds
 lengths-apart : (s : List ℕ) → goodLength Small s ≡ true → goodLength Large s ≡ true → ⊥
 unfolding goodLength blocks blockSize fewest most

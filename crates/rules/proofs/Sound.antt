@@ -1,6 +1,6 @@
 -- A sound image, said of its entries and block numbers, and back. Assumes nothing.
 use Prim.Native.Nat.{ℕ, _+_, _-_, _*_, _/_, _≤_, _<_}
-use mathlib.Core.Path.{_≡_, sym, ap, _∙_}
+use mathlib.Core.Path.{_≡_, refl, sym, ap, _∙_}
 use mathlib.Core.Bool.{Bool, true, false, not}
 use mathlib.Core.List.{List}
 use mathlib.Core.Logic.{⊎-elim}
@@ -19,7 +19,7 @@ use Rattle.rules.specs.declared.answer.ImageAnswer.the-variants.{Sound}
 use Rattle.rules.specs.declared.file.File.{File}
 use Rattle.rules.specs.declared.kind.Kind.{Kind}
 use Rattle.rules.specs.Kinds.{blockSize, most, entries, numbers, top}
-use Rattle.rules.specs.Drive.{goodLength, blocks, isEmpty, nameAt, extentAt, mapNumber, mapPlace, sameLow, isNamed, fileFrom, fileAt, isEntry, entryOf, holdsNumber, namesBlock, isUsed, isFree, freeBlocks, goodFields, inRange, namedBefore, isFirst, isRepeat, goodEntry, hasFirst, soundDirectory, soundImage, imageCheck, userByte, blockIn, blockOf}
+use Rattle.rules.specs.Drive.{goodLength, blocks, isEmpty, nameAt, extentAt, mapNumber, mapPlace, sameLow, isNamed, fileFrom, fileAt, isOf, isEntry, entryOf, holdsNumber, namesBlock, isUsed, isFree, freeBlocks, goodFields, inRange, namedBefore, isFirst, isRepeat, goodEntry, hasFirst, soundDirectory, soundImage, imageCheck, userByte, blockIn, blockOf}
 use Rattle.rules.proofs.Sizes.{size-whole, size-long, place-fits}
 
 -- ---- entries
@@ -50,6 +50,19 @@ named-is s at name l h =
     tab-ext (lowFrom s at) (λ (k : ℕ). getD name k 0) 11
     (λ k m. eqb-true (lowFrom s at k) (byte name k) (all-at (sameLow s at name) 11 k h m))
     ∙ tab-getD name 0 11 l
+
+-- an extent of a file is an entry of the file with that number
+pub entry-splits : (s : List ℕ) (f : File) (x e : ℕ) → isEntry s f x e ≡ (isOf s f e and eqb (extentAt s e) x)
+unfolding isEntry isOf
+entry-splits s f x e = turned (not (isEmpty s e)) (eqb (userByte s e) (f .user)) (eqb (extentAt s e) x) (isNamed s (nameAt e) (f .name))
+  where
+    turned : (a b c d : Bool) → (a and b and c and d) ≡ ((a and b and d) and c)
+    turned false b c d = unfold _and_ in refl
+    turned true false c d = unfold _and_ in refl
+    turned true true false false = unfold _and_ in refl
+    turned true true false true = unfold _and_ in refl
+    turned true true true false = unfold _and_ in refl
+    turned true true true true = unfold _and_ in refl
 
 pub entry-so : (s : List ℕ) (f : File) (x e : ℕ) → Is s f x e → isEntry s f x e ≡ true
 unfolding isEntry fileAt fileFrom

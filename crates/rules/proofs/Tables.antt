@@ -12,13 +12,13 @@ use Rattle.words.specs.Tables.{Row, _∕_, _when_, firstOf, anyRow, noneZero}
 use Rattle.words.proofs.Tests.{either}
 use Rattle.words.proofs.Tables.{none-applies, first-applies, some-applies, first-then, first-stays, nonzeros, nonzero-append, codesBelow, first-below, below-append, belows}
 use Rattle.rules.specs.declared.kind.Kind.{Kind}
-use Rattle.rules.specs.declared.routine.Routine.the-variants.{Open, Close, Delete, Make, Rename, Read, Write, WriteZeros, TestWrite, Lock, Unlock, FreeSpace, Terminate}
+use Rattle.rules.specs.declared.routine.Routine.the-variants.{Open, Close, Delete, Make, Rename, Read, Write, Size, WriteZeros, TestWrite, Lock, Unlock, FreeSpace, Terminate}
 use Rattle.rules.specs.declared.routine.Chosen.{Chosen}
 use Rattle.rules.specs.declared.routine.Chosen.the-variants.{Call, Unknown}
 use Rattle.rules.specs.Serves.{Buffers, Outcome, Did, buffers, outcome, chosen}
 use Rattle.rules.specs.Locks.{itemAt, modeUnlocked, isOpened}
-use Rattle.rules.specs.Codes.{rowsInside, rowsAll, rowsNew, rows15, rows16, rows19, rows22, rows23, rows33, rows34, rows41, rows42, rows43, rowsThere, rowsMay, rowsRoom, rowsDiffer, rowsRun, rowsLacking, rowsTake}
-use Rattle.rules.specs.Effects.{does15, does16, does19, does22, makes, does23, does33, does34, does41, does42, does43, does46, does143}
+use Rattle.rules.specs.Codes.{rowsInside, rowsAll, rowsNew, rows15, rows16, rows19, rows22, rows23, rows33, rows34, rows35, rows41, rows42, rows43, rowsThere, rowsMay, rowsRoom, rowsDiffer, rowsRun, rowsLacking, rowsTake}
+use Rattle.rules.specs.Effects.{does15, does16, does19, does22, makes, does23, does33, does34, does35, does41, does42, does43, does46, does143}
 use Rattle.rules.specs.Call.{Asked, decided, unless, asked, rowsOf, effectOf, served, rowsCall, call}
 
 -- ---- no row has the answer 0/0
@@ -28,7 +28,7 @@ unfolding rowsInside rowsAll
 nonzero-all kind n p c b = search nonzeros depth 20 fits 20000
 
 pub nonzero-of : (k : Chosen) (a : Asked) (b : Buffers) → noneZero (rowsOf k a b) ≡ true
-unfolding rowsOf rowsNew rows15 rows16 rows19 rows22 rows23 rows33 rows34 rows41 rows42 rows43 rowsThere rowsMay rowsRoom rowsDiffer rowsRun rowsLacking
+unfolding rowsOf rowsNew rows15 rows16 rows19 rows22 rows23 rows33 rows34 rows35 rows41 rows42 rows43 rowsThere rowsMay rowsRoom rowsDiffer rowsRun rowsLacking
     rowsTake
 nonzero-of (Call Open) a b = search nonzeros depth 20 fits 20000
 nonzero-of (Call Close) a b = search nonzeros depth 20 fits 20000
@@ -37,6 +37,7 @@ nonzero-of (Call Make) a b = search nonzeros depth 20 fits 20000
 nonzero-of (Call Rename) a b = search nonzeros depth 20 fits 20000
 nonzero-of (Call Read) a b = search nonzeros depth 20 fits 20000
 nonzero-of (Call Write) a b = search nonzeros depth 20 fits 20000
+nonzero-of (Call Size) a b = search nonzeros depth 20 fits 20000
 nonzero-of (Call WriteZeros) a b = search nonzeros depth 20 fits 20000
 nonzero-of (Call TestWrite) a b = search nonzeros depth 20 fits 20000
 nonzero-of (Call Lock) a b = search nonzeros depth 20 fits 20000
@@ -56,7 +57,7 @@ unfolding rowsInside rowsAll
 below-all kind n p c b = search belows depth 20 fits 20000
 
 below-of : (k : Chosen) (a : Asked) (b : Buffers) → codesBelow 4096 (rowsOf k a b) ≡ true
-unfolding rowsOf rowsNew rows15 rows16 rows19 rows22 rows23 rows33 rows34 rows41 rows42 rows43 rowsThere rowsMay rowsRoom rowsDiffer rowsRun rowsLacking
+unfolding rowsOf rowsNew rows15 rows16 rows19 rows22 rows23 rows33 rows34 rows35 rows41 rows42 rows43 rowsThere rowsMay rowsRoom rowsDiffer rowsRun rowsLacking
     rowsTake
 below-of (Call Open) a b = search belows depth 20 fits 20000
 below-of (Call Close) a b = search belows depth 20 fits 20000
@@ -65,6 +66,7 @@ below-of (Call Make) a b = search belows depth 20 fits 20000
 below-of (Call Rename) a b = search belows depth 20 fits 20000
 below-of (Call Read) a b = search belows depth 20 fits 20000
 below-of (Call Write) a b = search belows depth 20 fits 20000
+below-of (Call Size) a b = search belows depth 20 fits 20000
 below-of (Call WriteZeros) a b = search belows depth 20 fits 20000
 below-of (Call TestWrite) a b = search belows depth 20 fits 20000
 below-of (Call Lock) a b = search belows depth 20 fits 20000
@@ -125,7 +127,7 @@ if-zero true x y h k = h
 if-zero false x y h k = k
 
 pub effect-zero : (k : Chosen) (a : Asked) (b : Buffers) → effectOf k a b .answer ≡ 0 ∕ 0
-unfolding effectOf does15 does16 does19 does22 makes does23 does33 does34 does41 does42 does43 does46 does143
+unfolding effectOf does15 does16 does19 does22 makes does23 does33 does34 does35 does41 does42 does43 does46 does143
 effect-zero (Call Open) a b = if-zero (isOpened (a .place)) _ _ refl refl
 effect-zero (Call Close) a b = refl
 effect-zero (Call Delete) a b = refl
@@ -133,6 +135,7 @@ effect-zero (Call Make) a b = refl
 effect-zero (Call Rename) a b = refl
 effect-zero (Call Read) a b = refl
 effect-zero (Call Write) a b = refl
+effect-zero (Call Size) a b = refl
 effect-zero (Call WriteZeros) a b = refl
 effect-zero (Call TestWrite) a b = refl
 effect-zero (Call Lock) a b = if-zero (eqb (itemAt (a .list) (a .place) .mode) modeUnlocked) _ _ refl refl

@@ -12,15 +12,15 @@ use Rattle.rules.specs.Kinds.{entries, most}
 use Rattle.rules.specs.declared.file.File.{File}
 use Rattle.rules.specs.declared.file.Found.{Found}
 use Rattle.rules.specs.declared.list.LockList.{LockList}
-use Rattle.rules.specs.declared.routine.Routine.the-variants.{Open, Close, Delete, Make, Rename, Read, Write, WriteZeros, TestWrite, Lock, Unlock, FreeSpace, Terminate}
+use Rattle.rules.specs.declared.routine.Routine.the-variants.{Open, Close, Delete, Make, Rename, Read, Write, Size, WriteZeros, TestWrite, Lock, Unlock, FreeSpace, Terminate}
 use Rattle.rules.specs.declared.routine.Chosen.{Chosen}
 use Rattle.rules.specs.declared.routine.Chosen.the-variants.{Call, Unknown}
 use Rattle.rules.specs.Serves.{Buffers, Outcome, outcome, chosen, fcbSize, dmaSize, listSize}
 use Rattle.rules.specs.Drive.{extentRecords, entrySize, blocks, entryOf, lookUp, soundImage}
 use Rattle.rules.specs.Locks.{openOf, unpack, soundList}
 use Rattle.rules.specs.Asks.{callerFile, newFile, recordOf}
-use Rattle.rules.specs.Codes.{rowsAll, rows15, rows16, rows19, rows22, rows23, rows33, rows34, rows41, rows42, rows43}
-use Rattle.rules.specs.Effects.{accept, does15, does16, does19, does22, does23, does33, does34, does41, does42, does43, does46, does143}
+use Rattle.rules.specs.Codes.{rowsAll, rows15, rows16, rows19, rows22, rows23, rows33, rows34, rows35, rows41, rows42, rows43}
+use Rattle.rules.specs.Effects.{accept, does15, does16, does19, does22, does23, does33, does34, does35, does41, does42, does43, does46, does143}
 
 -- a refusal leaves all four buffers unchanged; code 0 is no refusal
 unfoldable pub decided : ℕ → Buffers → Outcome → Outcome
@@ -68,6 +68,7 @@ rowsOf (Call Make) a b = rows22 (a .kind) (a .process) (a .list) (a .found) (b .
 rowsOf (Call Rename) a b = rows23 (a .kind) (a .list) (a .file) (a .found) (lookUp (a .kind) (b .image) (newFile (a .process) (a .list) (b .fcb))) (b .fcb) (b .image)
 rowsOf (Call Read) a b = rows33 (a .kind) (a .place) (a .entry) (a .recordNumber) (b .image)
 rowsOf (Call Write) a b = rows34 (a .kind) (a .process) (a .list) (a .place) (a .file) (a .found .entry) (a .entry) (a .recordNumber) (b .image)
+rowsOf (Call Size) a b = rows35 (a .kind) (a .found) (b .fcb)
 rowsOf (Call WriteZeros) a b = rows34 (a .kind) (a .process) (a .list) (a .place) (a .file) (a .found .entry) (a .entry) (a .recordNumber) (b .image)
 rowsOf (Call TestWrite) a b = rows41 (a .kind) (a .process) (a .list) (a .place) (a .file) (a .found .entry) (a .entry) (a .recordNumber) (b .dma) (b .image)
 rowsOf (Call Lock) a b = rows42 (a .kind) (a .process) (a .list) (a .place) (a .file) (a .recordNumber) (a .count) (b .dma) (b .image)
@@ -85,6 +86,7 @@ effectOf (Call Make) a b = does22 (a .kind) (a .process) (a .list) (a .file) b
 effectOf (Call Rename) a b = does23 (a .kind) (a .file) (newFile (a .process) (a .list) (b .fcb)) b
 effectOf (Call Read) a b = does33 (a .kind) (a .entry) (a .recordNumber) b
 effectOf (Call Write) a b = does34 (a .kind) false (a .file) (a .found .entry) (a .entry) (a .recordNumber) b
+effectOf (Call Size) a b = does35 (a .found) b
 effectOf (Call WriteZeros) a b = does34 (a .kind) true (a .file) (a .found .entry) (a .entry) (a .recordNumber) b
 effectOf (Call TestWrite) a b = does41 (a .kind) (a .file) (a .found .entry) (a .entry) (a .recordNumber) b
 effectOf (Call Lock) a b = does42 (a .process) (a .list) (a .place) (a .file) (a .recordNumber) (a .count) b

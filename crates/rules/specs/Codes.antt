@@ -152,6 +152,14 @@ rowsRoom kind s e r =
 unfoldable pub rows34 : Kind → ℕ → LockList → ℕ → File → ℕ → ℕ → ℕ → List ℕ → List Row
 rows34 kind p l o f e₀ e r s = rowsMay kind p l o f e₀ r s ++ rowsRoom kind s e r
 
+-- ---- 35 (T-05)
+
+unfoldable pub rows35 : Kind → Found → List ℕ → List Row
+rows35 kind x fcb =
+    255 ∕ 9 when not (legalName fcb 1)
+    ∷ 255 ∕ 0 when missing kind x
+    ∷ []
+
 -- ---- 41
 
 -- byte k of the DMA differs from that of the part of the image from a place on

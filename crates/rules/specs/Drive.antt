@@ -4,7 +4,7 @@ use mathlib.Core.Bool.{Bool, true, false, not}
 use mathlib.Core.List.{List, [], _∷_}
 use lib.ListN.{length}
 use lib.Dec.{leb, ltb, eqb}
-use Rattle.words.specs.Tests.{_and_, _or_, _if_else_, all, any, lowest, count}
+use Rattle.words.specs.Tests.{_and_, _or_, _if_else_, all, any, lowest, greatest, count}
 use Rattle.words.specs.Lists.{tab}
 use Rattle.words.specs.Bytes.{byte, lowFrom, numberAt}
 use Rattle.words.specs.Tables.{Row, _when_, firstOf}
@@ -113,8 +113,17 @@ entryOf kind s f x = lowest (isEntry s f x) (entries kind)
 abbrev pub noEntry : Kind → ℕ → Bool
 noEntry kind e = leb (entries kind) e
 
+-- the highest extent of a file (T-05)
+unfoldable pub highestExtent : Kind → List ℕ → File → ℕ
+highestExtent kind s f = greatest (isOf s f) (extentAt s) (entries kind)
+
+-- Looking up a file tells its highest extent along with its first entry, which is that of extent 0; and the entry of the highest.
 unfoldable pub lookUp : Kind → List ℕ → File → Found
-lookUp kind s f = record { entry = entryOf kind s f 0 }
+lookUp kind s f = record {
+  entry = entryOf kind s f 0;
+  extent = highestExtent kind s f;
+  last = entryOf kind s f (highestExtent kind s f);
+}
 
 -- no such file
 unfoldable pub missing : Kind → Found → Bool

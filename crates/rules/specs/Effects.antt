@@ -15,8 +15,8 @@ use Rattle.rules.specs.declared.file.Found.{Found}
 use Rattle.rules.specs.declared.item.Item.{Item}
 use Rattle.rules.specs.declared.list.LockList.{LockList}
 use Rattle.rules.specs.declared.spot.Spot.{Spot}
-use Rattle.rules.specs.Serves.{Buffers, Outcome, buffers, outcome, withDma, withList, withImage}
-use Rattle.rules.specs.Drive.{noEntry, entrySize, recordSize, extentRecords, mapPlace, nameAt, entryByte, isOf, freeEntry, freeBlock, freeBlocks, blockIn, recordAt, mapAt}
+use Rattle.rules.specs.Serves.{Buffers, Outcome, buffers, outcome, withFcb, withDma, withList, withImage}
+use Rattle.rules.specs.Drive.{noEntry, entrySize, recordSize, extentRecords, mapPlace, nameAt, entryByte, isOf, lookUp, missing, freeEntry, freeBlock, freeBlocks, blockIn, recordAt, mapAt}
 use Rattle.rules.specs.Locks.{anEmpty, aLock, itemAt, withItems, modeUnlocked, emptyPlace, freshOpen, freshLock, isOpened, sameName, held, freePlace, pack}
 use Rattle.rules.specs.Asks.{openMode, makeMode}
 
@@ -151,6 +151,20 @@ does34 kind zeros f e₀ e r b =
 unfoldable pub does41 : Kind → File → ℕ → ℕ → ℕ → Buffers → Outcome
 does41 kind f e₀ e r b =
     accept (withImage b (written kind false (spotAt kind (b .image) e r) e₀ f r (part recordSize recordSize (b .dma)) (b .image)))
+
+-- ---- 35 (T-05)
+
+-- 128 times the highest extent plus that extent's count
+unfoldable pub sizeOf : List ℕ → Found → ℕ
+sizeOf s x = extentRecords * x .extent + entryByte s (x .last) 15
+
+-- the size of a file, 0 where there is none
+unfoldable pub fileSize : Kind → List ℕ → File → ℕ
+fileSize kind s f = 0 if missing kind (lookUp kind s f) else sizeOf s (lookUp kind s f)
+
+-- FCB bytes 33 to 35 become the size, low byte first (up to 262,144: a law).
+unfoldable pub does35 : Found → Buffers → Outcome
+does35 x b = accept (withFcb b (put 33 (le 3 (sizeOf (b .image) x)) (b .fcb)))
 
 -- ---- Items gone: Close, 43, 143
 

@@ -6,7 +6,7 @@ use mathlib.Core.List.{List}
 use lib.Dec.{eqb}
 use Rattle.words.specs.Tests.{_if_else_}
 use Rattle.rules.specs.declared.routine.Routine.{Routine}
-use Rattle.rules.specs.declared.routine.Routine.the-variants.{Open, Close, Delete, Make, Rename, Read, Write, WriteZeros, TestWrite, Lock, Unlock, FreeSpace, Terminate}
+use Rattle.rules.specs.declared.routine.Routine.the-variants.{Open, Close, Delete, Make, Rename, Read, Write, Size, WriteZeros, TestWrite, Lock, Unlock, FreeSpace, Terminate}
 use Rattle.rules.specs.declared.routine.Chosen.{Chosen}
 use Rattle.rules.specs.declared.routine.Chosen.the-variants.{Call, Unknown}
 
@@ -15,7 +15,7 @@ abbrev pub processes : ℕ
 processes = 16
 
 -- Calls: 15 Open, 16 Close, 19 Delete, 22 Make, 23 Rename, 33 Read Random, 34 Write Random, 40 Write Random with Zero
--- Fill, 41 Test and Write, 42 Lock Record, 43 Unlock Record, 46 Get Disk Free Space, 143 Terminate.
+-- Fill, 41 Test and Write, 42 Lock Record, 43 Unlock Record, 46 Get Disk Free Space, 143 Terminate; 35 Compute File Size (T-05).
 unfoldable pub functionOf : Routine → ℕ
 functionOf Open = 15
 functionOf Close = 16
@@ -24,6 +24,7 @@ functionOf Make = 22
 functionOf Rename = 23
 functionOf Read = 33
 functionOf Write = 34
+functionOf Size = 35
 functionOf WriteZeros = 40
 functionOf TestWrite = 41
 functionOf Lock = 42
@@ -41,6 +42,7 @@ chosen n =
     Call Rename if eqb n 23 else
     Call Read if eqb n 33 else
     Call Write if eqb n 34 else
+    Call Size if eqb n 35 else
     Call WriteZeros if eqb n 40 else
     Call TestWrite if eqb n 41 else
     Call Lock if eqb n 42 else
@@ -73,6 +75,9 @@ abbrev pub buffers : List ℕ → List ℕ → List ℕ → List ℕ → Buffers
 buffers f d l s = record { fcb = f; dma = d; list = l; image = s }
 
 -- buffers of which one has changed
+abbrev pub withFcb : Buffers → List ℕ → Buffers
+withFcb b f = buffers f (b .dma) (b .list) (b .image)
+
 abbrev pub withDma : Buffers → List ℕ → Buffers
 withDma b d = buffers (b .fcb) d (b .list) (b .image)
 

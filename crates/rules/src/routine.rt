@@ -1,4 +1,4 @@
-// The thirteen calls.
+// The fourteen calls.
 pub enum Routine {
     Open,
     Close,
@@ -7,6 +7,7 @@ pub enum Routine {
     Rename,
     Read,
     Write,
+    Size,
     WriteZeros,
     TestWrite,
     Lock,

@@ -14,13 +14,13 @@ use Rattle.words.proofs.Sets.{or-none}
 use Rattle.rules.specs.declared.kind.Kind.{Kind}
 use Rattle.rules.specs.declared.file.File.{File}
 use Rattle.rules.specs.declared.list.LockList.{LockList}
-use Rattle.rules.specs.declared.routine.Routine.the-variants.{Open, Close, Delete, Make, Rename, Read, Write, WriteZeros, TestWrite, Lock, Unlock, FreeSpace, Terminate}
+use Rattle.rules.specs.declared.routine.Routine.the-variants.{Open, Close, Delete, Make, Rename, Read, Write, Size, WriteZeros, TestWrite, Lock, Unlock, FreeSpace, Terminate}
 use Rattle.rules.specs.declared.routine.Chosen.{Chosen}
 use Rattle.rules.specs.declared.routine.Chosen.the-variants.{Call, Unknown}
 use Rattle.rules.specs.Serves.{Buffers, chosen}
 use Rattle.rules.specs.Locks.{unpack, opensBy, locksBy, freePlace, freePlaces}
 use Rattle.rules.specs.Asks.{callerFile, recordOf}
-use Rattle.rules.specs.Codes.{rowsInside, rowsAll, rowsNew, rows15, rows16, rows19, rows22, rows23, rows33, rows34, rows41, rows42, rows43, rowsThere, rowsMay, rowsRoom, rowsDiffer, rowsRun, rowsLacking, rowsTake, isNew}
+use Rattle.rules.specs.Codes.{rowsInside, rowsAll, rowsNew, rows15, rows16, rows19, rows22, rows23, rows33, rows34, rows35, rows41, rows42, rows43, rowsThere, rowsMay, rowsRoom, rowsDiffer, rowsRun, rowsLacking, rowsTake, isNew}
 use Rattle.rules.specs.Call.{asked, askedBy, rowsOf, rowsCall, call}
 use Rattle.rules.specs.Several.{servesRun}
 use Rattle.rules.proofs.Singles.{Runs, isRead, isWrite, isZeros, run-chosen}
@@ -97,7 +97,7 @@ module _ (kind : Kind) (p c : ℕ) (b : Buffers) where
   not-14 z = absurd (omega arith)
 
   own-11 : (k : Chosen) → firstOf (rowsOf k (asked kind p c b) b) ≡ 255 ∕ 11 → NoPlace p l
-  unfolding rowsOf asked askedBy rowsNew rows15 rows16 rows19 rows22 rows23 rows33 rows34 rows41 rows42 rows43 rowsThere rowsMay rowsRoom rowsDiffer
+  unfolding rowsOf asked askedBy rowsNew rows15 rows16 rows19 rows22 rows23 rows33 rows34 rows35 rows41 rows42 rows43 rowsThere rowsMay rowsRoom rowsDiffer
       rowsRun rowsLacking rowsTake onlyIf anyCode _and_ _or_
   own-11 (Call Open) h =
       let h₁ = row-past (255 ∕ 9) (255 ∕ 11) _ _ (λ z. omega arith) h .1 in
@@ -120,6 +120,7 @@ module _ (kind : Kind) (p c : ℕ) (b : Buffers) where
   own-11 (Call Rename) h = absurd (absent (255 ∕ 11) _ not-11 refl h)
   own-11 (Call Read) h = absurd (absent (255 ∕ 11) _ not-11 refl h)
   own-11 (Call Write) h = absurd (absent (255 ∕ 11) _ not-11 refl h)
+  own-11 (Call Size) h = absurd (absent (255 ∕ 11) _ not-11 refl h)
   own-11 (Call WriteZeros) h = absurd (absent (255 ∕ 11) _ not-11 refl h)
   own-11 (Call TestWrite) h = absurd (absent (255 ∕ 11) _ not-11 refl h)
   own-11 (Call FreeSpace) h = absurd (absent (255 ∕ 11) _ not-11 refl h)
@@ -127,7 +128,7 @@ module _ (kind : Kind) (p c : ℕ) (b : Buffers) where
   own-11 Unknown h = absurd (absent (255 ∕ 11) _ not-11 refl h)
 
   own-14 : (k : Chosen) → firstOf (rowsOf k (asked kind p c b) b) ≡ 14 ∕ 0 → TooFew p c l (callerFile p l (b .fcb)) (recordOf (b .fcb))
-  unfolding rowsOf asked askedBy rowsNew rows15 rows16 rows19 rows22 rows23 rows33 rows34 rows41 rows42 rows43 rowsThere rowsMay rowsRoom rowsDiffer
+  unfolding rowsOf asked askedBy rowsNew rows15 rows16 rows19 rows22 rows23 rows33 rows34 rows35 rows41 rows42 rows43 rowsThere rowsMay rowsRoom rowsDiffer
       rowsRun rowsLacking rowsTake onlyIf anyCode _and_ _or_
   own-14 (Call Lock) h =
       let h₁ = only-gives (14 ∕ 0) _ _ not-14 (row-past (10 ∕ 0) (14 ∕ 0) _ _ (λ z. omega arith) h .1) in
@@ -150,6 +151,7 @@ module _ (kind : Kind) (p c : ℕ) (b : Buffers) where
   own-14 (Call Rename) h = absurd (absent (14 ∕ 0) _ not-14 refl h)
   own-14 (Call Read) h = absurd (absent (14 ∕ 0) _ not-14 refl h)
   own-14 (Call Write) h = absurd (absent (14 ∕ 0) _ not-14 refl h)
+  own-14 (Call Size) h = absurd (absent (14 ∕ 0) _ not-14 refl h)
   own-14 (Call WriteZeros) h = absurd (absent (14 ∕ 0) _ not-14 refl h)
   own-14 (Call TestWrite) h = absurd (absent (14 ∕ 0) _ not-14 refl h)
   own-14 (Call FreeSpace) h = absurd (absent (14 ∕ 0) _ not-14 refl h)

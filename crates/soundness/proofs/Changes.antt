@@ -4,6 +4,7 @@ use mathlib.Core.Path.{_≡_, refl, sym, _∙_}
 use mathlib.Core.Bool.{false}
 use mathlib.Core.List.{List}
 use mathlib.Core.Logic.{_⊎_, inl, inr, ⊎-elim}
+use native.Mathlib.Omega.{arith}
 use lib.ListN.{length}
 use Rattle.words.specs.Bytes.{byte}
 use Rattle.rules.specs.declared.kind.Kind.{Kind}
@@ -14,10 +15,11 @@ use Rattle.rules.proofs.Sound.{Names, SoundImage}
 use Rattle.rules.proofs.Frames.{Head, Same, head-of, head-then, same-refl, same-then, empty-same, file-same, map-same}
 use Rattle.soundness.proofs.Steps.{Stays}
 
--- used entries keep their heads and their block numbers
+-- used entries keep their heads and their block numbers, and their counts do not fall
 pub record Grown (kind : Kind) (s t : List ℕ) : Type 0 where
   pub head : (e : ℕ) → e < entries kind → isEmpty s e ≡ false → Head s e t e
   pub number : (e k : ℕ) → Names kind s e k → mapNumber kind t e k ≡ mapNumber kind s e k
+  pub rises : (e : ℕ) → e < entries kind → isEmpty s e ≡ false → byte s (32 * e + 15) ≤ byte t (32 * e + 15)
 
 -- entry e is of f before, and of h after, where it is in use
 pub record Theirs (s t : List ℕ) (f h : File) (e : ℕ) : Type 0 where
@@ -50,6 +52,7 @@ pub grown-same : (kind : Kind) (s t : List ℕ) → ((e : ℕ) → e < entries k
 grown-same kind s t g = record {
   head = λ e l u. head-of s e t e (g e l);
   number = λ e k n. map-same kind s t e k (g e (n .entry-there)) (n .place-there);
+  rises = λ e l u. let z : byte t (32 * e + 15) ≡ byte s (32 * e + 15) = g e l .at 15 (omega arith) in omega arith;
 }
 
 -- where nothing was taken away a block that was named is named still
@@ -107,6 +110,10 @@ module _ (kind : Kind) (s t u : List ℕ) (f : File) (a m n q : ℕ) (x : Change
     grown = record {
       head = λ e l w. head-then s t u e (x .grown .head e l w) (y .grown .head e l (used-then e l w));
       number = λ e k w. y .grown .number e k (names-grown kind s t (x .grown) e k w) ∙ x .grown .number e k w;
+      rises = λ e l w.
+          let i = x .grown .rises e l w in
+          let j = y .grown .rises e l (used-then e l w) in
+          omega arith;
     };
     touches = record { long = y .touches .long ∙ x .touches .long; entry = entry-then };
     data-kept = record { at = λ i l c. y .data-kept .at i l c ∙ x .data-kept .at i l c };

@@ -84,6 +84,7 @@ module _ (kind : Kind) (s v : List ℕ) (n : ℕ) (g : SoundImage kind s) (below
         grown = record {
           head = λ e l w. head-of s e t e (around e (not-n e w));
           number = λ e k w. map-same kind s t e k (around e (not-n e (w .entry-used))) (w .place-there);
+          rises = λ e l w. let z : byte t (32 * e + 15) ≡ byte s (32 * e + 15) = around e (not-n e w) .at 15 (omega arith) in omega arith;
         };
         touches = record {
           long = len;
@@ -154,6 +155,16 @@ module _ (kind : Kind) (s fcb : List ℕ) (u : ℕ) (g : SoundImage kind s) (use
         file = file-same newcomer 0 t (freeEntry kind s) h ∙ new-file;
         extent = extent-same newcomer 0 t (freeEntry kind s) h;
       }
+
+  -- its count is 0, ..
+  pub made-count : byte (made (freeEntry kind s) (fileFrom u fcb 1) s) (32 * freeEntry kind s + 15) ≡ 0
+  unfolding made madeEntry fileFrom tab
+  made-count = within kind s newcomer (freeEntry kind s) g room refl .at 15 (omega arith)
+
+  -- .. and every other entry stays as it was
+  pub made-kept : (e : ℕ) → (e ≡ freeEntry kind s → ⊥) → Same s e (made (freeEntry kind s) (fileFrom u fcb 1) s) e
+  unfolding made madeEntry fileFrom tab
+  made-kept e q = around kind s newcomer (freeEntry kind s) g room refl e q
 
 -- ---- a missing extent
 

@@ -21,14 +21,14 @@ use Rattle.rules.specs.declared.file.File.{File}
 use Rattle.rules.specs.declared.item.Item.{Item}
 use Rattle.rules.specs.declared.list.LockList.{LockList}
 use Rattle.rules.specs.declared.spot.Spot.{Spot}
-use Rattle.rules.specs.declared.routine.Routine.the-variants.{Open, Close, Delete, Make, Rename, Read, Write, WriteZeros, TestWrite, Lock, Unlock, FreeSpace, Terminate}
+use Rattle.rules.specs.declared.routine.Routine.the-variants.{Open, Close, Delete, Make, Rename, Read, Write, Size, WriteZeros, TestWrite, Lock, Unlock, FreeSpace, Terminate}
 use Rattle.rules.specs.declared.routine.Chosen.{Chosen}
 use Rattle.rules.specs.declared.routine.Chosen.the-variants.{Call, Unknown}
 use Rattle.rules.specs.Serves.{Buffers, Outcome, chosen}
 use Rattle.rules.specs.Drive.{nameAt, recordAt, blockIn, fileFrom}
 use Rattle.rules.specs.Locks.{blank, isOpened, itemAt, userOf, firstMark, secondMark, packItem, pack, unpack, isLimit, isUser, isLow, isZero, goodEmpty}
 use Rattle.rules.specs.Asks.{callerFile, newFile, recordOf}
-use Rattle.rules.specs.Effects.{madeEntry, made, erasedAt, erased, lowChanged, renamedAt, renamed, newEntry, entered, mapped, countTo, counted, cleared, stored, written, contents, does15, does16, does19, does22, makes, does23, does33, does34, does41, does42, does43, does46, does143}
+use Rattle.rules.specs.Effects.{madeEntry, made, erasedAt, erased, lowChanged, renamedAt, renamed, newEntry, entered, mapped, countTo, counted, cleared, stored, written, contents, does15, does16, does19, does22, makes, does23, does33, does34, does35, does41, does42, does43, does46, does143}
 use Rattle.rules.specs.Call.{Asked, asked, effectOf, rowsCall, call}
 use Rattle.rules.proofs.Tables.{accepted}
 use Rattle.rules.proofs.SoundList.{Shape, GoodOpen, GoodLock, Used, Vacant, SoundLocks, isPlain}
@@ -220,7 +220,7 @@ module _ (kind : Kind) (n p c : ℕ) (b : Buffers) (w : InBytes b) where
   dma-if false x y h g = unfold _if_else_ in rw g (w .dma-bytes)
 
   dma-done : (k : Chosen) (a : Asked) → areBytes (effectOf k a b .left .dma) ≡ true
-  unfolding effectOf does15 does16 does19 does22 makes does23 does33 contents does34 does41 does42 does43 does46 does143
+  unfolding effectOf does15 does16 does19 does22 makes does23 does33 contents does34 does35 does41 does42 does43 does46 does143
   dma-done (Call Open) a = dma-if (isOpened (a .place)) _ _ refl refl
   dma-done (Call Close) a = w .dma-bytes
   dma-done (Call Delete) a = w .dma-bytes
@@ -229,6 +229,7 @@ module _ (kind : Kind) (n p c : ℕ) (b : Buffers) (w : InBytes b) where
   dma-done (Call Read) a = bytes-put 0 _ (b .dma) (bytes-part
       (recordAt (a .kind) (blockIn (a .kind) (b .image) (a .entry) (a .recordNumber)) (a .recordNumber)) 128 (b .image) (w .image-bytes)) (w .dma-bytes)
   dma-done (Call Write) a = w .dma-bytes
+  dma-done (Call Size) a = w .dma-bytes
   dma-done (Call WriteZeros) a = w .dma-bytes
   dma-done (Call TestWrite) a = w .dma-bytes
   dma-done (Call Lock) a = dma-if (eqb (itemAt (a .list) (a .place) .mode) 1) _ _ refl refl

@@ -12,9 +12,9 @@ use Rattle.rules.specs.declared.kind.Kind.{Kind}
 use Rattle.rules.specs.Kinds.{entries, top}
 use Rattle.rules.specs.declared.file.File.{File}
 use Rattle.rules.specs.declared.list.LockList.{LockList}
-use Rattle.rules.specs.declared.routine.Routine.the-variants.{Open, Close, Delete, Make, Rename, Read, Write, WriteZeros, TestWrite, Lock, Unlock, FreeSpace, Terminate}
+use Rattle.rules.specs.declared.routine.Routine.the-variants.{Open, Close, Delete, Make, Rename, Read, Write, Size, WriteZeros, TestWrite, Lock, Unlock, FreeSpace, Terminate}
 use Rattle.rules.specs.declared.routine.Chosen.the-variants.{Call}
-use Rattle.rules.specs.Serves.{Buffers, Outcome, buffers, outcome, chosen, withDma, withList, withImage}
+use Rattle.rules.specs.Serves.{Buffers, Outcome, buffers, outcome, chosen, withFcb, withDma, withList, withImage}
 use Rattle.rules.specs.Drive.{blocks, legalName, entryOf, freeEntry, freeBlock, blockIn, blockOf}
 use Rattle.rules.specs.Locks.{itemAt, unpack, pack, openOf, anyOpen, lockedByOther, opensBy, locksBy, freePlace, freePlaces}
 use Rattle.rules.specs.Asks.{callerFile, newFile, recordOf, openMode, makeMode}
@@ -127,6 +127,7 @@ pub data Leaf (kind : Kind) (n p c : ℕ) (b : Buffers) : Outcome → Type 0 whe
   nowRenamed : chosen n ≡ Call Rename → Passed kind p c b → MayRename kind p b
       → Leaf kind n p c b (accept (withImage b (renamed kind (fileBy p b) (newBy p b .name) (b .image))))
   nowRead : chosen n ≡ Call Read → Passed kind p c b → (dma : List ℕ) → Leaf kind n p c b (accept (withDma b dma))
+  nowSized : chosen n ≡ Call Size → Passed kind p c b → (fcb : List ℕ) → Leaf kind n p c b (accept (withFcb b fcb))
   nowWritten : (chosen n ≡ Call Write) ⊎ (chosen n ≡ Call WriteZeros) → Passed kind p c b → MayWrite kind p b → (zeros : Bool)
       → Leaf kind n p c b (accept (withImage b (imageWritten kind zeros p b (b .dma))))
   nowRewritten : chosen n ≡ Call TestWrite → Passed kind p c b → MayWrite kind p b → (blockOf kind (b .image) (fileBy p b) (recordOf (b .fcb)) ≡ 0 → ⊥)

@@ -22,7 +22,7 @@ use Rattle.rules.proofs.SoundList.{SoundLocks}
 use Rattle.rules.proofs.Passed.{Passed}
 use Rattle.soundness.proofs.Emptied.{Empties, Whole, close-empties, close-whole, unlock-empties, unlock-whole, end-empties, end-whole}
 use Rattle.soundness.proofs.Shapes.{SoundShape, opened-shape, made-shape, emptied-shape, dropped-shape, written-follows, erased-follows, renamed-follows}
-use Rattle.soundness.proofs.Leaves.{Leaf, listOf, fileBy, newBy, MayMake, MayDelete, MayRename, MayWrite, MayLock, imageWritten, refused, reopened, newlyOpened, newlyMade, nowClosed, nowErased, nowDropped, nowRenamed, nowRead, nowWritten, nowRewritten, nowLocked, lockIdle, nowUnlocked, unlockIdle, nowTold, nowEnded}
+use Rattle.soundness.proofs.Leaves.{Leaf, listOf, fileBy, newBy, MayMake, MayDelete, MayRename, MayWrite, MayLock, imageWritten, refused, reopened, newlyOpened, newlyMade, nowClosed, nowErased, nowDropped, nowRenamed, nowRead, nowSized, nowWritten, nowRewritten, nowLocked, lockIdle, nowUnlocked, unlockIdle, nowTold, nowEnded}
 use Rattle.soundness.proofs.Walk.{walk}
 
 -- the list, beside the image t: nothing (and it is then sound beside t if it was before), one place set, a run set, places emptied
@@ -88,6 +88,7 @@ module _ (kind : Kind) (n p c : ℕ) (b : Buffers) where
   }
   left-by o (nowRenamed k ok w) = record { list = list-same _ (λ g. renamed-follows kind p c b ok w); image = file-renamed ok w }
   left-by o (nowRead k ok dma) = nothing-left _ refl refl
+  left-by o (nowSized k ok fcb) = nothing-left _ refl refl
   left-by o (nowWritten k ok w zeros) = record {
     list = list-same _ (λ g. written-follows kind p c b ok w zeros (b .dma) (dma-full ok));
     image = record-stored ok w zeros (b .dma) (dma-full ok) (λ h. h);

@@ -5,6 +5,7 @@ pub mod Changes
 pub mod Entered
 pub mod Stored
 pub mod Written
+pub mod Sized
 pub mod Turns
 pub mod Erased
 pub mod Renamed
@@ -22,4 +23,5 @@ pub mod Ends
 pub mod Shapes
 pub mod Left
 pub mod Kept
+pub mod SizedCalls
 pub mod InBytes

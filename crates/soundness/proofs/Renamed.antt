@@ -148,6 +148,10 @@ module _ (kind : Kind) (s : List ℕ) (f : File) (name : List ℕ) (g : SoundIma
   pub renamed-extent : (e : ℕ) → e < entries kind → extentAt (renamed kind f name s) e ≡ extentAt s e
   renamed-extent e l = rw (outside e 12 l (omega arith) (inr (omega arith)), outside e 14 l (omega arith) (inr (omega arith)))
 
+  -- .. its count ..
+  pub renamed-count : (e : ℕ) → e < entries kind → byte (renamed kind f name s) (32 * e + 15) ≡ byte s (32 * e + 15)
+  renamed-count e l = outside e 15 l (omega arith) (inr (omega arith))
+
   -- .. and its block numbers
   pub renamed-number : (e k : ℕ) → e < entries kind → k < numbers kind → mapNumber kind (renamed kind f name s) e k ≡ mapNumber kind s e k
   renamed-number e k l m = map-later kind s (renamed kind f name s) e k m (λ i u v. outside e i l v (inr (omega arith)))

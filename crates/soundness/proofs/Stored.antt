@@ -89,11 +89,16 @@ module _ (kind : Kind) (s t : List ℕ) (n : ℕ) (below : n < entries kind) (le
 
   -- .. and where the image is still sound and keeps its block numbers nothing is taken away
   pub tail-change : (f : File) → fileAt s n ≡ f → SoundImage kind t → ((e k : ℕ) → Names kind s e k → mapNumber kind t e k ≡ mapNumber kind s e k)
-      → (a m x y : ℕ) → ((e k : ℕ) → Names kind t e k → ((e ≡ x) × (k ≡ y)) ⊎ Stays kind s t e k) → Change kind s t f a m x y
-  tail-change f file g stays a m x y rest = record {
+      → byte s (32 * n + 15) ≤ byte t (32 * n + 15) → (a m x y : ℕ) → ((e k : ℕ) → Names kind t e k → ((e ≡ x) × (k ≡ y)) ⊎ Stays kind s t e k) → Change kind s t f a m x y
+  tail-change f file g stays more a m x y rest = record {
     sound = g;
     rest = rest;
-    grown = record { head = λ e l u. tail-heads e; number = stays };
+    grown = record {
+      head = λ e l u. tail-heads e;
+      number = stays;
+      rises = λ e l u. ⊎-elim (λ (q : e ≡ n). rw q more)
+          (λ (q : e ≡ n → ⊥). let z : byte t (32 * e + 15) ≡ byte s (32 * e + 15) = tail-others e q .at 15 (omega arith) in omega arith) (equal? e n);
+    };
     touches = record {
       long = len;
       entry = λ e l. ⊎-elim
@@ -107,10 +112,10 @@ module _ (kind : Kind) (s t : List ℕ) (n : ℕ) (below : n < entries kind) (le
     data-kept = record { at = λ i l c. elsewhere i (inr (omega arith)) };
   }
 
--- the count set, to 128 at most: the image stays sound, and nothing is taken away
-pub count-change : (kind : Kind) (s : List ℕ) (n b : ℕ) (f : File) → n < entries kind → b ≤ 128 → fileAt s n ≡ f → SoundImage kind s
-    → (a m x y : ℕ) → Change kind s (set s (32 * n + 15) b) f a m x y
-count-change kind s n b f below small file g a m x y =
+-- the count raised, to 128 at most: the image stays sound, and nothing is taken away
+pub count-change : (kind : Kind) (s : List ℕ) (n b : ℕ) (f : File) → n < entries kind → b ≤ 128 → byte s (32 * n + 15) ≤ b → fileAt s n ≡ f
+    → SoundImage kind s → (a m x y : ℕ) → Change kind s (set s (32 * n + 15) b) f a m x y
+count-change kind s n b f below small more file g a m x y =
     let t = set s (32 * n + 15) b in
     let len = length-set s (32 * n + 15) b in
     let w = length-long kind s (g .long) in
@@ -128,7 +133,7 @@ count-change kind s n b f below small file g a m x y =
     (λ (z : e ≡ n → ⊥). rw (o (32 * e + 15) (λ (y : 32 * e + 15 ≡ 32 * n + 15). z (omega arith))) (count-good kind s e q))
     (equal? e n))
     (fewer kind s t len stays) g)
-    (λ e k w. maps e k (w .place-there)) a m x y (λ e k w. inr (stays e k w))
+    (λ e k w. maps e k (w .place-there)) (rw (getD-set-same s (32 * n + 15) b 0 (omega arith)) more) a m x y (λ e k w. inr (stays e k w))
 
 -- ---- a free block taken
 
@@ -193,4 +198,4 @@ module _ (kind : Kind) (s : List ℕ) (n q b : ℕ) (f : File) (below : n < entr
       tail-change kind s t n below taken-long far f file
       (heads-sound kind s t taken-long (λ e l. heads e) (λ e l c. rw (count-kept e) (count-good kind s e c))
       (takes kind s t n q b taken-long taken-there (free-low kind s b free) high (free-unnamed kind s b free) taken-rest) g)
-      taken-number a m n q taken-rest
+      taken-number (let z = count-kept n in omega arith) a m n q taken-rest

@@ -6,9 +6,9 @@ use mathlib.Core.List.{List}
 use mathlib.Core.Logic.{_⊎_, inl, inr, ⊎-elim}
 use native.Mathlib.Omega.{arith}
 use lib.ListN.{length, take, replicate, length-replicate}
-use lib.Seq.{length-take-le}
+use lib.Seq.{length-take-le, getD-set-same}
 use lib.Dec.{eqb, leb, ltb}
-use borrow.Author.Tests.{eqb-true, eqb-false, leb-true, leb-false, le-leb, not-true}
+use borrow.Author.Tests.{eqb-true, eqb-false, leb-true, leb-false, le-leb, ltb-true, ltb-false, not-true}
 use Rattle.words.specs.Tests.{_and_, _if_else_}
 use Rattle.words.specs.Bytes.{byte, put}
 use Rattle.words.proofs.Tests.{either, never, any-never, any-some, lowest-holds, and-fst, and-snd}
@@ -17,10 +17,10 @@ use Rattle.rules.specs.declared.kind.Kind.{Kind}
 use Rattle.rules.specs.Kinds.{blockSize, entries, numbers, top}
 use Rattle.rules.specs.declared.file.File.{File}
 use Rattle.rules.specs.declared.spot.Spot.{Spot}
-use Rattle.rules.specs.Drive.{blocks, fileAt, mapNumber, mapPlace, entryOf, freeEntry, holdsNumber, namesBlock, isUsed, isFree, freeBlock, blockIn, recordAt}
+use Rattle.rules.specs.Drive.{blocks, isEmpty, fileAt, mapNumber, mapPlace, entryOf, freeEntry, holdsNumber, namesBlock, isUsed, isFree, freeBlock, blockIn, recordAt}
 use Rattle.rules.specs.Effects.{spot, spotAt, newEntry, entered, mapped, counted, cleared, stored, written, countTo}
 use Rattle.rules.proofs.Sizes.{directory-size, place-fits, record-past, record-inside, block-inside, record-over, record-room}
-use Rattle.rules.proofs.Sound.{Is, Names, SoundImage, found-is, length-whole}
+use Rattle.rules.proofs.Sound.{Is, Names, SoundImage, found-is, length-long, length-whole}
 use Rattle.rules.proofs.Frames.{is-same, file-same, empty-same}
 use Rattle.soundness.proofs.Numbers.{numbered}
 use Rattle.soundness.proofs.Steps.{Stays}
@@ -34,12 +34,18 @@ if-true x y t h = rw h
 
 -- ---- count, clear, store
 
+-- a change after which entry n counts record r
+record Ended (kind : Kind) (s t : List ℕ) (f : File) (r a m i j n : ℕ) : Type 0 where
+  change : Change kind s t f a m i j
+  count : countTo r ≤ byte t (32 * n + 15)
+
 module _ (kind : Kind) (f : File) (a m i j : ℕ) where
   count-step : (w : Spot) (r : ℕ) (s : List ℕ) → w .entry < entries kind → fileAt s (w .entry) ≡ f → SoundImage kind s
       → Change kind s (counted w r s) f a m i j
   unfolding counted _if_else_
   count-step w r s l file g =
-      ⊎-elim (λ h. rw h (count-change kind s (w .entry) (countTo r) f l (omega arith) file g a m i j)) (λ h. rw h (no-change kind s f a m i j g))
+      ⊎-elim (λ h. rw h (count-change kind s (w .entry) (countTo r) f l (omega arith) (let z = ltb-true (byte s (32 * w .entry + 15)) (countTo r) h in omega arith) file g a m i j))
+      (λ h. rw h (no-change kind s f a m i j g))
       (either (ltb (byte s (32 * w .entry + 15)) (countTo r)))
 
   module _ (w : Spot) (s : List ℕ) (low : 2 ≤ w .block) (high : w .block < blocks kind s) (g : SoundImage kind s) where
@@ -73,14 +79,23 @@ module _ (kind : Kind) (f : File) (a m i j : ℕ) where
         data-change kind s (take 128 v) (recordAt kind (w .block) r) f (record-past kind (w .block) r low)
         (omega (arith, length-whole kind s (g .long))) g a m i j from (omega arith)
 
+  -- the count is then at least what the record asks
+  count-there : (w : Spot) (r : ℕ) (s : List ℕ) → 32 * w .entry + 15 < length s → countTo r ≤ byte (counted w r s) (32 * w .entry + 15)
+  unfolding counted _if_else_
+  count-there w r s l =
+      ⊎-elim (λ (h : ltb (byte s (32 * w .entry + 15)) (countTo r) ≡ true). rw (h, getD-set-same s (32 * w .entry + 15) (countTo r) 0 l) (omega arith))
+      (λ (h : ltb (byte s (32 * w .entry + 15)) (countTo r) ≡ false).
+      let z : countTo r ≤ byte s (32 * w .entry + 15) = ltb-false _ _ h in rw h z)
+      (either (ltb (byte s (32 * w .entry + 15)) (countTo r)))
+
   -- all after the block is in the map
   ends-step : (zeros : Bool) (w : Spot) (r : ℕ) (v s : List ℕ) → w .entry < entries kind → fileAt s (w .entry) ≡ f → 2 ≤ w .block → w .block < blocks kind s
       → 128 ≤ length v → SoundImage kind s
       → (w .taken ≡ true → (a ≤ blockSize kind * w .block) × (blockSize kind * w .block + blockSize kind ≤ a + m)) → a ≤ recordAt kind (w .block) r
-      → recordAt kind (w .block) r + 128 ≤ a + m
-      → Change kind s (stored kind w r v (cleared kind zeros w (counted w r s))) f a m i j
+      → recordAt kind (w .block) r + 128 ≤ a + m → isEmpty s (w .entry) ≡ false
+      → Ended kind s (stored kind w r v (cleared kind zeros w (counted w r s))) f r a m i j (w .entry)
   unfolding blocks
-  ends-step zeros w r v s l file low high k g inside from to =
+  ends-step zeros w r v s l file low high k g inside from to used =
       let s₁ = counted w r s in
       let s₂ = cleared kind zeros w s₁ in
       let c₁ = count-step w r s l file g in
@@ -88,7 +103,11 @@ module _ (kind : Kind) (f : File) (a m i j : ℕ) where
       let c₂ = clear-step w s₁ low h₁ (c₁ .sound) zeros inside in
       let h₂ : w .block < blocks kind s₂ = rw (c₂ .touches .long) h₁ in
       let c₃ = store-step w s₂ low h₂ (c₂ .sound) r v k from to in
-      change-then kind s s₁ (stored kind w r v s₂) f a m i j c₁ (change-then kind s₁ s₂ (stored kind w r v s₂) f a m i j c₂ c₃)
+      let d = change-then kind s₁ s₂ (stored kind w r v s₂) f a m i j c₂ c₃ in
+      let far = length-long kind s (g .long) in
+      let one = count-there w r s (omega arith) in
+      let two = d .grown .rises (w .entry) l (empty-same s (w .entry) s₁ (w .entry) (c₁ .grown .head (w .entry) l used) ∙ used) in
+      record { change = change-then kind s s₁ (stored kind w r v s₂) f a m i j c₁ d; count = omega arith }
 
 -- ---- what writing did: the record's number stands at place (r's) of that entry
 
@@ -97,6 +116,7 @@ pub record Wrote (kind : Kind) (s t : List ℕ) (f : File) (r a m n b : ℕ) : T
   pub below : n < entries kind
   pub is : Is t f (r / 128) n
   pub number : mapNumber kind t n (mapPlace kind r) ≡ b
+  pub count : countTo r ≤ byte t (32 * n + 15)
 
 -- its block was there, or it is a free one
 pub record Old (kind : Kind) (s t : List ℕ) (f : File) (r : ℕ) : Type 0 where
@@ -158,7 +178,8 @@ module _ (kind : Kind) (zeros : Bool) (s : List ℕ) (f : File) (r : ℕ) (v : L
       let file : fileAt u n ≡ f = file-same t n u n h ∙ is .file in
       let y = free-low kind t (w .block) free in
       let d = ends-step kind f a (blockSize kind) n q zeros w r v u l file y (rw (c .touches .long) high) full (c .sound)
-      (λ x. (omega arith, omega arith)) (record-over kind (w .block) r) (record-room kind (w .block) r (a + blockSize kind) (omega arith)) in
+      (λ x. (omega arith, omega arith)) (record-over kind (w .block) r) (record-room kind (w .block) r (a + blockSize kind) (omega arith))
+      (empty-same t n u n h ∙ is .used) in
       let there₀ : mapNumber kind u n q ≡ w .block = taken-there kind t n q (w .block) f l (place-fits kind r) (is .file) was high free g′ in
       let named₀ : Names kind u n q = record {
         entry-there = l;
@@ -167,10 +188,11 @@ module _ (kind : Kind) (zeros : Bool) (s : List ℕ) (f : File) (r : ℕ) (v : L
         some = λ (x : mapNumber kind u n q ≡ 0). absurd (let k : w .block ≡ 0 = sym there₀ ∙ x in omega arith);
       } in
       rw (if-true _ t (w .taken) e₁) (record {
-        change = change-then kind t u z f a (blockSize kind) n q c d;
+        change = change-then kind t u z f a (blockSize kind) n q c (d .change);
         below = l;
-        is = is-same u z f (r / 128) n (d .grown .head n l (named₀ .entry-used)) (is-same t u f (r / 128) n h is);
-        number = d .grown .number n q named₀ ∙ there₀;
+        is = is-same u z f (r / 128) n (d .change .grown .head n l (named₀ .entry-used)) (is-same t u f (r / 128) n h is);
+        number = d .change .grown .number n q named₀ ∙ there₀;
+        count = d .count;
       })
 
   -- extent and block new
@@ -205,6 +227,7 @@ module _ (kind : Kind) (zeros : Bool) (s : List ℕ) (f : File) (r : ℕ) (v : L
           below = room;
           is = k .is;
           number = k .number;
+          count = k .count;
         };
         free = free-so high;
         unnamed = no;
@@ -234,15 +257,16 @@ module _ (kind : Kind) (zeros : Bool) (s : List ℕ) (f : File) (r : ℕ) (v : L
       let k = g .maps .range e (mapPlace kind r) m in
       let w = spot e false b false in
       let c = ends-step kind f (recordAt kind b r) 128 e (mapPlace kind r) zeros w r v s l (is .file) (k .0) (k .1) full g
-      (λ (x : false ≡ true). absurd (true≢false (sym x))) (omega arith) (omega arith) in
+      (λ (x : false ≡ true). absurd (true≢false (sym x))) (omega arith) (omega arith) (is .used) in
       record {
         entry = e;
         block = b;
         wrote = record {
-          change = c;
+          change = c .change;
           below = l;
-          is = is-same s (stored kind w r v (cleared kind zeros w (counted w r s))) f (r / 128) e (c .grown .head e l (is .used)) is;
-          number = c .grown .number e (mapPlace kind r) m;
+          is = is-same s (stored kind w r v (cleared kind zeros w (counted w r s))) f (r / 128) e (c .change .grown .head e l (is .used)) is;
+          number = c .change .grown .number e (mapPlace kind r) m;
+          count = c .count;
         };
         was-is = is;
         was = refl;

@@ -12,3 +12,4 @@ pub mod Items
 pub mod Bitwise
 pub mod Hints
 pub mod Joined
+pub mod Greatest

@@ -7,7 +7,7 @@ use reference::kind::Kind;
 use std::collections::{BTreeMap, BTreeSet};
 use std::fmt::Write;
 
-pub const FUNCTIONS: [u32; 13] = [15, 16, 19, 22, 23, 33, 34, 40, 41, 42, 43, 46, 143];
+pub const FUNCTIONS: [u32; 14] = [15, 16, 19, 22, 23, 33, 34, 35, 40, 41, 42, 43, 46, 143];
 
 /// Numbers that are no function stand under this one.
 const UNKNOWN: u32 = u32::MAX;
@@ -124,6 +124,15 @@ const WRITE_STOPS: &[Stop] = &[
     (2, "no free block for a new extent"),
 ];
 
+const SIZE: &[Row] = &[
+    (255, 9, "illegal name"),
+    (255, 0, "no such file"),
+    (0, 0, "no records"),
+    (0, 0, "size by extent 0"),
+    (0, 0, "size by a later extent"),
+    (0, 0, "as many records as can be"),
+];
+
 const TEST_AND_WRITE: &[Row] = &[
     (10, 0, "not open"),
     (255, 3, "read-only attribute"),
@@ -181,6 +190,7 @@ fn own_rows(function: u32) -> &'static [Row] {
         23 => RENAME,
         33 => READ,
         34 | 40 => WRITE,
+        35 => SIZE,
         41 => TEST_AND_WRITE,
         42 => LOCK,
         43 => UNLOCK,

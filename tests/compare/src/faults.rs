@@ -299,6 +299,14 @@ pub fn block_of(kind: Kind, user: u8, name: &[u8], record: u32, image: &[u8]) ->
         .map_or(0, |entry| block_numbers(kind, entry)[index])
 }
 
+/// What 35 has to tell of the file; None if there is none.
+pub fn size_of(kind: Kind, user: u8, name: &[u8], image: &[u8]) -> Option<u32> {
+    used_entries(kind, image)
+        .filter(|entry| entry[0] == user && same_name(&entry[1..12], name))
+        .max_by_key(|entry| extent_number(entry))
+        .map(|entry| 128 * extent_number(entry) as u32 + u32::from(entry[15]))
+}
+
 /// Where the record lies, if it is in this block.
 pub fn record_at(kind: Kind, block: u16, record: u32) -> usize {
     let (block, record) = (usize::from(block), record as usize);

@@ -49,7 +49,7 @@ const END_OF_RECORDS: u32 = 262_144;
 
 const EXTENTS: [u32; 8] = [1, 2, 31, 32, 33, 63, 2_046, LAST_EXTENT];
 
-const WEIGHTS: [(u32, usize); 13] = [
+const WEIGHTS: [(u32, usize); 14] = [
     (15, 15),
     (16, 4),
     (19, 5),
@@ -57,6 +57,7 @@ const WEIGHTS: [(u32, usize); 13] = [
     (23, 6),
     (33, 10),
     (34, 14),
+    (35, 5),
     (40, 12),
     (41, 10),
     (42, 15),
@@ -1002,7 +1003,7 @@ impl Generator {
 
     fn wild_function(&mut self, function: u32) -> u32 {
         match self.random.chance(50) {
-            true => self.wild(function, &[0, 14, 17, 20, 24, 32, 35, 44, 47, 142, 144, 255]),
+            true => self.wild(function, &[0, 14, 17, 20, 24, 32, 36, 44, 47, 142, 144, 255]),
             false => self.random.below(256) as u32,
         }
     }

@@ -8,7 +8,7 @@ use crate::damage::{break_directory, break_list};
 use crate::faults::{reason_number, ImageRule, ListRule};
 use crate::generate::half_damaged;
 use crate::random::Random;
-use crate::stage::{changed_dma, Stage};
+use crate::stage::{changed_dma, changed_fcb, Stage};
 use crate::step::Step;
 use crate::{named_entries, named_kinds};
 use reference::calls::{Numbers, DMA_LENGTH, MOST_RECORDS, RUN_FUNCTIONS};
@@ -30,7 +30,7 @@ impl Case {
 }
 
 /// Played on drives of both kinds.
-const CASES: [(&str, Play); 33] = [
+const CASES: [(&str, Play); 34] = [
     ("the session", session),
     ("open again at the open limit and with a full list", open_again),
     ("rename to itself", rename_to_itself),
@@ -54,6 +54,7 @@ const CASES: [(&str, Play); 33] = [
         delete_of_an_open_file,
     ),
     ("rows of Rename", rows_of_rename),
+    ("File Size", file_size),
     ("rows of Read", rows_of_read),
     ("rows of the writing calls", rows_of_writing),
     ("a read stops after 0 to 15 records", reads_that_stop),
@@ -188,6 +189,24 @@ impl Asked<'_, '_> {
 
     pub fn ok(self) {
         self.gives(0, 0);
+    }
+
+    /// A 35 that tells so many records, in bytes 33 to 35 and nowhere else.
+    pub fn sizes(self, records: u32) {
+        let (numbers, fcb) = (self.numbers, self.fcb.clone());
+        let reply = self.script.stage.serve(Step::Call {
+            numbers,
+            fcb: self.fcb,
+            dma: self.dma,
+        });
+        let mut wanted = fcb.clone();
+        wanted[33..].copy_from_slice(&records.to_le_bytes()[..3]);
+        let got = reply.map(|reply| (reply.answer, changed_fcb(&fcb, &reply)));
+        if got.as_ref() != Some(&(0, wanted)) {
+            let told = got.map(|(answer, fcb)| (answer, fcb[33..].to_vec()));
+            self.script
+                .complain(&format!("{numbers:?} gave {told:?}, not {records} records"));
+        }
     }
 
     /// A 46 that tells so many free records.
@@ -923,6 +942,71 @@ fn delete_of_an_open_file(script: &mut Script) {
     script.list_has(2, [0; 20]);
     script.list_has(8, [0; 20]);
     script.list_has(5, lock_item(2, name(OTHER), 0));
+}
+
+/// The highest extent tells the size, wherever it stands, and whoever has the file open.
+fn file_size(script: &mut Script) {
+    // FILE has its extents out of order: the highest, 66, stands before the others, the last entry is
+    // extent 0's, and 65 has a higher count. OTHER's highest extent is without blocks and records.
+    let book = script.empty(12).with(&[
+        (Entry::named(FILE).extent(65).count(128), &[(0, 2)]),
+        (Entry::named(FILE).extent(66).count(3).read_only(), &[]),
+        (Entry::named(FILE).extent(31).count(77), &[(1, 3)]),
+        (Entry::named(OTHER).count(9).read_only(), &[(0, 4), (3, 5)]),
+        (Entry::named(OTHER).extent(1), &[]),
+        (Entry::named("LAST").count(1), &[]),
+        (Entry::named("LAST").extent(2_047).count(128), &[(0, 6)]),
+        (Entry::named("NIL"), &[]),
+        (Entry::named("SHORT").count(1), &[(0, 7), (1, 8)]),
+        (Entry::of(1, name(FILE), 0).count(5), &[]),
+        (Entry::named(FILE).count(127), &[]),
+    ]);
+    let mut users = [0; 16];
+    users[7] = 1;
+    script.world_of(&book, [9, 9, 9], users);
+    for bad in ILLEGAL {
+        script.call(0, 35, Fcb::named(bad)).gives(255, 9);
+    }
+    script.call(0, 35, Fcb::named("NONE")).gives(255, 0);
+    script.call(7, 35, other()).gives(255, 0);
+    let dirty = |text: &str| {
+        let mut fcb = Fcb([0xFF; 36]);
+        fcb.0[0] = 1;
+        fcb.0[1..12].copy_from_slice(&name(text).map(|byte| byte | 128));
+        fcb
+    };
+    let wanted = [
+        (FILE, 128 * 66 + 3),
+        (OTHER, 128),
+        ("LAST", 262_144),
+        ("NIL", 0),
+        ("SHORT", 1),
+    ];
+    for (text, records) in wanted {
+        script.call(0, 35, Fcb::named(text)).fill(0xEE).sizes(records);
+        script
+            .call(3, 35, dirty(text))
+            .count(16)
+            .fill(0xEE)
+            .sizes(records);
+    }
+    script.call(7, 35, file()).sizes(5);
+    // Open by the caller or another, in any mode, and locked: it is the same.
+    script.call(1, 15, shared()).ok();
+    script.call(1, 42, shared().record(128 * 65)).count(2).ok();
+    script.call(1, 35, shared()).sizes(128 * 66 + 3);
+    script.call(2, 35, file()).sizes(128 * 66 + 3);
+    script.call(2, 15, other()).ok();
+    script.call(2, 35, other()).sizes(128);
+    script.call(3, 35, other()).sizes(128);
+    // It grows by a record in a higher extent, and falls by no write.
+    script.call(1, 34, shared().record(128 * 66 + 9)).ok();
+    script.call(0, 35, file()).sizes(128 * 66 + 10);
+    script.call(1, 34, shared().record(128 * 66 + 2)).ok();
+    script.call(0, 35, file()).sizes(128 * 66 + 10);
+    script.call(1, 19, file()).ok();
+    script.call(0, 35, file()).gives(255, 0);
+    script.call(7, 35, file()).sizes(5);
 }
 
 fn rows_of_rename(script: &mut Script) {

@@ -5,10 +5,12 @@
 use crate::comparison::describe_step;
 use crate::coverage::{orders, Coverage, Last};
 use crate::engine::Reference;
-use crate::faults::{block_of, check_answer, image_faults, is_legal_name, judged, list_faults, record_at};
+use crate::faults::{
+    block_of, check_answer, image_faults, is_legal_name, judged, list_faults, record_at, size_of,
+};
 use crate::history::{groups_with_block, History, Kept, Noted};
 use crate::parts::SHORT_IMAGE;
-use crate::step::{set_image, set_list, Reply, Step};
+use crate::step::{set_image, set_list, Change, Reply, Step};
 use crate::table::Table;
 use reference::calls::Numbers;
 use reference::kind::Kind;
@@ -279,6 +281,17 @@ impl Stage {
         }
     }
 
+    /// Bytes 33 to 35 of the FCB are the file's size, and the others as they were.
+    fn watch_size(&mut self, kind: Kind, numbers: Numbers, fcb: &[u8], reply: &Reply) {
+        let user = self.table.list()[3 + numbers.process as usize];
+        let size = size_of(kind, user, &fcb[1..12], self.table.image());
+        let mut wanted = fcb.to_vec();
+        wanted[33..].copy_from_slice(&size.unwrap_or(u32::MAX).to_le_bytes()[..3]);
+        if changed_fcb(fcb, reply) != wanted {
+            self.complain(format!("35 leaves another FCB, the bytes say {size:?}"));
+        }
+    }
+
     fn watch_drive(&mut self, kind: Kind, numbers: Numbers, fcb: &[u8], reply: &Reply) {
         let blocks = self.table.image().len() / kind.block();
         let is_large = kind == Kind::Second && blocks > 2 + NAMEABLE_BLOCKS;
@@ -287,6 +300,9 @@ impl Stage {
         }
         if reply.answer == 0 {
             self.coverage.note_size(kind, blocks);
+        }
+        if (numbers.function, reply.answer) == (35, 0) {
+            self.watch_size(kind, numbers, fcb, reply);
         }
         self.watch_run(kind, numbers, fcb, reply);
         if kind == Kind::Second {
@@ -386,6 +402,7 @@ fn buffers_that_may_change(step: &Step, answer: u32) -> [bool; 4] {
     match numbers.function {
         15 => [true, false, true, false],
         22 => [true, false, true, true],
+        35 => [true, false, false, false],
         33 | 46 => [false, true, false, false],
         19 => [false, false, true, true],
         23 | 34 | 40 | 41 => [false, false, false, true],
@@ -394,11 +411,20 @@ fn buffers_that_may_change(step: &Step, answer: u32) -> [bool; 4] {
     }
 }
 
+/// The FCB after the call.
+pub fn changed_fcb(fcb: &[u8], reply: &Reply) -> Vec<u8> {
+    changed(fcb, &reply.changes[0])
+}
+
 /// The DMA after the call.
 pub fn changed_dma(dma: &[u8], reply: &Reply) -> Vec<u8> {
-    let mut dma = dma.to_vec();
-    for change in reply.changes[1].iter().flatten() {
-        dma[change.at..change.at + change.bytes.len()].copy_from_slice(&change.bytes);
+    changed(dma, &reply.changes[1])
+}
+
+fn changed(bytes: &[u8], changes: &Option<Vec<Change>>) -> Vec<u8> {
+    let mut bytes = bytes.to_vec();
+    for change in changes.iter().flatten() {
+        bytes[change.at..change.at + change.bytes.len()].copy_from_slice(&change.bytes);
     }
-    dma
+    bytes
 }

@@ -70,7 +70,7 @@ fn any_call_answers() {
         let mut dma = numbers.bytes(dma_length);
         let function = match numbers.below(8) {
             0 => numbers.next(),
-            _ => KNOWN[numbers.below(13) as usize],
+            _ => KNOWN[numbers.below(KNOWN.len() as u32) as usize],
         };
         let process = numbers.below(18);
         let count = numbers.below(19);

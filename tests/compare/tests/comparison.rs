@@ -361,6 +361,106 @@ fn rename_passes_the_callers_open(done: &mut Done) {
     }
 }
 
+/// The entries of the file that a call names, in rising order.
+fn entries_named(done: &Done) -> Vec<Vec<u8>> {
+    let user = done.before.list[3 + done.numbers.process as usize];
+    let low = |bytes: &[u8]| bytes.iter().map(|byte| byte & 127).collect::<Vec<u8>>();
+    let is_of_it = |entry: &&[u8]| entry[0] == user && low(&entry[1..12]) == low(&done.before.fcb[1..12]);
+    let entries = done.before.image[..2048].chunks(32);
+    entries.filter(is_of_it).map(<[u8]>::to_vec).collect()
+}
+
+fn highest_extent(entries: &[Vec<u8>]) -> Option<&Vec<u8>> {
+    entries.iter().max_by_key(|entry| (entry[14], entry[12]))
+}
+
+fn tell_size(done: &mut Done, extent: u32, count: u8) {
+    let size = 128 * extent + u32::from(count);
+    done.after.fcb[33..].copy_from_slice(&size.to_le_bytes()[..3]);
+}
+
+fn size_of_the_highest_entry(done: &mut Done) {
+    if done.is(35, 0) {
+        let last = entries_named(done).pop().unwrap();
+        tell_size(done, u32::from(last[12]) + 32 * u32::from(last[14]), last[15]);
+    }
+}
+
+fn size_without_the_module(done: &mut Done) {
+    if done.is(35, 0) {
+        let entries = entries_named(done);
+        let highest = highest_extent(&entries).unwrap();
+        tell_size(done, u32::from(highest[12]), highest[15]);
+    }
+}
+
+fn size_by_the_count_of_extent_0(done: &mut Done) {
+    if done.is(35, 0) {
+        let entries = entries_named(done);
+        let first = entries
+            .iter()
+            .find(|entry| (entry[12], entry[14]) == (0, 0))
+            .unwrap();
+        let highest = highest_extent(&entries).unwrap();
+        tell_size(
+            done,
+            u32::from(highest[12]) + 32 * u32::from(highest[14]),
+            first[15],
+        );
+    }
+}
+
+fn size_by_the_number_of_entries(done: &mut Done) {
+    if done.is(35, 0) {
+        let entries = entries_named(done);
+        let count = highest_extent(&entries).unwrap()[15];
+        tell_size(done, entries.len() as u32 - 1, count);
+    }
+}
+
+fn size_by_the_blocks(done: &mut Done) {
+    if done.is(35, 0) {
+        let entries = entries_named(done);
+        let highest = highest_extent(&entries).unwrap();
+        let used = highest[16..]
+            .iter()
+            .rposition(|&block| block != 0)
+            .map_or(0, |at| at + 1);
+        tell_size(
+            done,
+            u32::from(highest[12]) + 32 * u32::from(highest[14]),
+            8 * used as u8,
+        );
+    }
+}
+
+fn size_in_two_bytes(done: &mut Done) {
+    if done.is(35, 0) {
+        done.after.fcb[35] = done.before.fcb[35];
+    }
+}
+
+fn size_sets_the_count(done: &mut Done) {
+    if done.is(35, 0) {
+        let entries = entries_named(done);
+        done.after.fcb[15] = highest_extent(&entries).unwrap()[15];
+    }
+}
+
+fn size_needs_an_open(done: &mut Done) {
+    if !done.is(35, 0) {
+        return;
+    }
+    let close = Numbers {
+        function: 16,
+        ..done.numbers
+    };
+    if done.before.clone().call(close) != 0 {
+        done.after = done.before.clone();
+        done.answer = 10;
+    }
+}
+
 fn rename_drops_attributes(done: &mut Done) {
     if !done.is(23, 0) {
         return;
@@ -648,7 +748,7 @@ fn takes_the_old_dma(done: &mut Done) {
     }
 }
 
-const FAULTS: [Fault; 51] = [
+const FAULTS: [Fault; 59] = [
     cuts_functions,
     cuts_processes,
     cuts_counts,
@@ -665,6 +765,14 @@ const FAULTS: [Fault; 51] = [
     delete_ends_the_process,
     delete_closes_a_read_only_file,
     rename_passes_the_callers_open,
+    size_of_the_highest_entry,
+    size_without_the_module,
+    size_by_the_count_of_extent_0,
+    size_by_the_number_of_entries,
+    size_by_the_blocks,
+    size_in_two_bytes,
+    size_sets_the_count,
+    size_needs_an_open,
     rename_drops_attributes,
     rename_to_itself_succeeds,
     read_fills_the_whole_dma,

@@ -347,6 +347,117 @@ fn delete_sets_byte_0_of_each_entry_only() {
 }
 
 #[test]
+fn size_rows() {
+    let mut world = World::new(two_files());
+    for bad in ILLEGAL {
+        assert_eq!(world.ask(0, 35, Fcb::named(bad)).go(), (255, 9));
+    }
+    assert_eq!(world.ask(0, 35, Fcb::named("NONE")).go(), (255, 0));
+    assert_eq!(world.ask(0, 35, Fcb::named("NONE").with(0, 2)).go(), (255, 4));
+    assert_eq!(world.ask(0, 35, Fcb::named("?").with(0, 2)).go(), (255, 4));
+}
+
+/// What 35 tells of FILE.DAT with these entries; every other byte of all buffers stays.
+fn size(entries: &[Entry]) -> u32 {
+    let mut world = World::new(image_with(8, entries));
+    let before = world.clone();
+    let mut fcb = Fcb([0xA5; 36]).with(0, 1);
+    fcb.0[1..12].copy_from_slice(&name("FILE.DAT"));
+    assert_eq!(world.ask(9, 35, fcb).fill(0x5A).count(16).go(), (0, 0));
+    assert_eq!(world.fcb[..33], fcb.0[..33]);
+    assert!(world.dma.iter().all(|&byte| byte == 0x5A));
+    assert!(world.list == before.list && world.image == before.image);
+    u32::from_le_bytes([world.fcb[33], world.fcb[34], world.fcb[35], 0])
+}
+
+#[test]
+fn the_highest_extent_tells_the_size() {
+    let of = |extent: u32, count: u8| Entry::named("FILE.DAT").extent(extent).count(count);
+    assert_eq!(size(&[of(0, 0)]), 0);
+    assert_eq!(size(&[of(0, 1)]), 1);
+    assert_eq!(size(&[of(0, 128)]), 128);
+    assert_eq!(size(&[of(0, 128), of(1, 0)]), 128, "a count of 0");
+    assert_eq!(size(&[of(0, 128), of(1, 1)]), 129);
+    assert_eq!(size(&[of(1, 2), of(0, 128)]), 130, "in an earlier entry");
+    assert_eq!(
+        size(&[of(0, 3), of(31, 4)]),
+        128 * 31 + 4,
+        "extents are missing below"
+    );
+    assert_eq!(
+        size(&[of(0, 3), of(32, 4), of(31, 5)]),
+        128 * 32 + 4,
+        "the module counts"
+    );
+    assert_eq!(size(&[of(63, 9), of(0, 3), of(64, 1)]), 128 * 64 + 1);
+    assert_eq!(size(&[of(0, 0), of(2_047, 127)]), 262_143);
+    assert_eq!(size(&[of(2_047, 128), of(0, 0)]), 262_144);
+    // The count and not the blocks, and not other files.
+    assert_eq!(size(&[of(0, 1).block(0, 2).block(15, 3)]), 1);
+    assert_eq!(
+        size(&[
+            of(0, 9),
+            of(5, 9).user(1),
+            Entry::named("FILE.DAU").extent(7),
+            of(0, 1).user(1),
+            Entry::named("FILE.DAU")
+        ]),
+        9
+    );
+    assert_eq!(
+        size(&[of(0, 9).attribute(9), of(1, 8).attribute(2)]),
+        136,
+        "attributes do not matter"
+    );
+}
+
+#[test]
+fn low_byte_first_and_three_of_them() {
+    let entries = [
+        Entry::named("FILE.DAT").extent(2_047).count(128),
+        Entry::named("FILE.DAT"),
+    ];
+    let mut world = World::new(image_with(8, &entries));
+    world.must(0, 35, file().record(0xFF_FFFF));
+    assert_eq!(world.fcb[33..], [0, 0, 4]);
+    let entries = [
+        Entry::named("FILE.DAT").extent(515).count(67),
+        Entry::named("FILE.DAT"),
+    ];
+    let mut world = World::new(image_with(8, &entries));
+    world.must(0, 35, file());
+    assert_eq!(world.fcb[33..], [0xC3, 0x01, 1], "65,987 is 0101C3h");
+}
+
+#[test]
+fn the_size_is_the_callers_users_file() {
+    let mut users = [0; 16];
+    users[3] = 12;
+    let entries = [
+        Entry::named("FILE.DAT").count(7),
+        Entry::named("FILE.DAT").user(12).count(9),
+    ];
+    let mut world = World::with_users(image_with(8, &entries), [8, 8, 8], users);
+    world.must(0, 35, file());
+    assert_eq!(world.fcb[33..], [7, 0, 0]);
+    world.must(3, 35, file());
+    assert_eq!(world.fcb[33..], [9, 0, 0]);
+}
+
+#[test]
+fn nobodys_open_is_in_the_way_of_the_size() {
+    for fcb in [file(), file().unlocked(), file().read_only()] {
+        let mut world = World::new(image_with(8, &[Entry::named("FILE.DAT").count(8).block(0, 2)]));
+        world.must(1, 15, fcb);
+        world.must(1, 42, file());
+        for process in [0, 1] {
+            world.must(process, 35, fcb);
+            assert_eq!(world.fcb[33..], [8, 0, 0]);
+        }
+    }
+}
+
+#[test]
 fn rename_rows() {
     let entries = [
         Entry::named("FILE.DAT").read_only(),

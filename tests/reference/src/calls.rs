@@ -1,4 +1,4 @@
-//! The thirteen calls. Each works on what was decoded and says what is to change;
+//! The fourteen calls. Each works on what was decoded and says what is to change;
 //! the buffers are written only after it has succeeded, or has done some of its records.
 
 use crate::answer::{code, extended, Answer, Refusal};
@@ -15,7 +15,7 @@ pub const MOST_RECORDS: u32 = 16;
 /// The functions that do their records one after another.
 pub const RUN_FUNCTIONS: [u32; 3] = [33, 34, 40];
 
-const FUNCTIONS: [u32; 13] = [15, 16, 19, 22, 23, 33, 34, 40, 41, 42, 43, 46, 143];
+const FUNCTIONS: [u32; 14] = [15, 16, 19, 22, 23, 33, 34, 35, 40, 41, 42, 43, 46, 143];
 const WITHOUT_FCB: [u32; 2] = [46, 143];
 
 /// The numbers of a call, as the host gives them.
@@ -107,6 +107,13 @@ impl Effects {
     fn of_drive(kind: &'static str, drive: Drive) -> Effects {
         Effects {
             drive: Some(drive),
+            ..Effects::none(kind)
+        }
+    }
+
+    fn of_fcb(kind: &'static str, fcb: [u8; FCB_LENGTH]) -> Effects {
+        Effects {
+            fcb: Some(fcb),
             ..Effects::none(kind)
         }
     }
@@ -237,6 +244,7 @@ impl Scene<'_> {
             23 => self.rename(),
             33 => self.read_random(),
             34 => self.write_random(false),
+            35 => self.file_size(),
             40 => self.write_random(true),
             41 => self.test_and_write(),
             42 => self.lock_records(),
@@ -485,6 +493,21 @@ impl Scene<'_> {
             _ => "renamed several entries",
         };
         Ok(Effects::of_drive(kind, drive))
+    }
+
+    /// The file need not be open, and nobody's open or lock matters.
+    fn file_size(&self) -> Outcome {
+        let file = self.named().ok_or(extended(9, "illegal name"))?;
+        let (highest, records) = self.drive.size(&file).ok_or(extended(0, "no such file"))?;
+        let mut fcb = self.fcb;
+        fcb[33..].copy_from_slice(&records.to_le_bytes()[..3]);
+        let kind = match (highest, records) {
+            (_, 0) => "no records",
+            (_, RECORD_LIMIT) => "as many records as can be",
+            (0, _) => "size by extent 0",
+            _ => "size by a later extent",
+        };
+        Ok(Effects::of_fcb(kind, fcb))
     }
 
     /// Where the record lies in the image.

@@ -211,6 +211,12 @@ impl Drive {
         self.files.get(file).map_or(0, BTreeMap::len)
     }
 
+    /// The file's highest extent, and its records as that extent counts them.
+    pub fn size(&self, file: &File) -> Option<(u32, u32)> {
+        let (&highest, extent) = self.files.get(file)?.last_key_value()?;
+        Some((highest, RECORDS_PER_EXTENT * highest + u32::from(extent.count)))
+    }
+
     pub fn block(&self, file: &File, record: u32) -> Option<u16> {
         let extent = self.extent(file, extent_of(record))?;
         extent.block(self.map_index(record))

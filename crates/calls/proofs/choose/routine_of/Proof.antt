@@ -36,4 +36,6 @@ routine-of-spec =
     -- returns-13
     (λ c. search keys depth 20 fits 50000)
     -- returns-14
+    (λ c. search keys depth 20 fits 50000)
+    -- returns-15
     (λ c. search keys depth 20 fits 50000))

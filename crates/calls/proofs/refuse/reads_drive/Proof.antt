@@ -36,6 +36,8 @@ reads-drive-spec =
     (λ c. search needs)
     -- enum-told-13
     (λ c. search needs)
+    -- enum-told-14
+    (λ c. search needs)
     -- returns
     (λ c. search refl)
     -- returns-2
@@ -61,4 +63,6 @@ reads-drive-spec =
     -- returns-12
     (λ c. search refl)
     -- returns-13
+    (λ c. search refl)
+    -- returns-14
     (λ c. search refl))

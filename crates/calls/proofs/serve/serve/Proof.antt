@@ -41,25 +41,29 @@ serve-spec =
     (λ c κs. search needs)
     -- enum-told-8
     (λ c. search needs)
-    -- write-zero-fill-requires
+    -- file-size-requires
     (λ c κs. search needs)
     -- enum-told-9
     (λ c. search needs)
-    -- test-write-requires
+    -- write-zero-fill-requires
     (λ c κs. search needs)
     -- enum-told-10
     (λ c. search needs)
-    -- lock-records-requires
+    -- test-write-requires
     (λ c κs. search needs)
     -- enum-told-11
     (λ c. search needs)
-    -- unlock-records-requires
+    -- lock-records-requires
     (λ c κs. search needs)
     -- enum-told-12
     (λ c. search needs)
-    -- free-space-requires
+    -- unlock-records-requires
     (λ c κs. search needs)
     -- enum-told-13
+    (λ c. search needs)
+    -- free-space-requires
+    (λ c κs. search needs)
+    -- enum-told-14
     (λ c. search needs)
     -- terminate-requires
     (λ c κs. search needs)
@@ -162,7 +166,7 @@ serve-spec =
     -- same-length-40
     (λ c. search needs)
     -- returns-10
-    (λ c. search serve-run)
+    (λ c. search (serve-any, refl))
     -- same-length-41
     (λ c. search needs)
     -- same-length-42
@@ -182,7 +186,7 @@ serve-spec =
     -- same-length-48
     (λ c. search needs)
     -- returns-12
-    (λ c. search (serve-any, refl))
+    (λ c. search serve-run)
     -- same-length-49
     (λ c. search needs)
     -- same-length-50
@@ -192,4 +196,14 @@ serve-spec =
     -- same-length-52
     (λ c. search needs)
     -- returns-13
+    (λ c. search (serve-any, refl))
+    -- same-length-53
+    (λ c. search needs)
+    -- same-length-54
+    (λ c. search needs)
+    -- same-length-55
+    (λ c. search needs)
+    -- same-length-56
+    (λ c. search needs)
+    -- returns-14
     (λ c. search (serve-any, refl)))

@@ -16,9 +16,9 @@ open-alone-spec =
     (λ c. search found depth 8 fits 20000)
     -- file-by-requires
     (λ c κs. search needs)
-    -- look-up-requires
+    -- entry-by-requires
     (λ c κs. search needs)
-    -- is-missing-requires
+    -- entries-requires
     (λ c κs. search needs)
     -- returns-3
     (λ c. search found depth 8 fits 20000))

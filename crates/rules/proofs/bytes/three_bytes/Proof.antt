@@ -1,9 +1,9 @@
--- `records::space::three_bytes` meets its contract.
+-- `rules::bytes::three_bytes` meets its contract.
 use mathlib.Core.Path.{refl}
 use borrow.Author.Needs.{needs}
 use Rattle.words.specs.Bytes.{le}
-use Rattle.records.proofs.space.three_bytes.Statement.{statement}
-use Rattle.records.proofs.space.three_bytes.Tie as tie
+use Rattle.rules.proofs.bytes.three_bytes.Statement.{statement}
+use Rattle.rules.proofs.bytes.three_bytes.Tie as tie
 
 pub three-bytes-spec : {M : Type 1} → statement M
 unfolding le
