@@ -5,6 +5,8 @@
 # prints the summary.
 # --docs: puts the figures into docs/PERFORMANCE.md, the plots and all rows beside it.
 # run.sh --agree: times nothing, only compares what the three and the engine's single calls answer and leave.
+# run.sh --desk [ROUNDS]: times the desk's functions (salvage) alone, beside plain C, and prints each time beside what it
+# is held against. MPM_ARCHIVE=FILE takes another engine for this processor.
 # run.sh --before ARCHIVE [ROUNDS]: times the engine of the archive, which machine/native.sh has made at an earlier
 # commit, and this tree's, taking turns in one run: the image check alone and the calls, with their stack. First the two
 # have to answer and leave the same. Writes before.md and, with every call, before.csv to target/bench and prints the
@@ -17,7 +19,7 @@ here=$(cd "$(dirname "${BASH_SOURCE[0]}")" && pwd -P)
 work=$root/target/bench
 plain=$root/tests/plain
 docs=$root/docs/PERFORMANCE.md
-objects=$native:$work/plain-small.o:$work/plain-large.o:$work/plain.o:$work/stack.o
+objects=$work/plain-small.o:$work/plain-large.o:$work/plain.o:$work/stack.o:${MPM_ARCHIVE:-$native}
 
 plain_clang() { # WORDS..
     "$own/toolchain/bin/clang" --target="$(uname -m)-unknown-linux-gnu" --no-default-config -nostdinc \
@@ -25,13 +27,13 @@ plain_clang() { # WORDS..
 }
 
 build() { # CARGO'S WORDS..
-    make_native
+    [ -n "${MPM_ARCHIVE:-}" ] || make_native
     mkdir -p "$work"
     plain_clang -DKIND=SMALL -c "$plain/plain.c" -o "$work/plain-small.o"
     plain_clang -DKIND=LARGE -c "$plain/plain.c" -o "$work/plain-large.o"
     plain_clang -c "$plain/plain_call.c" -o "$work/plain.o"
     "${CC:-cc}" -std=c99 -O2 -fPIC "${warnings[@]}" -c "$here/stack.c" -o "$work/stack.o"
-    MPM_ARCHIVE=$native MPM_OBJECTS=$objects \
+    MPM_ARCHIVE=${MPM_ARCHIVE:-$native} MPM_OBJECTS=$objects \
         cargo build --quiet --release --offline -j2 --manifest-path "$here/Cargo.toml" --target-dir "$work/cargo" "$@"
 }
 
@@ -49,12 +51,15 @@ version_of() { # ARCHIVE
 # have today's parameters (before.c). Each function is put at a multiple of 64: the same code lying otherwise to the
 # processor's lines can take a tenth more.
 make_object() {
-    local name version words=()
-    for name in call check look singly start; do words+=(--redefine-sym "mpm_$name=$2_own_$name"); done
+    local name version words=() kept=()
+    for name in call check look singly start; do
+        kept+=(--keep-global-symbol "mpm_$name")
+        words+=(--redefine-sym "mpm_$name=$2_own_$name")
+    done
     version=$(version_of "$1")
     mkdir -p "$work"
     ld -r --whole-archive "$1" -o "$work/whole.o"
-    objcopy --wildcard --keep-global-symbol 'mpm_*' --set-section-alignment '.text*=64' "$work/whole.o"
+    objcopy "${kept[@]}" --set-section-alignment '.text*=64' "$work/whole.o"
     objcopy "${words[@]}" "$work/whole.o" "$work/own.o"
     "${CC:-cc}" -std=c99 -O2 -fPIC -falign-functions=64 "${warnings[@]}" -DNAME="$2" -DVERSION="$version" \
         -c "$here/before.c" -o "$work/outer.o"
@@ -112,7 +117,7 @@ if [ "${1:-}" = --docs ]; then
     shift
 fi
 build
-if [ "${1:-}" = --agree ]; then exec "$work/cargo/release/bench" --agree; fi
+case ${1:-} in --agree | --desk) exec "$work/cargo/release/bench" "$@" ;; esac
 "$work/cargo/release/bench" "$work" "$@"
 {
     describe

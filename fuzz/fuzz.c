@@ -283,10 +283,32 @@ static uint32_t check_kind(const struct call *c, uint32_t kind, const struct buf
     return check;
 }
 
+/* On copies: an image that is not sound is after salvage, and the plain C version leaves the same bytes. */
+static void check_salvage(const struct call *c, uint32_t kind, const struct buffer *image) {
+    struct buffer ours = new_buffer(image->length), plain = new_buffer(image->length);
+    struct buffer report = new_buffer(mpm_entries(kind)), plain_report = new_buffer(mpm_entries(kind));
+    memcpy(ours.bytes, image->bytes, image->length);
+    memcpy(plain.bytes, image->bytes, image->length);
+    memset(report.bytes, 0xAA, report.length);
+    memset(plain_report.bytes, 0xAA, report.length);
+    uint32_t answer = mpm_salvage(kind, ours.bytes, ours.length, report.bytes, report.length);
+    want(answer == plain_salvage(kind, plain.bytes, plain.length, plain_report.bytes, plain_report.length), c,
+         "the plain C version of salvage gives another answer");
+    want(same_bytes(&ours, &plain), c, "the plain C version of salvage leaves another image");
+    want(same_bytes(&report, &plain_report), c, "the plain C version of salvage reports otherwise");
+    want((answer == MPM_SALVAGE_DONE) == (mpm_check(kind, ours.bytes, ours.length) == MPM_CHECK_SOUND), c,
+         "what was mended is not sound");
+    free(ours.memory);
+    free(plain.memory);
+    free(report.memory);
+    free(plain_report.memory);
+}
+
 static void check_image(const struct call *c, const struct state *before) {
     const struct buffer *image = &before->of[IMAGE];
     uint32_t check = check_kind(c, c->kind, image), other = check_kind(c, other_kind(c->kind), image);
     want(check == MPM_CHECK_WRONG_LENGTH || other == MPM_CHECK_WRONG_LENGTH, c, "an image is one of both kinds");
+    if (check != MPM_CHECK_SOUND) check_salvage(c, c->kind, image);
     if (c->answer == MPM_ERR_BAD_CALL) return;
     want((c->answer == MPM_ERR_BAD_IMAGE) == (check != MPM_CHECK_SOUND), c, "the image check says otherwise");
 }

@@ -169,6 +169,9 @@ selftest() {
         "ONE_DMA_RECORD has one place in the DMA" "CLEARS_AGAIN clears what it wrote" "MOVES_FCB moves the FCB on"
         "EARLIER_ENTRY charges a repeat to the earlier entry" "REPEAT_FIRST tells 6 before 5 in an entry"
         "EXTENT_0_IN_TURN tells 8 in its entry's turn" "LENGTH_OF_ENTRY_1 tells entry 1 for a wrong length")
+    local salvages=("DOES_NOTHING mends nothing" "REPORT_ONE_OFF reports one entry off"
+        "BYTE_1_TOO changes byte 1 of an emptied entry" "WRONG_LENGTH_TOUCHED touches an image of wrong length"
+        "WRITES_BEHIND_THE_REPORT writes behind the report" "LAST_ENTRY_LEFT_OUT leaves out the last entry")
     local n fault
     for n in "${!stubs[@]}"; do
         compile bad.o -DSTUB=$((n + 1)) "$root/tests/pipe/stub.c"
@@ -177,6 +180,11 @@ selftest() {
     compile bad-fuzz.o -Dmpm_call=spoiled_call -Dmpm_singly=spoiled_singly -Dmpm_check=spoiled_check "$here/fuzz.c"
     for fault in "${faults[@]}"; do
         compile bad.o -DSPOILED="${fault%% *}" "$here/spoiled.c"
+        finds "${fault#* }" bad-fuzz.o bad.o engine1.o
+    done
+    compile bad-fuzz.o -Dmpm_salvage=wrong_salvage "$here/fuzz.c"
+    for fault in "${salvages[@]}"; do
+        compile bad.o -DWRONG="${fault%% *}" "$root/tests/pipe/wrong_desk.c"
         finds "${fault#* }" bad-fuzz.o bad.o engine1.o
     done
 }

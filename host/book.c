@@ -1,17 +1,24 @@
 /* The desk's program: looks at images that customers bring, without changing them. The kind of a drive is taken from
-   the length of its image.
+   the length of its image. What is made of an image goes to a new file: nothing is ever written over.
 
      book check IMAGE..                for each image one line: sound, or the lowest bad entry of its directory and what
                                        is wrong
      book size IMAGE [USER:]NAME..     for each file, of user 0 unless said, one line with its size
+     book salvage IMAGE -o NEW         mends a damaged image: a line for each entry that was touched, and one with the
+                                       totals. Of a sound one NEW is a copy.
 
-   Exit status: 0 if all images are sound and all files there, 1 if one is not, 2 for an image that cannot be read, a
-   word that is no file's name and for wrong use. */
+   Exit status: 0 if all images are sound and all files there, 1 if one is not, for salvage: if it was not and NEW is.
+   2 for an image that cannot be read or mended, a new file that cannot be made or was there already, a word that is no
+   file's name and for wrong use. Then there is no NEW. */
 
+#define _XOPEN_SOURCE 700
 #include "mpm.h"
 
+#include <errno.h>
+#include <fcntl.h>
 #include <stdio.h>
 #include <string.h>
+#include <unistd.h>
 
 enum { DONE, NOT_SO, FAILED };
 enum { EX = 12, MODULE = 14, COUNT = 15, MAP = 16 }; /* where they stand in an entry */
@@ -19,6 +26,8 @@ enum { NAME_PART = 8, TEXT = 16 };
 
 /* One byte more than the longest image, so that a longer file is seen to be one. */
 static uint8_t bytes[MPM_LARGE_MAX_BLOCKS * MPM_LARGE_BLOCK_LEN + 1];
+/* What is made of it. */
+static uint8_t made[MPM_LARGE_MAX_BLOCKS * MPM_LARGE_BLOCK_LEN];
 
 struct image {
     const char *path;
@@ -46,6 +55,29 @@ static int load(struct image *image, const char *path) {
     image->bytes = bytes;
     image->length = length;
     return whole;
+}
+
+static int write_all(int file, const uint8_t *content, size_t length) {
+    size_t at = 0;
+    while (at < length) {
+        ssize_t some = pwrite(file, content + at, length - at, (off_t)at);
+        if (some < 0 && errno == EINTR) continue;
+        if (some <= 0) return 0;
+        at += (size_t)some;
+    }
+    return fsync(file) == 0;
+}
+
+/* Makes a file that was not there before: so what was read is never written over, whatever name is given for it. */
+static int keep(const char *path, const uint8_t *content, size_t length) {
+    int file = open(path, O_RDWR | O_CREAT | O_EXCL, 0666);
+    if (file < 0 && errno == EEXIST) return fail(path, "is there already, and nothing is written over");
+    if (file < 0) return fail(path, "cannot be made");
+    int whole = write_all(file, content, length);
+    whole = close(file) == 0 && whole;
+    if (whole) return DONE;
+    unlink(path);
+    return fail(path, "cannot be written");
 }
 
 /* ---- Entries ---- */
@@ -87,35 +119,56 @@ static void name_of(const struct image *image, uint32_t entry, char text[TEXT]) 
     text[at] = 0;
 }
 
-/* ---- What is wrong with an entry. Each says what it finds in the image for the code that the engine gave. ---- */
-
-static void say_user(const struct image *image, uint32_t entry) {
-    printf("entry %u: its first byte is %02Xh, neither a user, 0 to 15, nor E5h for an empty entry", (unsigned)entry,
-           entry_at(image, entry)[0]);
-}
-
-/* The first byte of the name that cannot be one. */
-static void say_name(const struct image *image, uint32_t entry) {
+/* The first byte of an entry's name that cannot be one; MPM_NAME_LEN where all can. */
+static size_t illegal_at(const struct image *image, uint32_t entry) {
     const uint8_t *name = entry_at(image, entry) + 1;
-    size_t i = 0;
-    while (i < MPM_NAME_LEN - 1u) {
+    for (size_t i = 0; i < MPM_NAME_LEN; i++) {
         uint8_t low = name[i] & 0x7F;
-        if (low < 32 || low > 126 || low == '?' || (i == 0 && low == ' ')) break;
-        i++;
+        if (low < 32 || low > 126 || low == '?' || (i == 0 && low == ' ')) return i;
     }
-    printf("entry %u, of user %u: byte %u of its name is %02Xh, which no legal name has there", (unsigned)entry,
-           entry_at(image, entry)[0], (unsigned)i + 1, name[i]);
+    return MPM_NAME_LEN;
 }
 
-static void say_file(const struct image *image, uint32_t entry) {
+/* What is wrong with a used entry whatever the others and its block numbers are. */
+static uint32_t own_fault(const struct image *image, uint32_t entry) {
+    const uint8_t *at = entry_at(image, entry);
+    if (at[0] >= MPM_USERS) return MPM_CHECK_BAD_USER;
+    if (illegal_at(image, entry) < MPM_NAME_LEN) return MPM_CHECK_BAD_NAME;
+    return at[EX] > 31 || at[MODULE] > 63 || at[COUNT] > 128 ? MPM_CHECK_BAD_NUMBER : MPM_CHECK_SOUND;
+}
+
+/* The lowest entry of the same file and extent that is good in itself; the entry where there is none before it. */
+static uint32_t first_of_extent(const struct image *image, uint32_t entry) {
+    uint32_t e = 0;
+    while (e < entry && !(is_used(image, e) && is_same_file(image, e, entry) &&
+                          extent_at(image, e) == extent_at(image, entry) && own_fault(image, e) == MPM_CHECK_SOUND))
+        e++;
+    return e;
+}
+
+/* ---- What is wrong with an entry. Each says what it finds in the image for the code that the engine gave, behind what
+   was done to the entry. ---- */
+
+static void say_user(const struct image *image, uint32_t entry, const char *done) {
+    printf("entry %u: %sits first byte is %02Xh, neither a user, 0 to 15, nor E5h for an empty entry", (unsigned)entry,
+           done, entry_at(image, entry)[0]);
+}
+
+static void say_name(const struct image *image, uint32_t entry, const char *done) {
+    size_t i = illegal_at(image, entry) % MPM_NAME_LEN;
+    printf("entry %u, of user %u: %sbyte %u of its name is %02Xh, which no legal name has there", (unsigned)entry,
+           entry_at(image, entry)[0], done, (unsigned)i + 1, entry_at(image, entry)[1 + i]);
+}
+
+static void say_file(const struct image *image, uint32_t entry, const char *done) {
     char name[TEXT];
     name_of(image, entry, name);
-    printf("entry %u, %s of user %u: ", (unsigned)entry, name, entry_at(image, entry)[0]);
+    printf("entry %u, %s of user %u: %s", (unsigned)entry, name, entry_at(image, entry)[0], done);
 }
 
-static void say_number(const struct image *image, uint32_t entry) {
+static void say_number(const struct image *image, uint32_t entry, const char *done) {
     const uint8_t *at = entry_at(image, entry);
-    say_file(image, entry);
+    say_file(image, entry, done);
     if (at[EX] > 31) {
         printf("its ex is %u, over 31", at[EX]);
     } else if (at[MODULE] > 63) {
@@ -125,14 +178,14 @@ static void say_number(const struct image *image, uint32_t entry) {
     }
 }
 
-static void say_range(const struct image *image, uint32_t entry) {
+static void say_range(const struct image *image, uint32_t entry, const char *done) {
     uint32_t blocks = mpm_blocks(image->kind, image->length), k = 0;
     while (k < mpm_numbers(image->kind) - 1) {
         uint32_t block = number_at(image, entry, k);
         if (block != 0 && (block < MPM_DIRECTORY_BLOCKS || block >= blocks)) break;
         k++;
     }
-    say_file(image, entry);
+    say_file(image, entry, done);
     printf("block %u out of range, the drive has %u to %u for files", (unsigned)number_at(image, entry, k),
            (unsigned)MPM_DIRECTORY_BLOCKS, (unsigned)blocks - 1);
 }
@@ -148,11 +201,11 @@ static uint32_t named_before(const struct image *image, uint32_t entry, uint32_t
     return MPM_LARGE_ENTRIES;
 }
 
-static void say_block_twice(const struct image *image, uint32_t entry) {
+static void say_block_twice(const struct image *image, uint32_t entry, const char *done) {
     uint32_t k = 0;
     while (k < mpm_numbers(image->kind) - 1 && named_before(image, entry, k) == MPM_LARGE_ENTRIES) k++;
     uint32_t before = named_before(image, entry, k);
-    say_file(image, entry);
+    say_file(image, entry, done);
     printf("block %u named before, by ", (unsigned)number_at(image, entry, k));
     if (before == entry) {
         printf("the entry itself");
@@ -161,17 +214,14 @@ static void say_block_twice(const struct image *image, uint32_t entry) {
     }
 }
 
-static void say_extent_twice(const struct image *image, uint32_t entry) {
-    uint32_t e = 0;
-    while (e < entry && !(is_used(image, e) && is_same_file(image, e, entry) &&
-                          extent_at(image, e) == extent_at(image, entry)))
-        e++;
-    say_file(image, entry);
-    printf("extent %u named before, by entry %u", (unsigned)extent_at(image, entry), (unsigned)e);
+static void say_extent_twice(const struct image *image, uint32_t entry, const char *done) {
+    say_file(image, entry, done);
+    printf("extent %u named before, by entry %u", (unsigned)extent_at(image, entry),
+           (unsigned)first_of_extent(image, entry));
 }
 
-static void say_no_extent_0(const struct image *image, uint32_t entry) {
-    say_file(image, entry);
+static void say_no_extent_0(const struct image *image, uint32_t entry, const char *done) {
+    say_file(image, entry, done);
     printf("extent %u of a file without an extent 0", (unsigned)extent_at(image, entry));
 }
 
@@ -187,7 +237,7 @@ static void say_length(const struct image *image) {
 
 /* The line's end for an image, and whether it is sound. */
 static int say_check(const struct image *image, uint32_t check) {
-    static void (*const say[])(const struct image *, uint32_t) = {
+    static void (*const say[])(const struct image *, uint32_t, const char *) = {
         0, 0, say_user, say_name, say_number, say_range, say_block_twice, say_extent_twice, say_no_extent_0};
     uint32_t code = mpm_check_code(check), entry = mpm_check_entry(check);
     if (check == MPM_CHECK_SOUND) {
@@ -197,7 +247,7 @@ static int say_check(const struct image *image, uint32_t check) {
     } else if (code > MPM_CHECK_NO_EXTENT_0 || code < MPM_CHECK_BAD_USER || entry >= mpm_entries(image->kind)) {
         printf("%s (%u)", mpm_check_text(check), (unsigned)check);
     } else {
-        say[code](image, entry);
+        say[code](image, entry, "");
     }
     return check == MPM_CHECK_SOUND ? DONE : NOT_SO;
 }
@@ -272,14 +322,97 @@ static int size_all(int count, char **words) {
     return status;
 }
 
+/* ---- Salvage ---- */
+
+static void say_many(uint32_t number, const char *one, const char *more) {
+    printf("%u %s", (unsigned)number, number == 1 ? one : more);
+}
+
+/* Why it was emptied is seen in the image before. */
+static void say_emptied(const struct image *before, uint32_t entry) {
+    switch (own_fault(before, entry)) {
+    case MPM_CHECK_BAD_USER: say_user(before, entry, "emptied, "); return;
+    case MPM_CHECK_BAD_NAME: say_name(before, entry, "emptied, "); return;
+    case MPM_CHECK_BAD_NUMBER: say_number(before, entry, "emptied, "); return;
+    default: break;
+    }
+    if (first_of_extent(before, entry) < entry) {
+        say_extent_twice(before, entry, "emptied, ");
+    } else {
+        say_file(before, entry, "emptied, its extent 0 is missing");
+    }
+}
+
+static void say_zeroed(const struct image *before, const struct image *after, uint32_t entry, uint32_t number) {
+    const char *comma = ": ";
+    say_file(before, entry, "");
+    say_many(number, "block number zeroed", "block numbers zeroed");
+    for (uint32_t k = 0; k < mpm_numbers(before->kind); k++) {
+        if (number_at(before, entry, k) == number_at(after, entry, k)) continue;
+        printf("%s%u", comma, (unsigned)number_at(before, entry, k));
+        comma = ", ";
+    }
+}
+
+/* A line for each entry that was touched, then the totals. Whether nothing was. */
+static int say_salvaged(const struct image *before, const struct image *after, const uint8_t *report) {
+    uint32_t emptied = 0, zeroed = 0, in = 0;
+    for (uint32_t e = 0; e < mpm_entries(before->kind); e++) {
+        if (report[e] == MPM_SALVAGE_UNTOUCHED) continue;
+        if (report[e] == MPM_SALVAGE_EMPTIED) {
+            emptied++;
+            say_emptied(before, e);
+        } else {
+            zeroed += report[e], in++;
+            say_zeroed(before, after, e, report[e]);
+        }
+        printf("\n");
+    }
+    printf("%s: ", before->path);
+    if (emptied + in == 0) {
+        printf("sound already, copied to %s\n", after->path);
+        return DONE;
+    }
+    say_many(emptied, "entry emptied, ", "entries emptied, ");
+    say_many(zeroed, "block number zeroed in ", "block numbers zeroed in ");
+    say_many(in, "entry", "entries");
+    printf("; sound now, in %s\n", after->path);
+    return NOT_SO;
+}
+
+static int is_output(char **words) { return strcmp(words[1], "-o") == 0; }
+
+static int wrong_use(void);
+
+/* Nothing is said of what was done before it is on the disk. */
+static int salvage(int count, char **words) {
+    static uint8_t report[MPM_LARGE_ENTRIES];
+    struct image before, after;
+    (void)count;
+    if (!is_output(words)) return wrong_use();
+    if (!load(&before, words[0])) return fail(words[0], "cannot be read");
+    if (before.kind == MPM_KINDS) return worse(FAILED, check_image(&before));
+    after = before, after.path = words[2], after.bytes = made;
+    memcpy(made, before.bytes, before.length);
+    uint32_t answer = mpm_salvage(after.kind, made, after.length, report, mpm_entries(after.kind));
+    if (answer != MPM_SALVAGE_DONE) return fail(before.path, mpm_salvage_text(answer));
+    if (mpm_check(after.kind, made, after.length) != MPM_CHECK_SOUND) return fail(before.path, "cannot be mended");
+    int status = keep(after.path, made, after.length);
+    return status == DONE ? say_salvaged(&before, &after, report) : status;
+}
+
+/* ---- The program ---- */
+
 static const struct verb {
     const char *word;
     const char *words; /* what stands behind it */
     int least;         /* so many at least */
+    int most;          /* and at most; 0 for any number */
     int (*run)(int count, char **words);
 } verbs[] = {
-    {"check", "IMAGE..", 1, check_all},
-    {"size", "IMAGE [USER:]NAME..", 2, size_all},
+    {"check", "IMAGE..", 1, 0, check_all},
+    {"size", "IMAGE [USER:]NAME..", 2, 0, size_all},
+    {"salvage", "IMAGE -o NEW", 3, 3, salvage},
 };
 
 static int wrong_use(void) {
@@ -292,7 +425,8 @@ int main(int argc, char **argv) {
     for (size_t i = 0; argc > 1 && i < sizeof verbs / sizeof verbs[0]; i++) {
         const struct verb *verb = &verbs[i];
         if (strcmp(argv[1], verb->word) != 0) continue;
-        return argc - 2 < verb->least ? wrong_use() : verb->run(argc - 2, argv + 2);
+        if (argc - 2 < verb->least || (verb->most > 0 && argc - 2 > verb->most)) return wrong_use();
+        return verb->run(argc - 2, argv + 2);
     }
     return wrong_use();
 }

@@ -1,5 +1,5 @@
 """The desk's program on images that are damaged in each way, on both kinds of drive: one line for each, as it has to
-be, and its exit status; and the sizes that it tells.
+be, and its exit status; the sizes that it tells; what it mends, to the byte.
 
 book.py FOLDER BOOK..
 
@@ -125,6 +125,11 @@ class Desk:
             stream.write(content)
         return path
 
+    def new(self):
+        """A path at which there is nothing yet."""
+        self.images += 1
+        return os.path.join(self.folder, f"new-{self.images}")
+
     def says(self, words, lines, status, errors=""):
         done = subprocess.run([*self.command, *words], capture_output=True, text=True)
         said = (done.stdout.splitlines(), done.returncode, done.stderr)
@@ -198,9 +203,141 @@ def sizes(desk, kind):
     desk.has_kept(path, image.bytes)
 
 
+class Mended:
+    """A damaged image, what it has to become, and the lines that have to be said of its entries."""
+
+    def __init__(self, kind):
+        self.before, self.after, self.lines = Image(kind), Image(kind), {}
+        self.emptied, self.zeroed = 0, []
+
+    def empty(self, at, line):
+        """What stands in the entry by now is emptied."""
+        self.after.bytes[ENTRY * at : ENTRY * (at + 1)] = self.before.bytes[ENTRY * at : ENTRY * (at + 1)]
+        self.after.poke(at, 0, 0xE5)
+        self.lines[at] = f"entry {at}{line}"
+        self.emptied += 1
+
+    def zero(self, at, name, numbers):
+        """Block numbers {index: number} are put there, and go."""
+        for index, number in numbers.items():
+            self.before.name_block(at, index, number)
+            self.after.name_block(at, index, 0)
+        many = f"{len(numbers)} block number{'s' * (len(numbers) > 1)} zeroed"
+        told = ", ".join(str(number) for _, number in sorted(numbers.items()))
+        self.lines[at] = f"entry {at}, {name}: {many}: {told}"
+        self.zeroed.append(len(numbers))
+
+    def put(self, at, bytes_of, blocks=None):
+        """An entry that is there before and after."""
+        self.before.put(at, bytes_of, blocks)
+        self.after.put(at, bytes_of, blocks)
+
+    def totals(self):
+        def many(number, one, more):
+            return f"{number} {one if number == 1 else more}"
+
+        emptied = many(self.emptied, "entry emptied", "entries emptied")
+        zeroed = many(sum(self.zeroed), "block number zeroed", "block numbers zeroed")
+        return f"{emptied}, {zeroed} in {many(len(self.zeroed), 'entry', 'entries')}"
+
+
+def one_of_each(kind):
+    """Every sort of damage in one book. Entry 20 stays: the one before it of its extent is emptied."""
+    last, past = kind.entries - 1, kind.blocks
+    mended = Mended(kind)
+    before = mended.before
+    before.put(1, entry(16, "USER"))
+    mended.empty(1, ": emptied, its first byte is 10h, neither a user, 0 to 15, nor E5h for an empty entry")
+    before.put(2, entry(4, "NAME")).poke(2, 4, ord("?"))
+    mended.empty(2, ", of user 4: emptied, byte 4 of its name is 3Fh, which no legal name has there")
+    before.put(3, entry(0, "EX.X"), {0: 50}).poke(3, 12, 99)
+    mended.empty(3, ", EX.X of user 0: emptied, its ex is 99, over 31")
+    before.put(4, entry(0, "MODULE")).poke(4, 14, 64)
+    mended.empty(4, ", MODULE of user 0: emptied, its module is 64, over 63")
+    before.put(19, entry(0, "COUNT", 0, 255))
+    mended.empty(19, ", COUNT of user 0: emptied, its record count is 255, over 128")
+    mended.put(20, entry(0, "COUNT", 0, 5), {0: 50})
+    before.put(21, entry(3, "BUDGET.DAT", 33), {0: 46}).poke(21, 2, ord("U") + 128)
+    mended.empty(21, ", BUDGET.DAT of user 3: emptied, extent 33 named before, by entry 9")
+    before.put(22, entry(0, "PRICES.DAT", 1), {0: 51})
+    mended.empty(22, ", PRICES.DAT of user 0: emptied, its extent 0 is missing")
+    before.put(last, entry(0, "PRICES.DAT", 4))
+    mended.empty(last, ", PRICES.DAT of user 0: emptied, its extent 0 is missing")
+    mended.zero(9, "BUDGET.DAT of user 3", {1: past, 3: 44, 7: 1, 5: 46})
+    mended.put(23, entry(15, "LATER", 0, 128), {0: 51})
+    mended.zero(23, "LATER of user 15", {1: 47})
+    return mended
+
+
+def single_damages(kind):
+    mended = Mended(kind)
+    mended.zero(0, "ORDERS of user 0", {7: 1})
+    yield mended
+    mended = Mended(kind)
+    mended.before.put(0, entry(0xE4, "ORDERS"), {0: 47})
+    mended.empty(0, ": emptied, its first byte is E4h, neither a user, 0 to 15, nor E5h for an empty entry")
+    yield mended
+    mended = Mended(kind)
+    mended.before.poke(5, 0, 0xE5)
+    mended.after.poke(5, 0, 0xE5)
+    mended.empty(9, ", BUDGET.DAT of user 3: emptied, its extent 0 is missing")
+    yield mended
+    mended = Mended(kind)
+    mended.before.poke(5, 15, 129)
+    mended.empty(5, ", BUDGET.DAT of user 3: emptied, its record count is 129, over 128")
+    mended.empty(9, ", BUDGET.DAT of user 3: emptied, its extent 0 is missing")
+    yield mended
+
+
+def salvages(desk, kind):
+    for mended in (one_of_each(kind), *single_damages(kind)):
+        path, new = desk.keep(mended.before.bytes), desk.new()
+        lines = [line for _, line in sorted(mended.lines.items())]
+        desk.says(["salvage", path, "-o", new], [*lines, f"{path}: {mended.totals()}; sound now, in {new}"], NOT_SO)
+        desk.has_kept(path, mended.before.bytes)
+        desk.has_kept(new, mended.after.bytes)
+        desk.says(["check", new], [f"{new}: sound"], DONE)
+        again = desk.new()
+        desk.says(["salvage", new, "-o", again], [f"{new}: sound already, copied to {again}"], DONE)
+        desk.has_kept(again, mended.after.bytes)
+    writes_over_nothing(desk, "salvage", mended.before.bytes)
+
+
+def writes_over_nothing(desk, verb, content):
+    """Not its input, by any name, and no other file."""
+    path, other = desk.keep(content), desk.keep(b"other")
+    linked, named = desk.new(), desk.new()
+    os.link(path, linked)
+    os.symlink(path, named)
+    for new in (path, linked, named, other, os.path.join(desk.folder, ".", os.path.basename(path))):
+        desk.says([verb, path, "-o", new], [f"{new}: is there already, and nothing is written over"], FAILED)
+    nowhere = os.path.join(desk.folder, "none", "new")
+    desk.says([verb, path, "-o", nowhere], [f"{nowhere}: cannot be made"], FAILED)
+    desk.has_kept(path, content)
+    desk.has_kept(other, b"other")
+
+
+def cannot_be_mended(desk):
+    new = desk.new()
+    for content, line in lengths():
+        path = desk.keep(content)
+        desk.says(["salvage", path, "-o", new], [f"{path}: {line}"], FAILED)
+    for missing in (os.path.join(desk.folder, "none"), desk.folder):
+        desk.says(["salvage", missing, "-o", new], [f"{missing}: cannot be read"], FAILED)
+    if os.path.exists(new):
+        print(f"FAULT: {new} was made of an image that cannot be mended")
+        sys.exit(1)
+
+
+VERBS = ("check IMAGE..", "size IMAGE [USER:]NAME..", "salvage IMAGE -o NEW")
+
+
 def wrong_use(desk):
-    use = "use: book check IMAGE..\nuse: book size IMAGE [USER:]NAME..\n"
-    for words in ([], ["check"], ["chekc", "x"], ["-h"], ["size"], ["size", "x"]):
+    use = "".join(f"use: book {verb}\n" for verb in VERBS)
+    bad = [[], ["check"], ["chekc", "x"], ["-h"], ["size"], ["size", "x"]]
+    for verb in ("salvage",):
+        bad += [[verb], [verb, "x"], [verb, "x", "-o"], [verb, "x", "y", "z"], [verb, "x", "-o", "y", "z"]]
+    for words in bad:
         desk.says(words, [], FAILED, use)
     none = os.path.join(desk.folder, "none")
     desk.says(["size", none, "LAST"], [f"{none}: cannot be read"], FAILED)
@@ -211,6 +348,8 @@ def main():
     check(desk)
     for kind in (SMALL, LARGE):
         sizes(desk, kind)
+        salvages(desk, kind)
+    cannot_be_mended(desk)
     wrong_use(desk)
     print(f"book says what it has to of {desk.images} images")
 

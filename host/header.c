@@ -1,7 +1,7 @@
 /* mpm.h by itself, as C and as C++: it can be included first and twice, its functions have the types that a host relies
    on, its sizes fit together for each kind of drive, no length of an image is one of both kinds, no two kinds,
-   functions or answers have the same number but Make's 255/0, no two codes of the image check have, and the answers
-   leave the high four bits of H free.
+   functions or answers have the same number but Make's 255/0, no two codes of the image check have and no two answers
+   of salvage, what its report says is no number of block numbers, and the answers leave the high four bits of H free.
    Compiled, never run; what the helpers do is tried by helpers.c. */
 
 #include "mpm.h"
@@ -16,6 +16,7 @@ typedef uint32_t call_type(uint32_t, uint32_t, uint32_t, uint32_t, uint8_t *, si
 typedef uint32_t start_type(uint32_t, uint32_t, uint32_t, uint32_t, const uint8_t *, size_t, uint8_t *, size_t);
 typedef uint32_t check_type(uint32_t, const uint8_t *, size_t);
 typedef uint32_t look_type(uint32_t, uint32_t, const uint8_t *, size_t, uint32_t, const uint8_t *, size_t);
+typedef uint32_t salvage_type(uint32_t, uint8_t *, size_t, uint8_t *, size_t);
 typedef uint32_t book_call_type(struct mpm_book *, uint32_t, uint32_t, uint32_t, uint8_t *, uint8_t *);
 
 extern call_type *const header_call;
@@ -23,12 +24,14 @@ extern call_type *const header_singly;
 extern start_type *const header_start;
 extern check_type *const header_check;
 extern look_type *const header_look;
+extern salvage_type *const header_salvage;
 extern book_call_type *const header_book_call;
 call_type *const header_call = mpm_call;
 call_type *const header_singly = mpm_singly;
 start_type *const header_start = mpm_start;
 check_type *const header_check = mpm_check;
 look_type *const header_look = mpm_look;
+salvage_type *const header_salvage = mpm_salvage;
 book_call_type *const header_book_call = mpm_book_call;
 
 /* An array type cannot have a negative size. */
@@ -64,12 +67,16 @@ HOLDS_OF(LARGE);
 HOLDS(kinds_are_apart, MPM_SMALL_MAX_BLOCKS * MPM_SMALL_BLOCK_LEN < MPM_LARGE_MIN_BLOCKS * MPM_LARGE_BLOCK_LEN);
 HOLDS(kinds_are_all, MPM_KIND_SMALL < MPM_KINDS && MPM_KIND_LARGE < MPM_KINDS && MPM_KINDS == 2u);
 
+HOLDS(report_has_room, MPM_SALVAGE_UNTOUCHED == 0u && MPM_SMALL_NUMBERS < MPM_SALVAGE_EMPTIED &&
+                           MPM_LARGE_NUMBERS < MPM_SALVAGE_EMPTIED && MPM_SALVAGE_EMPTIED < 256u);
+
 uint32_t header_kind(uint32_t kind, size_t image_len);
 uint32_t header_function(uint32_t number);
 uint32_t header_answer(uint32_t answer);
 uint32_t header_records(uint32_t answer);
 uint32_t header_capacity(uint32_t processes);
 uint32_t header_checked(uint32_t check);
+uint32_t header_salvaged(uint32_t answer);
 
 uint32_t header_kind(uint32_t kind, size_t image_len) {
     switch (kind) {
@@ -110,6 +117,13 @@ uint32_t header_checked(uint32_t check) {
     case MPM_CHECK_SOUND: case MPM_CHECK_WRONG_LENGTH: case MPM_CHECK_BAD_USER: case MPM_CHECK_BAD_NAME:
     case MPM_CHECK_BAD_NUMBER: case MPM_CHECK_BLOCK_RANGE: case MPM_CHECK_BLOCK_TWICE: case MPM_CHECK_EXTENT_TWICE:
     case MPM_CHECK_NO_EXTENT_0: return mpm_check_entry(check);
+    default: return 0u;
+    }
+}
+
+uint32_t header_salvaged(uint32_t answer) {
+    switch (answer) {
+    case MPM_SALVAGE_DONE: case MPM_SALVAGE_WRONG_LENGTH: case MPM_SALVAGE_WRONG_REPORT: return 1u;
     default: return 0u;
     }
 }

@@ -134,6 +134,21 @@ static void try_checks(void) {
     want(mpm_check_code(MPM_CHECK_WRONG_LENGTH) == 1 && mpm_check_entry(MPM_CHECK_WRONG_LENGTH) == 0, "1 of entry 0");
 }
 
+/* ---- Salvage ---- */
+
+/* The three answers have a name and a sentence each, and no two the same. */
+static void try_salvages(void) {
+    for (uint32_t answer = 0; answer < 300; answer++) {
+        const char *name = mpm_salvage_name(answer), *text = mpm_salvage_text(answer);
+        want((strcmp(name, "no answer of salvage") != 0) == (answer < 3), "there are three answers of salvage");
+        want((strcmp(text, "This is no answer of salvage.") != 0) == (answer < 3), "three answers with a sentence");
+        for (uint32_t other = 0; other < answer && answer < 3; other++)
+            want(strcmp(text, mpm_salvage_text(other)) != 0, "two answers of salvage have one sentence");
+    }
+    want(strcmp(mpm_salvage_name(1), "MPM_SALVAGE_WRONG_LENGTH") == 0, "1 is a wrong length");
+    want(strcmp(mpm_salvage_name(2), "MPM_SALVAGE_WRONG_REPORT") == 0, "2 is a wrong report");
+}
+
 /* ---- A book ---- */
 
 static void try_book(void) {
@@ -160,6 +175,14 @@ static void try_book(void) {
     image[MPM_ENTRY_LEN] = 16;
     uint32_t check = mpm_check(book.kind, image, sizeof image);
     want(mpm_check_code(check) == MPM_CHECK_BAD_USER && mpm_check_entry(check) == 1, "entry 1 has a bad user byte");
+    static uint8_t report[MPM_SMALL_ENTRIES];
+    want(mpm_salvage(book.kind, image, sizeof image, report, 1) == MPM_SALVAGE_WRONG_REPORT, "a short report is taken");
+    want(mpm_salvage(MPM_KINDS, image, sizeof image, report, mpm_entries(book.kind)) == MPM_SALVAGE_WRONG_LENGTH,
+         "an unknown kind is mended");
+    want(image[MPM_ENTRY_LEN] == 16, "a refused salvage has changed the image");
+    want(mpm_salvage(book.kind, image, sizeof image, report, mpm_entries(book.kind)) == MPM_SALVAGE_DONE, "it is mended");
+    want(report[0] == MPM_SALVAGE_UNTOUCHED && report[1] == MPM_SALVAGE_EMPTIED, "entry 1 was emptied");
+    want(mpm_check(book.kind, image, sizeof image) == MPM_CHECK_SOUND, "a mended image is sound");
 }
 
 /* ---- The capacity ---- */
@@ -234,6 +257,7 @@ int main(void) {
     try_kinds();
     try_answers();
     try_checks();
+    try_salvages();
     try_book();
     try_capacity();
     if (faults == 0) printf("the helpers do what mpm.h says\n");

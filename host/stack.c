@@ -1,4 +1,4 @@
-/* How much stack the engine takes: each function of a call, accepted and on a drive of each kind, is run on a painted
+/* How much stack the engine takes: each of its functions, accepted and on a drive of each kind, is run on a painted
    stack of its own (bench/stack.c), which has some 200 bytes of the caller in it. Prints each figure and the highest.
    Exit status: 1 if a call was refused or the highest of all is over 16,384 bytes. */
 
@@ -11,7 +11,7 @@ enum { MOST = 16384, LONGEST = MPM_LARGE_MIN_BLOCKS * MPM_LARGE_BLOCK_LEN };
 
 size_t stack_of(void (*function)(void));
 
-static uint8_t fcb[MPM_FCB_LEN], dma[MPM_DMA_LEN], list[MPM_LIST_LEN], image[LONGEST];
+static uint8_t fcb[MPM_FCB_LEN], dma[MPM_DMA_LEN], list[MPM_LIST_LEN], image[LONGEST], report[MPM_LARGE_ENTRIES];
 static const uint8_t users[MPM_USERS_LEN] = {0};
 static struct mpm_book book;
 static uint32_t function, process, count, answer;
@@ -23,6 +23,9 @@ static void start(void) {
 static void check(void) { answer = mpm_check(book.kind, book.image, book.image_len); }
 static void look(void) {
     answer = mpm_look(book.kind, 0, fcb + MPM_FCB_NAME, MPM_NAME_LEN, 0, book.image, book.image_len) != 0 ? 0u : 1u;
+}
+static void salvage(void) {
+    answer = mpm_salvage(book.kind, book.image, book.image_len, report, mpm_entries(book.kind));
 }
 static void call(void) { answer = mpm_book_call(&book, function, process, count, fcb, dma); }
 static void singly(void) {
@@ -65,7 +68,8 @@ static int measure_kind(uint32_t kind, size_t image_len) {
            measure_call("34 Write, 16", MPM_FN_WRITE, 1, 16, call) &&
            measure_call("33 Read, 16", MPM_FN_READ, 2, 16, call) &&
            measure_call("33 Read, 16, mpm_singly", MPM_FN_READ, 2, 16, singly) &&
-           measure_call("41 Test and Write", MPM_FN_TEST_WRITE, 2, 1, call) && measure("mpm_look", look);
+           measure_call("41 Test and Write", MPM_FN_TEST_WRITE, 2, 1, call) && measure("mpm_look", look) &&
+           measure("mpm_salvage", salvage);
     for_file(0, 0);
     good = good && measure_call("42 Lock, 16", MPM_FN_LOCK, 1, 16, call) &&
            measure_call("43 Unlock, 16", MPM_FN_UNLOCK, 1, 16, call) &&

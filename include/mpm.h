@@ -1,6 +1,6 @@
 /* The engine's C interface: the files of MP/M II programs, on one drive that sixteen processes share.
 
-   The engine is five functions on numbers and lent bytes. It keeps nothing between two calls: the drive is the bytes of
+   The engine is six functions on numbers and lent bytes. It keeps nothing between two calls: the drive is the bytes of
    the image, who has opened and locked what is the bytes of the list, and both are the host's.
 
    A drive is of one of two kinds, small or large. Nothing in the image says which: every function is told, and an image
@@ -17,7 +17,7 @@
    - Each pointer is valid for the length given with it. With a length of 0 it may be any pointer.
    - The buffers of one call do not overlap, and nobody else uses them until it returns.
 
-   Below stand the five functions and a book in one struct, then by name the fourteen calls, the answers, the sizes and
+   Below stand the six functions and a book in one struct, then by name the fourteen calls, the answers, the sizes and
    the places in the buffers, and last the few helpers that every host writes. docs/INTEGRATION.md tells the rest. */
 #ifndef MPM_H
 #define MPM_H
@@ -78,6 +78,18 @@ uint32_t mpm_check(uint32_t kind, const uint8_t *image, size_t image_len);
    user over 15, the name illegal (any length but 11 too), or the record has no block. Changes nothing. */
 uint32_t mpm_look(uint32_t kind, uint32_t user, const uint8_t *name, size_t name_len, uint32_t record,
                   const uint8_t *image, size_t image_len);
+
+/* Mends a damaged image of the kind, so that it is sound; one that is sound stays as it is. For images from elsewhere,
+   before mpm_start: no list fits an image that was mended, but a fresh one.
+   First, in rising order, each entry that is bad for MPM_CHECK_BAD_USER, BAD_NAME or BAD_NUMBER is emptied, and each
+   whose file and extent an earlier entry has that was kept; then all entries of files lacking extent 0. Then, in rising
+   order, each block number of the entries that are left is zeroed that is out of range or was named before, in an
+   earlier entry or earlier in the same one. Emptying sets byte 0 to E5h. No other byte changes.
+   The report gets a byte for each entry of the directory: MPM_SALVAGE_UNTOUCHED, MPM_SALVAGE_EMPTIED or the number of
+   block numbers zeroed. Its length must be mpm_entries(kind), 64 or 128.
+   Gives MPM_SALVAGE_DONE; or MPM_SALVAGE_WRONG_LENGTH or MPM_SALVAGE_WRONG_REPORT, tested in this order, and then
+   nothing has changed. */
+uint32_t mpm_salvage(uint32_t kind, uint8_t *image, size_t image_len, uint8_t *report, size_t report_len);
 
 /* ---- A book in one struct ---- */
 
@@ -245,6 +257,17 @@ static inline uint32_t mpm_done(uint32_t answer, uint32_t count) {
 
 static inline uint32_t mpm_check_code(uint32_t check) { return check % 256u; }
 static inline uint32_t mpm_check_entry(uint32_t check) { return check / 256u; }
+
+/* ---- Answers of mpm_salvage ---- */
+
+#define MPM_SALVAGE_DONE 0u         /* the image is sound, and the report tells what was done to each entry */
+#define MPM_SALVAGE_WRONG_LENGTH 1u /* no drive of the told kind has this length, or the kind is unknown */
+#define MPM_SALVAGE_WRONG_REPORT 2u /* the report has not one byte for each entry of this kind */
+
+/* What a byte of the report says of its entry; else it is the number of block numbers zeroed, 1 to 16, on a large drive
+   1 to 8. */
+#define MPM_SALVAGE_UNTOUCHED 0u
+#define MPM_SALVAGE_EMPTIED 255u
 
 /* ---- Sizes, in bytes where the name ends in LEN ---- */
 
@@ -546,6 +569,30 @@ static inline const char *mpm_check_text(uint32_t check) {
         MPM_CHECK_SENTENCES(MPM_TEXT_OF)
 #undef MPM_TEXT_OF
     default: return "This is no answer of the image check.";
+    }
+}
+
+/* The answers of mpm_salvage with a sentence for the one who brings the image. */
+#define MPM_SALVAGE_SENTENCES(OF)                                                                                      \
+    OF(MPM_SALVAGE_DONE, "The image is sound now, and the report tells what was done.")                                \
+    OF(MPM_SALVAGE_WRONG_LENGTH, "No drive of this kind has an image of this length.")                                 \
+    OF(MPM_SALVAGE_WRONG_REPORT, "The host's report does not have one byte for each entry.")
+
+static inline const char *mpm_salvage_name(uint32_t answer) {
+    switch (answer) {
+#define MPM_NAME_OF(code, sentence) case code: return #code;
+        MPM_SALVAGE_SENTENCES(MPM_NAME_OF)
+#undef MPM_NAME_OF
+    default: return "no answer of salvage";
+    }
+}
+
+static inline const char *mpm_salvage_text(uint32_t answer) {
+    switch (answer) {
+#define MPM_TEXT_OF(code, sentence) case code: return sentence;
+        MPM_SALVAGE_SENTENCES(MPM_TEXT_OF)
+#undef MPM_TEXT_OF
+    default: return "This is no answer of salvage.";
     }
 }
 

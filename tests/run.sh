@@ -32,9 +32,10 @@ if command -v python3 >/dev/null 2>&1; then
     step "cases of mpmcalls" python3 "$here/mpmcalls/cases.py" --document -- "$here/target/release/reference-mpmcalls"
 fi
 step "compare mpmcalls, 5 seconds" target/release/compare-mpmcalls --seconds 5 -- target/release/reference-mpmcalls
+step "compare the desk's functions" target/release/compare-desk --cases 5000
 step "compare over a pipe, 5 seconds" target/release/compare --seconds 5 -- target/release/reference-pipe
 if command -v "${CC:-cc}" >/dev/null 2>&1; then
-    step "pipe.c" "$here/pipe/selftest.sh" 5
+    step "pipe.c and desk.c" "$here/pipe/selftest.sh" 5
 fi
 target/release/compare --seconds "$seconds" >"$log" 2>/dev/null || {
     cat "$log"

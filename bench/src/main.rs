@@ -1,6 +1,7 @@
 //! Times the engine, its plain C version and the reference on the same books in one run, on both kinds of drive.
 //! bench FOLDER [ROUNDS]: writes table.md, rows.csv, plot.svg, several.csv and several.svg to the folder.
 //! bench --agree: times nothing, only compares what the three and the engine's single calls answer and leave.
+//! bench --desk [ROUNDS]: times the desk's functions alone, and prints their tables.
 //! bench --before FOLDER [ROUNDS], with the feature `before`: times an earlier engine and this one instead, and writes
 //! before.md and before.csv to the folder.
 
@@ -8,6 +9,7 @@
 mod before;
 mod books;
 mod curves;
+mod desk;
 mod engines;
 mod measure;
 mod plot;
@@ -24,11 +26,13 @@ fn main() -> ExitCode {
     let words: Vec<String> = std::env::args().skip(1).collect();
     let done = match words.iter().map(String::as_str).collect::<Vec<_>>()[..] {
         ["--agree"] => agree(),
+        ["--desk"] => Ok(desk::measure(ROUNDS)),
+        ["--desk", rounds] => number(rounds).map(desk::measure),
         ["--before", folder] => compare_into(folder, ROUNDS),
         ["--before", folder, rounds] => number(rounds).and_then(|rounds| compare_into(folder, rounds)),
         [folder] => measure_into(folder, ROUNDS),
         [folder, rounds] => number(rounds).and_then(|rounds| measure_into(folder, rounds)),
-        _ => Err("use: bench [--before] FOLDER [ROUNDS], or bench --agree".to_string()),
+        _ => Err("use: bench [--before] FOLDER [ROUNDS], bench --desk [ROUNDS] or bench --agree".to_string()),
     };
     match done {
         Ok(text) => {

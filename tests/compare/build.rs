@@ -6,7 +6,7 @@ fn main() {
         return;
     }
     let Ok(archive) = std::env::var("MPM_ARCHIVE") else {
-        println!("cargo:warning=MPM_ARCHIVE names no archive; the five symbols will be missing");
+        println!("cargo:warning=MPM_ARCHIVE names no archive; the engine's symbols will be missing");
         return;
     };
     let path = std::fs::canonicalize(&archive).unwrap_or_else(|_| archive.into());

@@ -1,9 +1,9 @@
 #!/usr/bin/env bash
 # Holds the engine against Debian's cpmtools, which know nothing of it, on drives of 64 and of 256 blocks, and on those
 # of 257, 300 and 1,027 larger blocks that the second kind has: each must read what the other wrote, and the desk's
-# program (host/book.c) must find the tools' images sound. Then does each case where they differ by intent. One line for
-# each step; at the first other difference one plain line and exit status 1. Installs cpmtools where they are missing.
-# All files are temporary.
+# program (host/book.c) must find the tools' images sound and mend those that are damaged. Plays the page that shows how
+# (docs/SALVAGE.md). Then does each case where they differ by intent. One line for each step; at the first other
+# difference one plain line and exit status 1. Installs cpmtools where they are missing. All files are temporary.
 set -euo pipefail
 here=$(cd "$(dirname "${BASH_SOURCE[0]}")" && pwd -P)
 root=$(cd "$here/../.." && pwd -P)
@@ -166,6 +166,31 @@ desk_tells_size() { # IMAGE USER NAME RECORDS
         "$(bash "$root/machine/run.sh" "$work/desk" size "$1" "$2:$3")"
 }
 
+# What was damaged is sound after salvage, and what it was made of stays. The lines are tried by host/book.py.
+desk_mends() { # IMAGE
+    local said status=0
+    rm -f "$1.mended"
+    cp "$1" "$1.kept"
+    said=$(bash "$root/machine/run.sh" "$work/desk" salvage "$1" -o "$1.mended") || status=$?
+    expect "status of salvage of $1" 1 "$status"
+    grep -q "; sound now, in $1.mended\$" <<<"$said" || fail "salvage of $1 says '$said'"
+    cmp -s "$1" "$1.kept" || fail "salvage has changed $1"
+    checked sound "$1.mended"
+}
+
+# Does what a page shows. It has the desk's program as `book`.
+page_holds() { # PAGE
+    local folder
+    folder=$(mktemp -d -p "$work")
+    mkdir -p "$work/bin"
+    printf '#!/bin/sh\nexec bash "%s" "%s" "$@"\n' "$root/machine/run.sh" "$work/desk" >"$work/bin/book"
+    chmod +x "$work/bin/book"
+    PATH=$work/bin:$PATH python3 "$here/page.py" "$root/docs/$1" "$folder" >"$work/log" || {
+        cat "$work/log"
+        fail "docs/$1 shows something else"
+    }
+}
+
 agree() { # FORMAT IMAGE
     checked sound "$2"
     engine_reads "$2"
@@ -302,6 +327,7 @@ damages() {
         poke "$what" "$offset" "$octal"
         fsck_says Error: mpm64 "$what"
         checked "$code of entry $entry" "$what"
+        desk_mends "$what"
     done <<'EOF'
 user-40h 0 100 2 0
 user-E4h 0 344 2 0
@@ -510,6 +536,7 @@ large_damages() {
         poke "$what" "$((32 * 33 + offset))" "$octal"
         fsck_says Error: large300 "$what"
         checked "$code of entry 33" "$what"
+        desk_mends "$what"
     done <<'EOF'
 user-40h 0 100 2
 blank-name 1 40 3
@@ -526,6 +553,7 @@ EOF
     stored "01 01 01 01 00" own-block-twice $((32 * 33 + 16))
     fsck_says Error: large300 own-block-twice
     checked "6 of entry 33" own-block-twice
+    desk_mends own-block-twice
     first_kind
 }
 
@@ -641,12 +669,14 @@ both_change large300 ours300 40000
 ok "257, 300 and 1,027 blocks of 2,048 bytes, made by the engine and changed by both: cpmls lists the files, cpmcp copies their bytes, fsck.cpm is silent, the free space is the same"
 first_kind
 large_damages
-ok "9 damages to a directory with numbers of two bytes: the engine tells the entry and why, errors for fsck.cpm"
+ok "9 damages to a directory with numbers of two bytes: the engine tells the entry and why, errors for fsck.cpm; mended"
 second_kind
 kinds_apart
 
 damages
-ok "15 damages to a directory: the engine tells the entry and why, errors for fsck.cpm"
+ok "15 damages to a directory: the engine tells the entry and why, errors for fsck.cpm; mended"
+page_holds SALVAGE.md
+ok "the worked example of a damaged book: $(tail -n 1 "$work/log" | cut -d ' ' -f 1-2) print what docs/SALVAGE.md shows"
 high_user
 label
 dates

@@ -1,7 +1,8 @@
 #!/usr/bin/env bash
 # Tries pipe.c: over the reference it must compare the same, over each bad stub, each wrong plain side, each engine that
-# is wrong about the kind of drive and each that is wrong about the bad entry different. Needs a C compiler (CC, else cc)
-# and the built `compare`.
+# is wrong about the kind of drive and each that is wrong about the bad entry different. Then desk.c likewise, over the
+# reference, over plain C and over wrong desks. Needs a C compiler (CC, else cc) and the built `compare` and
+# `compare-desk`.
 set -euo pipefail
 here=$(cd "$(dirname "${BASH_SOURCE[0]}")" && pwd -P)
 compare=$here/../target/release/compare
@@ -74,3 +75,52 @@ for wrong in 1 2 3 4 5; do
     must_differ "wrong about the bad entry $wrong" '^different'
 done
 echo "pipe over five image checks wrong about the bad entry: all seen"
+
+desk=$here/../target/release/compare-desk
+plain=$here/../plain
+
+desk_differs() { # NAME WORDS
+    if "$desk" --seconds 1 --failures "$work/failures" -- "$work/engine" >"$work/out" 2>/dev/null; then
+        echo "$1: taken for the same"
+        exit 1
+    fi
+    grep -q "$2" "$work/out" || {
+        cat "$work/out"
+        echo "$1: no '$2' reported"
+        exit 1
+    }
+}
+
+desk_is_same() { # WHAT OBJECTS..
+    "${CC:-cc}" "${flags[@]}" "$here/desk.c" "${@:2}" "${libraries[@]}" -o "$work/desk"
+    "$desk" --cases 3000 --failures "$work/failures" -- "$work/desk" >"$work/out" 2>/dev/null || {
+        cat "$work/out"
+        echo "desk over $1: different"
+        exit 1
+    }
+    echo "desk over $1: $(head -n 1 "$work/out")"
+}
+
+compile_plain() { # OBJECT SOURCE WORDS..
+    "${CC:-cc}" "${flags[@]}" -I "$here/../../include" "${@:3}" -c "$plain/$2" -o "$work/$1"
+}
+
+compile_plain small.o plain.c -DKIND=SMALL
+compile_plain large.o plain.c -DKIND=LARGE
+compile_plain call.o plain_call.c
+compile_plain mpm.o mpm.c
+desk_is_same "the reference" "$archive"
+desk_is_same "plain C" "$work"/{small,large,call,mpm}.o
+
+"${CC:-cc}" "${flags[@]}" -Dmpm_salvage=wrong_salvage -c "$here/desk.c" -o "$work/desk.o"
+for wrong in 1 2 3 4 5 6 7 8; do
+    case $wrong in
+        5) words='guards broken: 00000010' ;;
+        6) words='guards broken: 00000001' ;;
+        8) words='pipe: ' ;;
+        *) words='^different' ;;
+    esac
+    "${CC:-cc}" "${flags[@]}" -DWRONG="$wrong" "$work/desk.o" "$here/wrong_desk.c" "$archive" "${libraries[@]}" -o "$work/engine"
+    desk_differs "wrong desk $wrong" "$words"
+done
+echo "desk over eight wrong desks: all seen"

@@ -231,6 +231,52 @@ static uint32_t check_drive(const struct drive *d, size_t len) {
     return good_length(len) ? check_directory(d) : MPM_CHECK_WRONG_LENGTH;
 }
 
+/* ---- Salvage ---- */
+
+static void empty_entry(const struct drive *d, size_t e, uint8_t *report) {
+    entry_at(d, e)[0] = MPM_EMPTY;
+    report[e] = MPM_SALVAGE_EMPTIED;
+}
+
+static bool is_earlier_extent(const struct drive *d, size_t e) {
+    const uint8_t *entry = entry_at(d, e);
+    struct file f = file_from(entry[0], entry + 1);
+    return any_entry(d, &f, extent_at(entry), e);
+}
+
+/* Whether an entry stays after the first pass. Those before it that do not are empty by now. */
+static bool stays(const struct drive *d, size_t e) {
+    const uint8_t *entry = entry_at(d, e);
+    if (entry[0] == MPM_EMPTY) return true;
+    return entry[0] <= 15 && legal_name(entry + 1) && good_numbers(entry) && !is_earlier_extent(d, e);
+}
+
+static uint8_t zero_numbers(const struct drive *d, uint8_t *entry, bool seen[MAX_BLOCKS]) {
+    uint8_t zeroed = 0;
+    for (size_t k = 0; k < MAP; k++) {
+        size_t b = number_at(entry, k);
+        if (b == 0) continue;
+        if (b < 2 || b >= d->blocks || seen[b]) {
+            set_number(entry, k, 0);
+            zeroed++;
+        } else {
+            seen[b] = true;
+        }
+    }
+    return zeroed;
+}
+
+static void salvage_directory(const struct drive *d, uint8_t *report) {
+    bool seen[MAX_BLOCKS] = {false};
+    memset(report, MPM_SALVAGE_UNTOUCHED, ENTRIES);
+    for (size_t e = 0; e < ENTRIES; e++)
+        if (!stays(d, e)) empty_entry(d, e, report);
+    for (size_t e = 0; e < ENTRIES; e++)
+        if (!is_begun(d, e)) empty_entry(d, e, report);
+    for (size_t e = 0; e < ENTRIES; e++)
+        if (entry_at(d, e)[0] != MPM_EMPTY) report[e] = zero_numbers(d, entry_at(d, e), seen);
+}
+
 /* ---- The list, packed and unpacked ---- */
 
 static uint8_t kind_of(const uint8_t *mark) {
@@ -830,6 +876,23 @@ static uint32_t serve(uint32_t function, struct job *j) {
 uint32_t NAMED(check, KIND)(uint8_t *image, size_t image_len) {
     struct drive d = {image, image_len / BLOCK};
     return check_drive(&d, image_len);
+}
+
+uint32_t NAMED(salvage, KIND)(uint8_t *image, size_t image_len, uint8_t *report, size_t report_len) {
+    struct drive d = {image, image_len / BLOCK};
+    if (!good_length(image_len)) return MPM_SALVAGE_WRONG_LENGTH;
+    if (report_len != ENTRIES) return MPM_SALVAGE_WRONG_REPORT;
+    salvage_directory(&d, report);
+    return MPM_SALVAGE_DONE;
+}
+
+/* Where a record begins, or 0; the image is sound. */
+uint32_t NAMED(look, KIND)(uint32_t user, const uint8_t *name, uint32_t record, uint8_t *image, size_t image_len) {
+    struct drive d = {image, image_len / BLOCK};
+    struct file f = file_from((uint8_t)user, name);
+    if (user > 15 || !legal_name(name) || record > LAST_RECORD) return 0;
+    return (uint32_t)(BLOCK * block_of(&d, &f, record)) +
+           (block_of(&d, &f, record) != 0 ? MPM_RECORD_LEN * (record % BLOCK_RECORDS) : 0);
 }
 
 uint32_t NAMED(call, KIND)(uint32_t function, uint32_t process, uint32_t count, uint8_t *fcb, size_t fcb_len,

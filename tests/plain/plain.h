@@ -23,4 +23,15 @@ uint32_t plain_check(uint32_t kind, uint8_t *image, size_t image_len);
 uint32_t plain_check_SMALL(uint8_t *image, size_t image_len);
 uint32_t plain_check_LARGE(uint8_t *image, size_t image_len);
 
+/* As mpm_salvage. */
+uint32_t plain_salvage(uint32_t kind, uint8_t *image, size_t image_len, uint8_t *report, size_t report_len);
+uint32_t plain_salvage_SMALL(uint8_t *image, size_t image_len, uint8_t *report, size_t report_len);
+uint32_t plain_salvage_LARGE(uint8_t *image, size_t image_len, uint8_t *report, size_t report_len);
+
+/* As mpm_look. The image is only read. */
+uint32_t plain_look(uint32_t kind, uint32_t user, const uint8_t *name, size_t name_len, uint32_t record,
+                    uint8_t *image, size_t image_len);
+uint32_t plain_look_SMALL(uint32_t user, const uint8_t *name, uint32_t record, uint8_t *image, size_t image_len);
+uint32_t plain_look_LARGE(uint32_t user, const uint8_t *name, uint32_t record, uint8_t *image, size_t image_len);
+
 #endif

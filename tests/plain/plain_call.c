@@ -1,4 +1,4 @@
-/* A call and the image check in plain C, on a drive of the told kind. */
+/* The functions in plain C, on a drive of the told kind. */
 #include "plain.h"
 
 #include "mpm.h"
@@ -22,4 +22,19 @@ uint32_t plain_check(uint32_t kind, uint8_t *image, size_t image_len) {
     case MPM_KIND_LARGE: return plain_check_LARGE(image, image_len);
     default: return MPM_CHECK_WRONG_LENGTH;
     }
+}
+
+uint32_t plain_salvage(uint32_t kind, uint8_t *image, size_t image_len, uint8_t *report, size_t report_len) {
+    switch (kind) {
+    case MPM_KIND_SMALL: return plain_salvage_SMALL(image, image_len, report, report_len);
+    case MPM_KIND_LARGE: return plain_salvage_LARGE(image, image_len, report, report_len);
+    default: return MPM_SALVAGE_WRONG_LENGTH;
+    }
+}
+
+uint32_t plain_look(uint32_t kind, uint32_t user, const uint8_t *name, size_t name_len, uint32_t record,
+                    uint8_t *image, size_t image_len) {
+    if (name_len != MPM_NAME_LEN || plain_check(kind, image, image_len) != MPM_CHECK_SOUND) return 0;
+    if (kind == MPM_KIND_SMALL) return plain_look_SMALL(user, name, record, image, image_len);
+    return plain_look_LARGE(user, name, record, image, image_len);
 }

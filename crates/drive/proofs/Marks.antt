@@ -10,7 +10,7 @@ use lib.Dec.{eqb, leb, ltb}
 use lib.ListN.{length, replicate, length-replicate}
 use borrow.Author.Needs.{needs}
 use borrow.Author.Tests.{eq-eqb, ne-eqb, leb-true, leb-false, ltb-true, not-true, not-false}
-use Rattle.words.specs.Tests.{_and_, _or_, all, any, lowest, count}
+use Rattle.words.specs.Tests.{_and_, _or_, _if_else_, all, any, lowest, count}
 use Rattle.words.specs.Tables.{_when_, firstOf, noneZero}
 use Rattle.words.specs.Bits.{isSet, isClear, withBit}
 use Rattle.words.proofs.Tests.{either, equal?, and-snd, or-so, all-none, all-more, all-at, any-none, any-skip, any-here, lowest-ext}
@@ -23,7 +23,7 @@ use Rattle.rules.specs.declared.kind.Kind.the-variants.{Small, Large}
 use Rattle.rules.specs.declared.answer.ImageAnswer.{ImageAnswer}
 use Rattle.rules.specs.declared.answer.ImageAnswer.the-variants.{Sound}
 use Rattle.rules.specs.Kinds.{most, entries, numbers}
-use Rattle.rules.specs.Drive.{blocks, inRange, isEmpty, mapNumber, holdsNumber, namesBlock, namedBefore, isFirst, goodEntry, isUsed, isFree, freeBlock, freeBlocks, isRepeat, reasons, reason, badFor, isBad, judged, isSound}
+use Rattle.rules.specs.Drive.{blocks, nameAt, legalName, goodUser, goodNumbers, goodFields, inRange, isEmpty, mapNumber, holdsNumber, namesBlock, namedBefore, isFirst, goodEntry, isUsed, isFree, freeBlock, freeBlocks, isRepeat, reasons, reason, badFor, isBad, judged, isSound}
 use Rattle.rules.proofs.Sizes.{most-some}
 use Rattle.rules.proofs.Checks.{reason-good, bad-reason, judged-none, judged-at}
 use Rattle.index.specs.Slots.{slotAt, inUse}
@@ -142,7 +142,8 @@ to-next : (kind : Kind) (s : List ℕ) (x e : ℕ) → namedBefore kind s x e 0 
 unfolding namedBefore
 to-next kind s x e = or-off _ _ (any-empty (holdsNumber kind s x e))
 
-marks-empty : (kind : Kind) (low : ℕ) (s : List ℕ) (e : ℕ) (seen : List ℕ) (r : Bool) → Marks kind low s e 0 seen → r ≡ isEmpty s e → r ≡ true
+-- an empty entry marks nothing, ..
+pub marks-empty : (kind : Kind) (low : ℕ) (s : List ℕ) (e : ℕ) (seen : List ℕ) (r : Bool) → Marks kind low s e 0 seen → r ≡ isEmpty s e → r ≡ true
     → Marks kind low s (e + 1) 0 seen
 unfolding namesBlock _and_
 marks-empty kind low s e seen r m h t = record {
@@ -160,7 +161,8 @@ any-as : (f : ℕ → Bool) (e : ℕ) (t : Bool) → f e ≡ t → (any f e or t
 unfolding any
 any-as f e t h = rw (add-one, h)
 
-marks-used : (kind : Kind) (low : ℕ) (s : List ℕ) (e k : ℕ) (seen : List ℕ) → Marks kind low s e k seen → k ≡ numbers kind → isEmpty s e ≡ false
+-- .. one in use all that its map holds
+pub marks-used : (kind : Kind) (low : ℕ) (s : List ℕ) (e k : ℕ) (seen : List ℕ) → Marks kind low s e k seen → k ≡ numbers kind → isEmpty s e ≡ false
     → Marks kind low s (e + 1) 0 seen
 unfolding namedBefore
 marks-used kind low s e k seen m q u = record {
@@ -171,6 +173,18 @@ marks-used kind low s e k seen m q u = record {
 }
 
 -- ---- the ends of judging an entry
+
+three-rows : (a b c : Bool) → eqb (firstOf (2 when not a ∷ 3 when not b ∷ 4 when not c ∷ [])) 0 ≡ (a and b and c)
+unfolding firstOf _if_else_ _and_
+three-rows true true true = refl
+three-rows true true false = refl
+three-rows true false c = refl
+three-rows false b c = refl
+
+-- none of the first three reasons applies exactly where the fields are good
+pub fields-good : (kind : Kind) (s : List ℕ) (e : ℕ) → eqb (firstOf (fieldReasons kind s e)) 0 ≡ goodFields kind s e
+unfolding fieldReasons goodFields
+fields-good kind s e = three-rows (goodUser s e) (legalName s (nameAt e)) (goodNumbers kind s e)
 
 module _ (kind : Kind) (s : List ℕ) (e : ℕ) (seen hints : List ℕ) where
   pub judged-empty : (r : Bool) → Marks kind 1 s e 0 seen → Hints (slotAt s) (inUse s) e hints → r ≡ isEmpty s e → r ≡ true → Judged kind s e 0 seen hints

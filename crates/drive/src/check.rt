@@ -35,7 +35,7 @@ ghost use Rattle.drive.specs.Marks.{Marks, Marked, fieldReasons, Judged}
 ghost use Rattle.drive.specs.Walks.{Repeats, Walked, Answered};
 
 // A length that the kind of drive has.
-fn good_length(kind: Kind, image: &[u8]) -> bool
+pub fn good_length(kind: Kind, image: &[u8]) -> bool
     ensures { λ r. ⌜ r ≡ goodLength kind (now (image .entry)) ⌝ }
 {
     if image.len() % block_size(kind) != 0 {
@@ -70,7 +70,7 @@ fn good_numbers(kind: Kind, image: &[u8], e: usize) -> bool
 }
 
 // A block number is 0 or 2 to n - 1.
-fn in_range(b: usize, n: usize) -> bool
+pub fn in_range(b: usize, n: usize) -> bool
     ensures { λ r. ⌜ r ≡ (eqb b 0 or (leb 2 b and ltb b n)) ⌝ }
 {
     if b == 0 {
@@ -176,7 +176,7 @@ fn mark_entry(kind: Kind, image: &[u8], e: usize, seen: &mut [u8]) -> bool
 }
 
 // An entry before `e` has its file and extent; the hints, which know the entries before `e`, then know `e` too.
-fn is_repeat(image: &[u8], e: usize, hints: &mut [u8; 256]) -> bool
+pub fn is_repeat(image: &[u8], e: usize, hints: &mut [u8; 256]) -> bool
     requires { ⌜ (32 * e + 32 ≤ length (now image)) × (e < 256) × Hints (slotAt (now image)) (inUse (now image)) e (now hints) ⌝ }
     ensures { λ r. ⌜ Repeats (now (image .entry)) e r (now (hints .exit)) ⌝ }
 {
@@ -189,7 +189,7 @@ fn is_repeat(image: &[u8], e: usize, hints: &mut [u8; 256]) -> bool
 }
 
 // Whether the user, the name or ex, module and count of entry `e` are bad: the first that is, 0 where none is.
-fn field_reason(kind: Kind, image: &[u8], e: usize) -> u32
+pub fn field_reason(kind: Kind, image: &[u8], e: usize) -> u32
     requires { ⌜ 32 * e + 32 ≤ length (now image) ⌝ }
     ensures { λ r. ⌜ r ≡ firstOf (fieldReasons kind (now (image .entry)) e) ⌝ }
 {
@@ -298,7 +298,7 @@ fn has_first(kind: Kind, image: &[u8], hints: &[u8; 256], e: usize) -> bool
 }
 
 // The same of an entry that may be empty; one that is extent 0 itself needs no search.
-fn is_begun(kind: Kind, image: &[u8], hints: &[u8; 256], e: usize) -> bool
+pub fn is_begun(kind: Kind, image: &[u8], hints: &[u8; 256], e: usize) -> bool
     requires { ⌜ (e < entries kind) × (32 * entries kind ≤ length (now image)) × Hints (slotAt (now image)) (inUse (now image)) (entries kind) (now hints) ⌝ }
     ensures { λ r. ⌜ r ≡ hasFirst kind (now (image .entry)) e ⌝ }
 {

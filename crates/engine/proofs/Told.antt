@@ -23,6 +23,7 @@ use Rattle.rules.proofs.Sound.{sound-length, length-whole, length-few}
 use Rattle.rules.proofs.Look.{look-inside, look-sound}
 use Rattle.locklist.specs.Start.{DidStart}
 use Rattle.calls.specs.Calls.{callBy}
+use Rattle.repair.specs.Salvage.{salvaged, salvage, salvageTold}
 
 -- after `let Told::Known(known) = told_kind(kind) else { return .. }`
 module _ (n : ℕ) (t : Told) (is : t ≡ toldKind n) where
@@ -55,6 +56,10 @@ module _ (n : ℕ) (t : Told) (is : t ≡ toldKind n) where
     unfolding lookTold
     look-known a user name r s h = h ∙ ap (λ (x : Told). lookTold x user name r s) kind-is
 
+    pub salvage-known : (a : ℕ) (s r u q : List ℕ) → salvaged a u q ≡ salvage kind s r → salvaged a u q ≡ salvageTold (toldKind n) s r
+    unfolding salvageTold
+    salvage-known a s r u q h = h ∙ ap (λ (x : Told). salvageTold x s r) kind-is
+
   module _ (other : t ≡ Other) where
     other-is : Other ≡ toldKind n
     other-is = sym other ∙ is
@@ -81,6 +86,10 @@ module _ (n : ℕ) (t : Told) (is : t ≡ toldKind n) where
     pub look-other : (user : ℕ) (name : List ℕ) (r : ℕ) (s : List ℕ) → 0 ≡ lookTold (toldKind n) user name r s
     unfolding lookTold
     look-other user name r s = ap (λ (x : Told). lookTold x user name r s) other-is
+
+    pub salvage-other : (s r : List ℕ) → salvaged 1 s r ≡ salvageTold (toldKind n) s r
+    unfolding salvageTold
+    salvage-other s r = ap (λ (x : Told). salvageTold x s r) other-is
 
 -- ---- Look's number
 

@@ -9,12 +9,15 @@ use rules::answer::image_told;
 use rules::code::BAD_CALL;
 use rules::kind::Told;
 use rules::kind::told_kind;
+use salvage::mend::WRONG_LENGTH;
+use salvage::mend::repair_image;
 use singly::answer_singly;
 ghost use mathlib.Core.Path.{_≡_};
 ghost use Rattle.rules.specs.Kinds.{toldKind};
 ghost use Rattle.rules.specs.Serves.{Did, buffers};
 ghost use Rattle.rules.specs.Told.{callTold, singlyTold, startTold, checkTold, lookTold};
 ghost use Rattle.locklist.specs.Start.{DidStart};
+ghost use Rattle.repair.specs.Salvage.{salvaged, salvageTold};
 
 // A call: the kind of drive, three numbers and four separate buffers in, A + 256 H out.
 #[no_mangle]
@@ -99,4 +102,17 @@ pub extern "C" fn mpm_look(kind: u32, user: u32, name: &[u8], number: u32, image
         return 0;
     };
     look_at(known, user, name, number, image) as u32
+}
+
+// Salvage of a damaged image: 0 done, 1 wrong length or unknown kind, 2 report buffer not of a byte for each entry. 1 and 2 change
+// nothing.
+#[no_mangle]
+pub extern "C" fn mpm_salvage(kind: u32, image: &mut [u8], report: &mut [u8]) -> u32
+    ensures { λ r. ⌜ salvaged r (now (image .exit)) (now (report .exit)) ≡ salvageTold (toldKind kind) (now (image .entry)) (now (report .entry)) ⌝ }
+{
+    let told = told_kind(kind);
+    let Told::Known(known) = told else {
+        return WRONG_LENGTH;
+    };
+    repair_image(known, image, report)
 }

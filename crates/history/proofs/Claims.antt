@@ -37,10 +37,16 @@ use Rattle.session.proofs.Session.{the-session}
 use Rattle.unlocking.proofs.All.{unlocking-told}
 use Rattle.unlocking.proofs.Tried.{wrong-unlocks}
 use Rattle.filling.proofs.Least.{least}
+use Rattle.repair.specs.Salvage.{salvageTold}
+use Rattle.repair.proofs.Cleaning.{repaired-sound}
+use Rattle.repair.proofs.Unchanged.{repaired-same, report-none}
+use Rattle.repair.proofs.Mends.{repaired-mends}
+use Rattle.repair.proofs.Report.{report-compares}
+use Rattle.repair.proofs.Outcome.{refused-nothing, good-answered, salvaged-twice}
 use Rattle.history.specs.History.{Ask, State, Engine, isWord, isPossible, isKept, lent, outcomeOf, withCount}
 use Rattle.history.specs.Deeds.{doneIn}
 use Rattle.history.specs.Demands.{NoTrace, Demand1, Demand2}
-use Rattle.history.specs.Claims.{Claims, KeepsContract, Refuses, ToldClaims, TheSession, LookClaims, CheckClaims, SizeClaims, AllClaims}
+use Rattle.history.specs.Claims.{Claims, KeepsContract, Refuses, ToldClaims, TheSession, LookClaims, CheckClaims, SizeClaims, SalvageClaims, AllClaims}
 use Rattle.history.proofs.First.{leaves-no-trace, counted-possible, fewer-possible}
 use Rattle.history.proofs.Alike.{meets-third}
 use Rattle.history.proofs.Unlocks.{unlock-order}
@@ -179,6 +185,18 @@ size-claims = record {
   renamed = size-renamed;
 }
 
+salvage-claims : SalvageClaims
+unfolding salvageTold
+salvage-claims = record {
+  refused = refused-nothing;
+  done = λ kind s r h l. good-answered kind s r l h;
+  sound = repaired-sound;
+  unchanged = λ kind s h. (repaired-same kind s h, report-none kind s h);
+  mends = repaired-mends;
+  reports = λ kind s h e l. report-compares kind s h e l;
+  twice = salvaged-twice;
+}
+
 -- every promise, of every engine that keeps the contract, and of the rules
 pub all-claims : AllClaims
 all-claims = record {
@@ -205,5 +223,6 @@ all-claims = record {
   checks = check-claims;
   unlocks = record { unlocking = unlocking-told; wrong-fall = wrong-unlocks };
   sizes = size-claims;
+  salvages = salvage-claims;
   least = least;
 }

@@ -6,7 +6,7 @@ use mathlib.Core.Bool.{true, false}
 use mathlib.Core.List.{List}
 use mathlib.Core.Logic.{_⊎_}
 use lib.ListN.{length, replicate}
-use Rattle.words.specs.Bytes.{areBytes}
+use Rattle.words.specs.Bytes.{byte, areBytes}
 use Rattle.words.specs.Tables.{_∕_, firstOf, anyRow}
 use Rattle.rules.specs.declared.kind.Kind.{Kind}
 use Rattle.rules.specs.declared.kind.Kind.the-variants.{Small, Large}
@@ -18,7 +18,7 @@ use Rattle.rules.specs.declared.kind.Told.the-variants.{Known}
 use Rattle.rules.specs.Kinds.{toldKind, entries}
 use Rattle.rules.specs.Serves.{Buffers, outcome, Did, chosen, listSize}
 use Rattle.rules.specs.declared.answer.ImageAnswer.{ImageAnswer}
-use Rattle.rules.specs.Drive.{entrySize, recordSize, fileFrom, extentAt, isOf, lookUp, soundImage, imageCheck, imageTold}
+use Rattle.rules.specs.Drive.{entrySize, recordSize, goodLength, fileFrom, extentAt, isOf, lookUp, soundImage, imageCheck, imageTold}
 use Rattle.rules.specs.Checks.{CheckTells}
 use Rattle.rules.specs.Locks.{pack, unpack, soundList, start}
 use Rattle.rules.specs.Call.{asked, rowsCall, effectOf, call}
@@ -31,6 +31,8 @@ use Rattle.session.specs.Session.{AsListed, session, firstImage, firstList}
 use Rattle.unlocking.specs.Unlocks.{locksTold, unlocksTold, Unlocking}
 use Rattle.unlocking.specs.Wrong.{WrongUnlocks}
 use Rattle.filling.specs.Least.{Least}
+use Rattle.repair.specs.Salvage.{salvaged, salvageTold, repaired, reportOf, compared}
+use Rattle.repair.specs.Mends.{Mends}
 use Rattle.history.specs.History.{Ask, State, Engine, isWord, EachCall, lent, outcomeOf, withCount}
 use Rattle.history.specs.Demands.{Demand1, Demand2, Demand3}
 use Rattle.history.specs.Unlocks.{UnlockOrder}
@@ -168,6 +170,23 @@ pub record SizeClaims : Type 0 where
   pub renamed : (kind : Kind) (n p c : ℕ) (b : Buffers) → anyRow (rowsCall kind n p c b) ≡ false → chosen n ≡ Call Rename
       → fileSize kind (call kind n p c b .left .image) (newFile p (unpack (b .list)) (b .fcb)) ≡ fileSize kind (b .image) (fileIn p b)
 
+-- T-08, "Salvage for damaged books", of what `mpm_salvage` promises, told whatever number; s is the image, r the report buffer as lent.
+pub record SalvageClaims : Type 0 where
+  -- "Refusals: 1 wrong image length, 2 report buffer not 64 bytes, both changing nothing"; else it is done
+  pub refused : (told : Told) (s r : List ℕ) → (salvageTold told s r .answer ≡ 0 → ⊥) → (salvageTold told s r .image ≡ s) × (salvageTold told s r .report ≡ r)
+  pub done : (kind : Kind) (s r : List ℕ) → goodLength kind s ≡ true → length r ≡ entries kind
+      → salvageTold (Known kind) s r ≡ salvaged 0 (repaired kind s) (reportOf kind s)
+  -- "The result is sound, a sound image is unchanged, and no byte changes but byte 0 of emptied entries and the zeroed map bytes."
+  pub sound : (kind : Kind) (s : List ℕ) → goodLength kind s ≡ true → soundImage kind (repaired kind s) ≡ true
+  pub unchanged : (kind : Kind) (s : List ℕ) → soundImage kind s ≡ true → (repaired kind s ≡ s) × (reportOf kind s ≡ replicate (entries kind) 0)
+  pub mends : (kind : Kind) (s : List ℕ) → goodLength kind s ≡ true → Mends kind s (repaired kind s)
+  -- "It reports for each of 64 entries 0 untouched, 255 emptied, else the number of map bytes zeroed": what comparing the images tells
+  pub reports : (kind : Kind) (s : List ℕ) → goodLength kind s ≡ true → (e : ℕ) → e < entries kind
+      → byte (reportOf kind s) e ≡ compared kind s (repaired kind s) e
+  -- + salvaged twice is salvaged once, the second report all zeros
+  pub twice : (kind : Kind) (s r : List ℕ) → goodLength kind s ≡ true → length r ≡ entries kind
+      → salvageTold (Known kind) (repaired kind s) r ≡ salvaged 0 (repaired kind s) (replicate (entries kind) 0)
+
 -- ---- All of it
 
 pub record AllClaims : Type 0 where
@@ -180,5 +199,6 @@ pub record AllClaims : Type 0 where
   pub checks : CheckClaims
   pub unlocks : UnlockClaims
   pub sizes : SizeClaims
+  pub salvages : SalvageClaims
   -- T-10: "Give also a sequence with one place fewer where one of them is": + for all limits and numbers of processes, so that the bound is the least.
   pub least : Least

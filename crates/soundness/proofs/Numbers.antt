@@ -101,7 +101,8 @@ number-fits Small n q b l = omega arith
 number-fits Large n q b l = omega arith
 
 module _ (kind : Kind) (s : List ℕ) (n q b : ℕ) (fits : 32 * n + 32 ≤ length s) (short : q < numbers kind) where
-  inside : mapAt kind n q + length (le (width kind) b) ≤ length s
+  -- .. so inside the image; ..
+  pub inside : mapAt kind n q + length (le (width kind) b) ≤ length s
   inside = let w = number-fits kind n q b short in omega arith
 
   -- .. bytes outside of the entry's map stay, ..

@@ -93,7 +93,7 @@ fn put_large(image: &mut [u8], e: usize, k: usize, block: usize)
 }
 
 // .. of either kind
-fn put_number(kind: Kind, image: &mut [u8], e: usize, k: usize, block: usize)
+pub fn put_number(kind: Kind, image: &mut [u8], e: usize, k: usize, block: usize)
     requires { ⌜ (32 * e + 32 ≤ length (now image)) × (k < numbers kind) ⌝ }
     ensures { λ _. ⌜ now (image .exit) ≡ put (mapAt kind e k) (le (width kind) block) (now (image .entry)) ⌝ }
 {

@@ -6,6 +6,7 @@ pub mod build;
 pub mod comparison;
 pub mod coverage;
 pub mod damage;
+pub mod desk;
 pub mod engine;
 pub mod faults;
 pub mod generate;

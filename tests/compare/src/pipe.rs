@@ -19,14 +19,14 @@ pub struct Pipe {
     running: Option<Running>,
 }
 
-struct Running {
+pub struct Running {
     child: Child,
     input: Option<ChildStdin>,
     output: Output,
 }
 
 /// What the child writes, read by a thread so that a silent child can be left.
-struct Output {
+pub struct Output {
     parts: Receiver<Vec<u8>>,
     part: Vec<u8>,
     used: usize,
@@ -67,7 +67,7 @@ fn watch(mut from: impl Read + Send + 'static) -> Output {
     }
 }
 
-fn begin(command: &[String]) -> io::Result<Running> {
+pub fn begin(command: &[String]) -> io::Result<Running> {
     let (program, arguments) = command
         .split_first()
         .ok_or(io::Error::new(io::ErrorKind::InvalidInput, "no command"))?;
@@ -96,10 +96,18 @@ impl Running {
         }
         let length = batch.len() as u32 - 4;
         batch[..4].copy_from_slice(&length.to_le_bytes());
+        self.write(&batch)
+    }
+
+    pub fn write(&mut self, bytes: &[u8]) -> io::Result<()> {
         match &mut self.input {
-            Some(input) => input.write_all(&batch).and_then(|()| input.flush()),
+            Some(input) => input.write_all(bytes).and_then(|()| input.flush()),
             None => Err(io::Error::other("the child has no input")),
         }
+    }
+
+    pub fn output(&mut self) -> &mut Output {
+        &mut self.output
     }
 
     fn run(&mut self, steps: &[&Step]) -> io::Result<Vec<Reply>> {

@@ -94,6 +94,29 @@ pub fn place_in_extent(record: u32) -> u32 {
     record % RECORDS_PER_EXTENT
 }
 
+/// The file and the extent of an entry that is good but for its map; None of an empty one.
+pub fn file_and_extent(entry: &[u8]) -> Result<Option<(File, u32)>, Reason> {
+    let user = entry[0];
+    if user == EMPTY {
+        return Ok(None);
+    }
+    if user > HIGHEST_USER {
+        return Err(Reason::User);
+    }
+    let name = Name::read(&entry[1..12]).ok_or(Reason::Name)?;
+    let (ex, module, count) = (entry[12], entry[14], entry[15]);
+    if ex >= EX_LIMIT || module >= MODULE_LIMIT || count > 128 {
+        return Err(Reason::Numbers);
+    }
+    let extent = u32::from(ex) + u32::from(EX_LIMIT) * u32::from(module);
+    Ok(Some((File { user, name }, extent)))
+}
+
+/// A number that a drive of so many blocks has for files.
+pub fn is_data_block(block: u16, blocks: usize) -> bool {
+    (FIRST_DATA_BLOCK..blocks).contains(&usize::from(block))
+}
+
 fn length_fault(kind: Kind, length: usize) -> Fault {
     match kind.other().blocks_of(length) {
         Some(_) => Fault::OtherKind,
@@ -128,28 +151,17 @@ impl Drive {
 
     /// Takes an entry in; those before it are good. `named` has the blocks that they name.
     fn take_in(&mut self, slot: usize, entry: &[u8], named: &mut [bool]) -> Result<(), Reason> {
-        let user = entry[0];
-        if user == EMPTY {
+        let Some((file, number)) = file_and_extent(entry)? else {
             self.empty_slots.insert(slot);
             return Ok(());
-        }
-        if user > HIGHEST_USER {
-            return Err(Reason::User);
-        }
-        let name_bytes = &entry[1..12];
-        let name = Name::read(name_bytes).ok_or(Reason::Name)?;
-        let (ex, module, count) = (entry[12], entry[14], entry[15]);
-        if ex >= EX_LIMIT || module >= MODULE_LIMIT || count > 128 {
-            return Err(Reason::Numbers);
-        }
+        };
         let extent = Extent {
             slot,
-            attributes: std::array::from_fn(|i| name_bytes[i] & HIGH_BIT),
-            count,
+            attributes: std::array::from_fn(|i| entry[1 + i] & HIGH_BIT),
+            count: entry[15],
             blocks: self.take_in_map(&entry[16..], named)?,
         };
-        let number = u32::from(ex) + u32::from(EX_LIMIT) * u32::from(module);
-        let extents = self.files.entry(File { user, name }).or_default();
+        let extents = self.files.entry(file).or_default();
         match extents.insert(number, extent) {
             None => Ok(()),
             Some(_) => Err(Reason::ExtentNamedBefore),
@@ -160,8 +172,10 @@ impl Drive {
     fn take_in_map(&mut self, map: &[u8], named: &mut [bool]) -> Result<Vec<(usize, u16)>, Reason> {
         let numbers = self.kind.numbers(map).enumerate();
         let blocks: Vec<(usize, u16)> = numbers.filter(|(_, block)| *block != 0).collect();
-        let is_data_block = |block: u16| (FIRST_DATA_BLOCK..self.block_count).contains(&usize::from(block));
-        if !blocks.iter().all(|(_, block)| is_data_block(*block)) {
+        if !blocks
+            .iter()
+            .all(|(_, block)| is_data_block(*block, self.block_count))
+        {
             return Err(Reason::BlockOutOfRange);
         }
         for &(_, block) in &blocks {

@@ -7,6 +7,7 @@ pub mod kind;
 pub mod locks;
 pub mod name;
 pub mod program;
+pub mod salvage;
 pub mod singly;
 
 pub use program::mpmcalls;
@@ -55,6 +56,20 @@ pub fn look(kind: u32, user: u32, name: &[u8], record: u32, image: &[u8]) -> Opt
     let name = Name::read(name)?;
     let block = drive.block(&File { user, name }, record)?;
     Some(drive.record_start(block, record))
+}
+
+/// 0 mended, with what was done to each entry in the report; 1 wrong length or unknown kind, 2 a report of wrong
+/// length, both changing nothing.
+pub fn salvage(kind: u32, image: &mut [u8], report: &mut [u8]) -> u32 {
+    let length = image.len();
+    let Some((kind, blocks)) = Kind::told(kind).and_then(|kind| Some((kind, kind.blocks_of(length)?))) else {
+        return 1;
+    };
+    if report.len() != kind.entries() {
+        return 2;
+    }
+    report.copy_from_slice(&salvage::mend(kind, blocks, &mut image[..kind.directory()]));
+    0
 }
 
 /// A + 256·H.

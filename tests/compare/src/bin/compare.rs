@@ -20,7 +20,7 @@ compare --replay FOLDER [ENGINE]
 compare --speed [--seed N]
 
 ENGINE   nothing: the reference itself
-         --linked: the five C symbols (feature `linked`, MPM_ARCHIVE)
+         --linked: the C symbols (feature `linked`, MPM_ARCHIVE)
          -- COMMAND [ARGUMENT...]: a child that speaks the pipe's protocol";
 
 const PROGRESS: Duration = Duration::from_secs(5);

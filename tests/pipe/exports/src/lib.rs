@@ -1,4 +1,4 @@
-//! The reference behind the engine's five C symbols, to try `pipe.c` and the feature `linked` with.
+//! The reference behind the engine's six C symbols, to try `pipe.c` and the feature `linked` with.
 
 use std::slice::{from_raw_parts, from_raw_parts_mut};
 
@@ -124,4 +124,17 @@ pub unsafe extern "C" fn mpm_look(
 ) -> u32 {
     let found = reference::look(kind, user, lent(name, name_len), record, lent(image, image_len));
     found.map_or(0, |at| at as u32)
+}
+
+/// # Safety
+/// The two buffers must be good for their lengths and separate.
+#[no_mangle]
+pub unsafe extern "C" fn mpm_salvage(
+    kind: u32,
+    image: *mut u8,
+    image_len: usize,
+    report: *mut u8,
+    report_len: usize,
+) -> u32 {
+    reference::salvage(kind, lent_mut(image, image_len), lent_mut(report, report_len))
 }

@@ -1,0 +1,201 @@
+//! Times the desk's functions on the images that are hardest for them, beside plain C, and holds each time against what
+//! it is to be measured by.
+
+use crate::books::{kind_title, Drive, Filling};
+use crate::measure::{book, BOOKS};
+use crate::report::goal;
+use compare::build::{image_of, Entry};
+use compare::desk::linked::by_linked;
+use compare::desk::What;
+use compare::engine::Engine;
+use compare::linked::Linked;
+use reference::kind::Kind;
+use std::time::Instant;
+
+/// Salvage may take so many times the image check of a full book.
+const SALVAGE_LIMIT: f64 = 5.0;
+
+extern "C" {
+    fn plain_salvage(kind: u32, image: *mut u8, image_len: usize, report: *mut u8, report_len: usize) -> u32;
+}
+
+/// Nanoseconds of one function on one sort of image: by the engine, by plain C, and what it is held against.
+struct Row {
+    what: String,
+    engine: f64,
+    plain: f64,
+    measure: f64,
+}
+
+impl Row {
+    fn ratio(&self) -> f64 {
+        self.engine / self.measure
+    }
+
+    fn line(&self) -> String {
+        let micro = |ns: f64| format!("{:.2} µs", ns / 1000.0);
+        let (engine, plain, measure) = (micro(self.engine), micro(self.plain), micro(self.measure));
+        let beside = self.engine / self.plain;
+        format!(
+            "| {} | {engine} | {plain} | {beside:.2} | {measure} | {:.2} |\n",
+            self.what,
+            self.ratio()
+        )
+    }
+}
+
+/// The shortest drive that a directory can fill; salvage reads no block behind it.
+fn drive(kind: Kind) -> Drive {
+    let blocks = match kind {
+        Kind::First => 256,
+        Kind::Second => 257,
+    };
+    Drive { kind, blocks }
+}
+
+/// The quickest of the rounds for one of so many jobs, which are made ready before each round.
+fn quickest<T>(rounds: usize, mut ready: impl FnMut() -> Vec<T>, mut job: impl FnMut(&mut T)) -> f64 {
+    let round = |_| {
+        let mut all = ready();
+        let began = Instant::now();
+        all.iter_mut().for_each(&mut job);
+        began.elapsed().as_nanos() as f64 / all.len() as f64
+    };
+    (0..rounds).map(round).fold(f64::INFINITY, f64::min)
+}
+
+/// The image check of a full book.
+fn full_check(drive: Drive, rounds: usize) -> f64 {
+    let books: Vec<Vec<u8>> = (0..BOOKS as u64)
+        .map(|seed| book(Filling::FullDirectory, drive, seed).image)
+        .collect();
+    let kind = drive.kind.number();
+    quickest(
+        rounds,
+        || books.clone(),
+        |image| {
+            std::hint::black_box(Linked.check(kind, image));
+        },
+    )
+}
+
+// ---- Salvage ----
+
+/// Names that differ in their last bytes alone.
+fn file(number: usize) -> Entry {
+    let mut name = *b"WHOLESALEAA";
+    name[9] += (number / 26) as u8;
+    name[10] += (number % 26) as u8;
+    Entry::of(0, name, 0).count(128)
+}
+
+/// Names of the same letters, each in another order.
+fn anagram(number: usize) -> Entry {
+    let mut name = *b"ABCDEFGHIJK";
+    let mut left = number;
+    for place in 1..8 {
+        name.swap(place, place + left % (11 - place));
+        left /= 11 - place;
+    }
+    Entry::of(0, name, 0).count(128)
+}
+
+fn with_map(kind: Kind, entry: Entry, number: impl Fn(usize) -> u16) -> Entry {
+    let places = 0..kind.numbers_per_entry();
+    places.fold(entry, |entry, place| entry.block_of(kind, place, number(place)))
+}
+
+/// Directories with every entry used, which salvage has most to do with.
+fn hardest(kind: Kind) -> Vec<(&'static str, Vec<Entry>)> {
+    let last = drive(kind).blocks as u16 - 1;
+    let all = |entry: &dyn Fn(usize) -> Entry| (0..kind.entries()).map(entry).collect::<Vec<Entry>>();
+    let half = kind.entries() / 2;
+    vec![
+        ("every entry a file, no block", all(&file)),
+        ("every name of the same letters", all(&anagram)),
+        ("one file, no block", all(&|e| file(0).extent(e as u32))),
+        (
+            "one file, extent 0 last",
+            all(&|e| file(0).extent((kind.entries() - 1 - e) as u32)),
+        ),
+        ("no file has an extent 0", all(&|e| file(e).extent(1))),
+        ("every extent twice", all(&|e| file(e % half))),
+        ("every entry the same", all(&|_| file(7))),
+        (
+            "every number names one block",
+            all(&|e| with_map(kind, file(e), |_| last)),
+        ),
+        (
+            "every number out of range",
+            all(&|e| with_map(kind, file(e), |_| 1)),
+        ),
+        (
+            "each block named by many, in two files",
+            all(&|e| {
+                with_map(kind, file(e % 2).extent(e as u32 / 2), |k| {
+                    2 + (e * 16 + k) as u16 % (last - 2)
+                })
+            }),
+        ),
+        (
+            "every name bad in its last byte",
+            all(&|e| file(e).with(11, 0x7F)),
+        ),
+    ]
+}
+
+fn salvages(kind: Kind, rounds: usize) -> Vec<Row> {
+    let drive = drive(kind);
+    let measure = full_check(drive, rounds);
+    let row = |(what, entries): (&str, Vec<Entry>)| {
+        let image = image_of(kind, drive.blocks, &entries);
+        let ready = || vec![(image.clone(), vec![0; kind.entries()]); BOOKS];
+        let engine = quickest(rounds, ready, |(image, report): &mut (Vec<u8>, Vec<u8>)| {
+            std::hint::black_box(by_linked(What::Salvage, kind.number(), &mut [image, report]));
+        });
+        let plain = quickest(rounds, ready, |(image, report): &mut (Vec<u8>, Vec<u8>)| {
+            // SAFETY: each pointer comes with the length of the slice it is taken from, and the slices are separate.
+            std::hint::black_box(unsafe {
+                plain_salvage(
+                    kind.number(),
+                    image.as_mut_ptr(),
+                    image.len(),
+                    report.as_mut_ptr(),
+                    report.len(),
+                )
+            });
+        });
+        Row {
+            what: format!("{}: {what}", kind_title(kind)),
+            engine,
+            plain,
+            measure,
+        }
+    };
+    hardest(kind).into_iter().map(row).collect()
+}
+
+fn table(title: &str, measure: &str, rows: &[Row], limit: f64, words: &str) -> String {
+    let head = format!(
+        "\n**{title}**\n\n| image | engine | plain C | engine / C | {measure} | engine / that |\n|---|---|---|---|---|---|\n"
+    );
+    let lines: String = rows.iter().map(Row::line).collect();
+    let ratios: Vec<(String, f64)> = rows.iter().map(|row| (row.what.clone(), row.ratio())).collect();
+    let goals = "\n| goal | highest | missed by |\n|---|---|---|\n";
+    format!("{head}{lines}{goals}{}", goal(words, &ratios, limit))
+}
+
+/// All tables.
+pub fn measure(rounds: usize) -> String {
+    let salvages: Vec<Row> = Kind::ALL
+        .into_iter()
+        .flat_map(|kind| salvages(kind, rounds))
+        .collect();
+    table(
+        "Salvage",
+        "image check of a full book",
+        &salvages,
+        SALVAGE_LIMIT,
+        &format!("salvage on the hardest image at most {SALVAGE_LIMIT} times the image check of a full book"),
+    )
+}

@@ -1,0 +1,4 @@
+-- The proofs of `salvage`.
+pub mod Emptied
+pub mod Zeroed
+pub mod Ends
