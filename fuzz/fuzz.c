@@ -283,6 +283,31 @@ static uint32_t check_kind(const struct call *c, uint32_t kind, const struct buf
     return check;
 }
 
+/* The book packed, whatever image and list are: the answer and the bytes of the plain C version, and image and list as
+   they were. */
+static void check_pack(const struct call *c, const struct state *before) {
+    const struct buffer *image = &before->of[IMAGE], *list = &before->of[LIST];
+    struct buffer packed = new_buffer(image->length), plain = new_buffer(image->length);
+    struct buffer copy = new_buffer(image->length), old = new_buffer(list->length);
+    memset(packed.bytes, 0xAA, packed.length);
+    memset(plain.bytes, 0xAA, plain.length);
+    memcpy(copy.bytes, image->bytes, image->length);
+    memcpy(old.bytes, list->bytes, list->length);
+    uint32_t answer =
+        mpm_pack(c->kind, image->bytes, image->length, list->bytes, list->length, packed.bytes, packed.length);
+    want(same_bytes(image, &copy) && same_bytes(list, &old), c, "packing has changed the image or the list");
+    want(answer == plain_pack(c->kind, image->bytes, image->length, list->bytes, list->length, plain.bytes,
+                              plain.length),
+         c, "the plain C version of packing gives another answer");
+    want(same_bytes(&packed, &plain), c, "the plain C version packs otherwise");
+    want(answer != MPM_OK || mpm_check(c->kind, packed.bytes, packed.length) == MPM_CHECK_SOUND, c,
+         "a packed book is not sound");
+    free(packed.memory);
+    free(plain.memory);
+    free(copy.memory);
+    free(old.memory);
+}
+
 /* On copies: an image that is not sound is after salvage, and the plain C version leaves the same bytes. */
 static void check_salvage(const struct call *c, uint32_t kind, const struct buffer *image) {
     struct buffer ours = new_buffer(image->length), plain = new_buffer(image->length);
@@ -309,6 +334,7 @@ static void check_image(const struct call *c, const struct state *before) {
     uint32_t check = check_kind(c, c->kind, image), other = check_kind(c, other_kind(c->kind), image);
     want(check == MPM_CHECK_WRONG_LENGTH || other == MPM_CHECK_WRONG_LENGTH, c, "an image is one of both kinds");
     if (check != MPM_CHECK_SOUND) check_salvage(c, c->kind, image);
+    if (c->function == MPM_FN_FREE_SPACE || c->function == MPM_FN_TERMINATE) check_pack(c, before);
     if (c->answer == MPM_ERR_BAD_CALL) return;
     want((c->answer == MPM_ERR_BAD_IMAGE) == (check != MPM_CHECK_SOUND), c, "the image check says otherwise");
 }

@@ -169,9 +169,12 @@ selftest() {
         "ONE_DMA_RECORD has one place in the DMA" "CLEARS_AGAIN clears what it wrote" "MOVES_FCB moves the FCB on"
         "EARLIER_ENTRY charges a repeat to the earlier entry" "REPEAT_FIRST tells 6 before 5 in an entry"
         "EXTENT_0_IN_TURN tells 8 in its entry's turn" "LENGTH_OF_ENTRY_1 tells entry 1 for a wrong length")
-    local salvages=("DOES_NOTHING mends nothing" "REPORT_ONE_OFF reports one entry off"
+    local desks=("DOES_NOTHING mends nothing" "REPORT_ONE_OFF reports one entry off"
         "BYTE_1_TOO changes byte 1 of an emptied entry" "WRONG_LENGTH_TOUCHED touches an image of wrong length"
-        "WRITES_BEHIND_THE_REPORT writes behind the report" "LAST_ENTRY_LEFT_OUT leaves out the last entry")
+        "WRITES_BEHIND_THE_REPORT writes behind the report" "LAST_ENTRY_LEFT_OUT leaves out the last entry"
+        "PACKS_NOTHING packs nothing" "LAST_BLOCK_LEFT leaves bytes in a free block"
+        "EMPTY_IN_BYTE_0 empties entries in byte 0 alone" "CHANGES_THE_IMAGE packs in place"
+        "WRITES_BEHIND_THE_PACKED writes behind the packed book" "PACKS_WHILE_OPEN packs while a file is open")
     local n fault
     for n in "${!stubs[@]}"; do
         compile bad.o -DSTUB=$((n + 1)) "$root/tests/pipe/stub.c"
@@ -182,8 +185,8 @@ selftest() {
         compile bad.o -DSPOILED="${fault%% *}" "$here/spoiled.c"
         finds "${fault#* }" bad-fuzz.o bad.o engine1.o
     done
-    compile bad-fuzz.o -Dmpm_salvage=wrong_salvage "$here/fuzz.c"
-    for fault in "${salvages[@]}"; do
+    compile bad-fuzz.o -Dmpm_salvage=wrong_salvage -Dmpm_pack=wrong_pack "$here/fuzz.c"
+    for fault in "${desks[@]}"; do
         compile bad.o -DWRONG="${fault%% *}" "$root/tests/pipe/wrong_desk.c"
         finds "${fault#* }" bad-fuzz.o bad.o engine1.o
     done

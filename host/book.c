@@ -6,10 +6,12 @@
      book size IMAGE [USER:]NAME..     for each file, of user 0 unless said, one line with its size
      book salvage IMAGE -o NEW         mends a damaged image: a line for each entry that was touched, and one with the
                                        totals. Of a sound one NEW is a copy.
+     book pack IMAGE -o NEW            the same files with their entries and blocks at the lowest places: one line with
+                                       how many of them were moved
 
    Exit status: 0 if all images are sound and all files there, 1 if one is not, for salvage: if it was not and NEW is.
    2 for an image that cannot be read or mended, a new file that cannot be made or was there already, a word that is no
-   file's name and for wrong use. Then there is no NEW. */
+   file's name and for wrong use. NEW is made with status 0, and by salvage with 1. */
 
 #define _XOPEN_SOURCE 700
 #include "mpm.h"
@@ -285,13 +287,18 @@ static uint32_t user_of(const char *word, const char **name) {
     return 0;
 }
 
-/* A list on which every process is this user, for one call. The image stays as it is: 35 writes the FCB alone. */
+/* A fresh list on which every process is this user. */
+static uint32_t start_list(const struct image *image, uint32_t user, uint8_t *list) {
+    uint8_t users[MPM_USERS_LEN];
+    memset(users, (int)user, sizeof users);
+    return mpm_start(image->kind, 1, 1, 1, users, sizeof users, list, MPM_LIST_LEN);
+}
+
+/* The image stays as it is: 35 writes the FCB alone. */
 static uint32_t ask_size(const struct image *image, uint32_t user, uint8_t *fcb) {
     static uint8_t list[MPM_LIST_LEN], dma[MPM_DMA_LEN];
-    uint8_t users[MPM_USERS_LEN];
     struct mpm_book book = {image->kind, list, sizeof list, image->bytes, image->length};
-    memset(users, (int)user, sizeof users);
-    uint32_t answer = mpm_start(image->kind, 1, 1, 1, users, sizeof users, list, sizeof list);
+    uint32_t answer = start_list(image, user, list);
     return answer == MPM_OK ? mpm_book_call(&book, MPM_FN_SIZE, 0, 1, fcb, dma) : answer;
 }
 
@@ -401,6 +408,56 @@ static int salvage(int count, char **words) {
     return status == DONE ? say_salvaged(&before, &after, report) : status;
 }
 
+/* ---- Packing ---- */
+
+static uint32_t blocks_in(const struct image *image, uint32_t entry) {
+    uint32_t blocks = 0;
+    for (uint32_t k = 0; k < mpm_numbers(image->kind); k++) blocks += number_at(image, entry, k) != 0;
+    return blocks;
+}
+
+static uint32_t blocks_moved(const struct image *before, uint32_t from, const struct image *after, uint32_t to) {
+    uint32_t moved = 0;
+    for (uint32_t k = 0; k < mpm_numbers(before->kind); k++)
+        moved += number_at(before, from, k) != number_at(after, to, k);
+    return moved;
+}
+
+/* The used entries stand one behind the other in the packed image, in the same order. */
+static void say_packed(const struct image *before, const struct image *after) {
+    uint32_t entries = 0, moved = 0, blocks = 0, blocks_gone = 0;
+    for (uint32_t e = 0; e < mpm_entries(before->kind); e++) {
+        if (!is_used(before, e)) continue;
+        blocks += blocks_in(before, e);
+        blocks_gone += blocks_moved(before, e, after, entries);
+        moved += e != entries;
+        entries++;
+    }
+    printf("%s: %u of ", before->path, (unsigned)moved);
+    say_many(entries, "entry and ", "entries and ");
+    printf("%u of ", (unsigned)blocks_gone);
+    say_many(blocks, "block moved", "blocks moved");
+    printf("; packed in %s\n", after->path);
+}
+
+/* Of an image that is not sound only that is said. */
+static int pack(int count, char **words) {
+    static uint8_t list[MPM_LIST_LEN];
+    struct image before, after;
+    (void)count;
+    if (!is_output(words)) return wrong_use();
+    if (!load(&before, words[0])) return fail(words[0], "cannot be read");
+    if (mpm_check(before.kind, before.bytes, before.length) != MPM_CHECK_SOUND) return check_image(&before);
+    after = before, after.path = words[2], after.bytes = made;
+    uint32_t answer = start_list(&before, 0, list);
+    if (answer == MPM_OK)
+        answer = mpm_pack(before.kind, before.bytes, before.length, list, sizeof list, made, before.length);
+    if (answer != MPM_OK) return fail(before.path, mpm_answer_text(0, answer));
+    int status = keep(after.path, made, after.length);
+    if (status == DONE) say_packed(&before, &after);
+    return status;
+}
+
 /* ---- The program ---- */
 
 static const struct verb {
@@ -413,6 +470,7 @@ static const struct verb {
     {"check", "IMAGE..", 1, 0, check_all},
     {"size", "IMAGE [USER:]NAME..", 2, 0, size_all},
     {"salvage", "IMAGE -o NEW", 3, 3, salvage},
+    {"pack", "IMAGE -o NEW", 3, 3, pack},
 };
 
 static int wrong_use(void) {

@@ -1,5 +1,5 @@
 """The desk's program on images that are damaged in each way, on both kinds of drive: one line for each, as it has to
-be, and its exit status; the sizes that it tells; what it mends, to the byte.
+be, and its exit status; the sizes that it tells; what it mends and what it packs, to the byte.
 
 book.py FOLDER BOOK..
 
@@ -138,6 +138,11 @@ class Desk:
                 if got != wanted:
                     print(f"FAULT: said {got!r}, not {wanted!r}")
             print(f"FAULT: book {' '.join(words)[:80]}: exit status {done.returncode}, to be {status} {done.stderr}")
+            sys.exit(1)
+
+    def has_not_made(self, path):
+        if os.path.exists(path):
+            print(f"FAULT: {path} was made of an image that is not sound")
             sys.exit(1)
 
     def has_kept(self, path, content):
@@ -324,18 +329,75 @@ def cannot_be_mended(desk):
         desk.says(["salvage", path, "-o", new], [f"{path}: {line}"], FAILED)
     for missing in (os.path.join(desk.folder, "none"), desk.folder):
         desk.says(["salvage", missing, "-o", new], [f"{missing}: cannot be read"], FAILED)
-    if os.path.exists(new):
-        print(f"FAULT: {new} was made of an image that cannot be mended")
-        sys.exit(1)
+    desk.has_not_made(new)
 
 
-VERBS = ("check IMAGE..", "size IMAGE [USER:]NAME..", "salvage IMAGE -o NEW")
+def block(kind, number):
+    """Bytes that no other block has, from one record to the next too."""
+    return b"".join(f"block {number:4} record {i:2} ".encode().ljust(128, b".") for i in range(kind.block // 128))
+
+
+def scattered(kind):
+    """Entries and blocks here and there, holes, what deleted files have left; and the book that it has to become."""
+    before, after = bytearray(b"\xe5") * kind.length(), bytearray(b"\xe5") * kind.length()
+    after[ENTRY * kind.entries :] = bytes(kind.length() - ENTRY * kind.entries)
+    before[ENTRY * 3 : ENTRY * 4] = entry(0xE5, "GONE", 0, 9)
+    before[ENTRY * kind.entries :] = b"\x77" * (kind.length() - ENTRY * kind.entries)
+    files = [
+        (0, entry(0, "FIRST"), {0: 2, 1: 9}),
+        (4, entry(3, "B.DAT", 40, 128), {kind.numbers - 1: 61, 2: 3}),
+        (9, entry(3, "A.DAT", 0, 0), {}),
+        (kind.entries - 1, entry(3, "B.DAT", 0, 1), {0: 30}),
+    ]
+    files[1][1][1 + 8] |= 0x80
+    files[1][1][13] = 99
+    number, moved = 2, 0
+    for to, (at, bytes_of, blocks) in enumerate(files):
+        was, is_now = bytearray(bytes_of), bytearray(bytes_of)
+        for index, old in sorted(blocks.items()):
+            for bytes_to, value in ((was, old), (is_now, number)):
+                place = 16 + kind.width * index
+                bytes_to[place : place + kind.width] = value.to_bytes(kind.width, "little")
+            before[kind.block * old : kind.block * (old + 1)] = block(kind, old)
+            after[kind.block * number : kind.block * (number + 1)] = block(kind, old)
+            moved += old != number
+            number += 1
+        before[ENTRY * at : ENTRY * (at + 1)] = was
+        after[ENTRY * to : ENTRY * (to + 1)] = is_now
+    return before, after, f"3 of 4 entries and {moved} of {number - 2} blocks moved"
+
+
+def packs(desk, kind):
+    before, after, moved = scattered(kind)
+    path, new, again = desk.keep(before), desk.new(), desk.new()
+    desk.says(["pack", path, "-o", new], [f"{path}: {moved}; packed in {new}"], DONE)
+    desk.has_kept(path, before)
+    desk.has_kept(new, after)
+    desk.says(["check", new], [f"{new}: sound"], DONE)
+    desk.says(["pack", new, "-o", again], [f"{new}: 0 of 4 entries and 0 of 5 blocks moved; packed in {again}"], DONE)
+    desk.has_kept(again, after)
+    empty, new = desk.keep(b"\xe5" * kind.length()), desk.new()
+    desk.says(["pack", empty, "-o", new], [f"{empty}: 0 of 0 entries and 0 of 0 blocks moved; packed in {new}"], DONE)
+    directory = ENTRY * kind.entries
+    desk.has_kept(new, b"\xe5" * directory + bytes(kind.length() - directory))
+    one, new = desk.keep(b"\xe5" * ENTRY * 2 + entry(0, "ONE") + b"\xe5" * (kind.length() - ENTRY * 3)), desk.new()
+    desk.says(["pack", one, "-o", new], [f"{one}: 1 of 1 entry and 0 of 0 blocks moved; packed in {new}"], DONE)
+    bad, new = desk.keep(Image(kind).poke(9, 15, 129).bytes), desk.new()
+    line = f"{bad}: entry 9, BUDGET.DAT of user 3: its record count is 129, over 128"
+    desk.says(["pack", bad, "-o", new], [line], NOT_SO)
+    short = desk.keep(bytes(100))
+    desk.says(["pack", short, "-o", new], [f"{short}: 100 bytes, no drive's length"], NOT_SO)
+    desk.has_not_made(new)
+    writes_over_nothing(desk, "pack", before)
+
+
+VERBS = ("check IMAGE..", "size IMAGE [USER:]NAME..", "salvage IMAGE -o NEW", "pack IMAGE -o NEW")
 
 
 def wrong_use(desk):
     use = "".join(f"use: book {verb}\n" for verb in VERBS)
     bad = [[], ["check"], ["chekc", "x"], ["-h"], ["size"], ["size", "x"]]
-    for verb in ("salvage",):
+    for verb in ("salvage", "pack"):
         bad += [[verb], [verb, "x"], [verb, "x", "-o"], [verb, "x", "y", "z"], [verb, "x", "-o", "y", "z"]]
     for words in bad:
         desk.says(words, [], FAILED, use)
@@ -349,6 +411,7 @@ def main():
     for kind in (SMALL, LARGE):
         sizes(desk, kind)
         salvages(desk, kind)
+        packs(desk, kind)
     cannot_be_mended(desk)
     wrong_use(desk)
     print(f"book says what it has to of {desk.images} images")

@@ -17,6 +17,7 @@ typedef uint32_t start_type(uint32_t, uint32_t, uint32_t, uint32_t, const uint8_
 typedef uint32_t check_type(uint32_t, const uint8_t *, size_t);
 typedef uint32_t look_type(uint32_t, uint32_t, const uint8_t *, size_t, uint32_t, const uint8_t *, size_t);
 typedef uint32_t salvage_type(uint32_t, uint8_t *, size_t, uint8_t *, size_t);
+typedef uint32_t pack_type(uint32_t, const uint8_t *, size_t, const uint8_t *, size_t, uint8_t *, size_t);
 typedef uint32_t book_call_type(struct mpm_book *, uint32_t, uint32_t, uint32_t, uint8_t *, uint8_t *);
 
 extern call_type *const header_call;
@@ -25,6 +26,7 @@ extern start_type *const header_start;
 extern check_type *const header_check;
 extern look_type *const header_look;
 extern salvage_type *const header_salvage;
+extern pack_type *const header_pack;
 extern book_call_type *const header_book_call;
 call_type *const header_call = mpm_call;
 call_type *const header_singly = mpm_singly;
@@ -32,6 +34,7 @@ start_type *const header_start = mpm_start;
 check_type *const header_check = mpm_check;
 look_type *const header_look = mpm_look;
 salvage_type *const header_salvage = mpm_salvage;
+pack_type *const header_pack = mpm_pack;
 book_call_type *const header_book_call = mpm_book_call;
 
 /* An array type cannot have a negative size. */

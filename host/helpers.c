@@ -175,7 +175,7 @@ static void try_book(void) {
     image[MPM_ENTRY_LEN] = 16;
     uint32_t check = mpm_check(book.kind, image, sizeof image);
     want(mpm_check_code(check) == MPM_CHECK_BAD_USER && mpm_check_entry(check) == 1, "entry 1 has a bad user byte");
-    static uint8_t report[MPM_SMALL_ENTRIES];
+    static uint8_t report[MPM_SMALL_ENTRIES], packed[sizeof image];
     want(mpm_salvage(book.kind, image, sizeof image, report, 1) == MPM_SALVAGE_WRONG_REPORT, "a short report is taken");
     want(mpm_salvage(MPM_KINDS, image, sizeof image, report, mpm_entries(book.kind)) == MPM_SALVAGE_WRONG_LENGTH,
          "an unknown kind is mended");
@@ -183,6 +183,13 @@ static void try_book(void) {
     want(mpm_salvage(book.kind, image, sizeof image, report, mpm_entries(book.kind)) == MPM_SALVAGE_DONE, "it is mended");
     want(report[0] == MPM_SALVAGE_UNTOUCHED && report[1] == MPM_SALVAGE_EMPTIED, "entry 1 was emptied");
     want(mpm_check(book.kind, image, sizeof image) == MPM_CHECK_SOUND, "a mended image is sound");
+    book.list_len++;
+    want(mpm_pack(book.kind, image, sizeof image, list, sizeof list, packed, sizeof packed) == MPM_ERR_IN_USE,
+         "a book is packed while a file is open");
+    want(mpm_book_call(&book, MPM_FN_TERMINATE, 3, 1, fcb, dma) == MPM_OK, "the process is ended");
+    want(mpm_pack(book.kind, image, sizeof image, list, sizeof list, packed, 1024) == MPM_ERR_BAD_CALL, "another length");
+    want(mpm_pack(book.kind, image, sizeof image, list, sizeof list, packed, sizeof packed) == MPM_OK, "it is packed");
+    want(mpm_look(book.kind, 0, fcb + 1, 11, 7, packed, sizeof packed) == 2 * 1024 + 7 * 128, "Look shows the record");
 }
 
 /* ---- The capacity ---- */

@@ -12,6 +12,7 @@ enum { MOST = 16384, LONGEST = MPM_LARGE_MIN_BLOCKS * MPM_LARGE_BLOCK_LEN };
 size_t stack_of(void (*function)(void));
 
 static uint8_t fcb[MPM_FCB_LEN], dma[MPM_DMA_LEN], list[MPM_LIST_LEN], image[LONGEST], report[MPM_LARGE_ENTRIES];
+static uint8_t packed[LONGEST];
 static const uint8_t users[MPM_USERS_LEN] = {0};
 static struct mpm_book book;
 static uint32_t function, process, count, answer;
@@ -26,6 +27,9 @@ static void look(void) {
 }
 static void salvage(void) {
     answer = mpm_salvage(book.kind, book.image, book.image_len, report, mpm_entries(book.kind));
+}
+static void pack(void) {
+    answer = mpm_pack(book.kind, book.image, book.image_len, book.list, book.list_len, packed, book.image_len);
 }
 static void call(void) { answer = mpm_book_call(&book, function, process, count, fcb, dma); }
 static void singly(void) {
@@ -83,7 +87,7 @@ static int measure_kind(uint32_t kind, size_t image_len) {
            mpm_set_fcb(fcb, "OLD.DAT", MPM_MODE_LOCKED) == MPM_NAMING_OK &&
            measure_call("19 Delete", MPM_FN_DELETE, 1, 1, call) &&
            measure_call("22 Make", MPM_FN_MAKE, 1, 1, call) &&
-           measure_call("19 Delete, open by the caller", MPM_FN_DELETE, 1, 1, call);
+           measure_call("19 Delete, open by the caller", MPM_FN_DELETE, 1, 1, call) && measure("mpm_pack", pack);
 }
 
 int main(void) {

@@ -3,8 +3,8 @@
 # With the kit: mpm.h as C and as C++, its helpers; a host outside the repository, made with what install.sh installs;
 # the story on each kind of drive against expected.sh, and the story over bad engines, which it must not take for good
 # ones (the plain engine of a bad one is as bad, so that the two do not give each other away); the desk's program on
-# images damaged in each way, and over bad image checks and bad salvages; saving on a disk that fails and a machine that
-# stops; the
+# images damaged in each way, and over bad image checks, bad salvages and bad packers; saving on a disk that fails and a
+# machine that stops; the
 # minimal host on a full disk, in a read-only folder and killed 50 times. Beside the kit it wants pkg-config, python3
 # and, on x86-64, a C compiler.
 # With ARCHIVE, an engine for this machine's own processor (of machine/native.sh, or the reference of
@@ -106,8 +106,8 @@ sees_a_bad_answer() { # SPOILED
         ends_with 1 says_what_is_bad "$run" "$work/bad"
 }
 
-sees_a_bad_salvage() { # WRONG
-    kit_clang -std=c99 -O2 -fPIC -Dmpm_salvage=wrong_salvage -c "$here/book.c" -o "$work/bad.o" &&
+sees_a_bad_desk() { # WRONG
+    kit_clang -std=c99 -O2 -fPIC -Dmpm_salvage=wrong_salvage -Dmpm_pack=wrong_pack -c "$here/book.c" -o "$work/bad.o" &&
         kit_clang -std=c99 -O2 -fPIC "${warnings[@]}" -DWRONG="$1" -c "$wrong_desk" -o "$work/wrong.o" &&
         kit_link "$work/bad" "$work/bad.o" "$work/wrong.o" "$archive" &&
         ends_with 1 says_what_is_bad "$run" "$work/bad"
@@ -230,9 +230,12 @@ with_the_kit() {
     try "a size without the module is seen" sees_a_bad_answer SIZE_BY_EX
     try "a size by the count of extent 0 is seen" sees_a_bad_answer SIZE_BY_COUNT_0
     try "a size in two bytes is seen" sees_a_bad_answer SIZE_IN_TWO_BYTES
-    try "a salvage that does nothing is seen" sees_a_bad_salvage DOES_NOTHING
-    try "a salvage whose report is one entry off is seen" sees_a_bad_salvage REPORT_ONE_OFF
-    try "a salvage that changes byte 1 too is seen" sees_a_bad_salvage BYTE_1_TOO
+    try "a salvage that does nothing is seen" sees_a_bad_desk DOES_NOTHING
+    try "a salvage whose report is one entry off is seen" sees_a_bad_desk REPORT_ONE_OFF
+    try "a salvage that changes byte 1 too is seen" sees_a_bad_desk BYTE_1_TOO
+    try "packing that does nothing is seen" sees_a_bad_desk PACKS_NOTHING
+    try "packing that leaves bytes in a free block is seen" sees_a_bad_desk LAST_BLOCK_LEFT
+    try "packing that empties entries in byte 0 alone is seen" sees_a_bad_desk EMPTY_IN_BYTE_0
 }
 
 with_the_system() { # ARCHIVE

@@ -1,6 +1,6 @@
 /* The engine's C interface: the files of MP/M II programs, on one drive that sixteen processes share.
 
-   The engine is six functions on numbers and lent bytes. It keeps nothing between two calls: the drive is the bytes of
+   The engine is seven functions on numbers and lent bytes. It keeps nothing between two calls: the drive is the bytes of
    the image, who has opened and locked what is the bytes of the list, and both are the host's.
 
    A drive is of one of two kinds, small or large. Nothing in the image says which: every function is told, and an image
@@ -17,7 +17,7 @@
    - Each pointer is valid for the length given with it. With a length of 0 it may be any pointer.
    - The buffers of one call do not overlap, and nobody else uses them until it returns.
 
-   Below stand the six functions and a book in one struct, then by name the fourteen calls, the answers, the sizes and
+   Below stand the seven functions and a book in one struct, then by name the fourteen calls, the answers, the sizes and
    the places in the buffers, and last the few helpers that every host writes. docs/INTEGRATION.md tells the rest. */
 #ifndef MPM_H
 #define MPM_H
@@ -91,6 +91,17 @@ uint32_t mpm_look(uint32_t kind, uint32_t user, const uint8_t *name, size_t name
    nothing has changed. */
 uint32_t mpm_salvage(uint32_t kind, uint8_t *image, size_t image_len, uint8_t *report, size_t report_len);
 
+/* Packs a book: writes the same files into a second buffer of the image's length. Used entries move to the lowest places
+   in their order, and blocks are numbered from 2 in the order in which a walk over these entries and their block numbers
+   meets them; empty entries are E5h throughout, free blocks zeros. An entry moves as it is, but for its block numbers:
+   attributes, counts and holes stay, and Look shows the same of every record. Packing twice is packing once. The image
+   and the list stay as they are; with a file open it is refused.
+   Gives A + 256 H: MPM_OK; or, in this order, MPM_ERR_BAD_CALL where the kind is unknown, list_len is not 1,299 or
+   packed_len is not image_len, MPM_ERR_BAD_IMAGE, MPM_ERR_BAD_LIST, or MPM_ERR_IN_USE where the list holds an open, of
+   any process; and then the second buffer is as it was. */
+uint32_t mpm_pack(uint32_t kind, const uint8_t *image, size_t image_len, const uint8_t *list, size_t list_len,
+                  uint8_t *packed, size_t packed_len);
+
 /* ---- A book in one struct ---- */
 
 /* The buffers of a book that outlive a call. They belong together: a list fits the image that it was used with. Buffers
@@ -162,7 +173,7 @@ static inline uint32_t mpm_book_call(struct mpm_book *book, uint32_t function, u
 /* 143: takes away all opens and locks of a process, as for a program that died. No refusal of its own. */
 #define MPM_FN_TERMINATE 143u
 
-/* ---- Answers of mpm_call, mpm_singly and mpm_start: A + 256 H. After each A/H, which function gives it when ---- */
+/* ---- Answers of calls, mpm_start and mpm_pack: A + 256 H. After each A/H, which function gives it when ---- */
 
 #define MPM_ANSWER(a, h) ((a) + 256u * (h))
 
@@ -184,7 +195,8 @@ static inline uint32_t mpm_done(uint32_t answer, uint32_t count) {
 
 /* Tested first, in this order, before any record.
    255/13: unknown kind of drive, unknown function, process over 15, count outside 1 to 16, FCB, DMA or list of wrong
-           length; start: unknown kind, a number or a user out of range, users or list of wrong length */
+           length; start: unknown kind, a number or a user out of range, users or list of wrong length; pack: unknown
+           kind, list of wrong length, second buffer of another length than the image */
 #define MPM_ERR_BAD_CALL MPM_ANSWER(255u, 13u)
 /* 255/1: image not sound, as one of the told kind; a length that this kind does not have, too */
 #define MPM_ERR_BAD_IMAGE MPM_ANSWER(255u, 1u)
@@ -201,7 +213,7 @@ static inline uint32_t mpm_done(uint32_t answer, uint32_t count) {
 /* 255/3: 19, 23: the file has the read-only attribute; 34, 40, 41: it has, or the caller has it open read-only */
 #define MPM_ERR_READ_ONLY MPM_ANSWER(255u, 3u)
 /* 255/5: 15: the caller has it open in another mode, or another process's open cannot stand beside this one;
-          19: another process has it open; 23: open by anybody, the caller too */
+          19: another process has it open; 23: open by anybody, the caller too; pack: some file is open */
 #define MPM_ERR_IN_USE MPM_ANSWER(255u, 5u)
 /* 255/6: 16: the caller has it not open */
 #define MPM_ERR_CLOSE_NOT_OPEN MPM_ANSWER(255u, 6u)
@@ -520,7 +532,7 @@ static inline uint32_t mpm_set_fcb(uint8_t *fcb, const char *text, uint32_t mode
     OF(MPM_ERR_LOCK_LIST_FULL, "The lock list is full: there is no room for these locks.")
 
 /* The name of an answer and one plain sentence for it, whatever number of records it tells. The function is asked for
-   since Make's 255/0 is another than Open's; for mpm_start it is 0. */
+   since Make's 255/0 is another than Open's; for mpm_start and mpm_pack it is 0. */
 static inline const char *mpm_answer_name(uint32_t function, uint32_t answer) {
     if (function == MPM_FN_MAKE && answer == MPM_ERR_NO_EMPTY_ENTRY) return "MPM_ERR_NO_EMPTY_ENTRY";
     switch (mpm_code(answer)) {

@@ -6,17 +6,31 @@ use crate::measure::{book, BOOKS};
 use crate::report::goal;
 use compare::build::{image_of, Entry};
 use compare::desk::linked::by_linked;
+use compare::desk::packs::fresh_list;
 use compare::desk::What;
 use compare::engine::Engine;
 use compare::linked::Linked;
+use reference::calls::{Buffers, Numbers, DMA_LENGTH};
 use reference::kind::Kind;
 use std::time::Instant;
 
 /// Salvage may take so many times the image check of a full book.
 const SALVAGE_LIMIT: f64 = 5.0;
+/// Packing is to take as long as both checks and so many copies of the image.
+const PACK_COPIES: f64 = 3.0;
 
 extern "C" {
     fn plain_salvage(kind: u32, image: *mut u8, image_len: usize, report: *mut u8, report_len: usize) -> u32;
+
+    fn plain_pack(
+        kind: u32,
+        image: *mut u8,
+        image_len: usize,
+        list: *const u8,
+        list_len: usize,
+        packed: *mut u8,
+        packed_len: usize,
+    ) -> u32;
 }
 
 /// Nanoseconds of one function on one sort of image: by the engine, by plain C, and what it is held against.
@@ -175,6 +189,112 @@ fn salvages(kind: Kind, rounds: usize) -> Vec<Row> {
     hardest(kind).into_iter().map(row).collect()
 }
 
+// ---- Packing ----
+
+/// The image check and the list check, as a call makes them that does nothing else: 143 of a process that holds
+/// nothing.
+fn both_checks(drive: Drive, books: &[Vec<u8>], list: &[u8], rounds: usize) -> f64 {
+    let numbers = Numbers {
+        kind: drive.kind.number(),
+        function: 143,
+        process: 0,
+        count: 1,
+    };
+    let (mut fcb, mut dma, mut list) = (vec![0; 36], vec![0; DMA_LENGTH], list.to_vec());
+    quickest(
+        rounds,
+        || books.to_vec(),
+        |image| {
+            let buffers = Buffers {
+                fcb: &mut fcb,
+                dma: &mut dma,
+                list: &mut list,
+                image,
+            };
+            assert_eq!(
+                std::hint::black_box(Linked.call(numbers, buffers)),
+                0,
+                "a sound book"
+            );
+        },
+    )
+}
+
+/// Each image copied once, to the same place: where a packed one is written too.
+fn copies(books: &[Vec<u8>], rounds: usize) -> f64 {
+    let mut to = vec![0; books[0].len()];
+    quickest(
+        rounds,
+        || books.to_vec(),
+        |image| {
+            to.copy_from_slice(image);
+            std::hint::black_box(&mut to);
+        },
+    )
+}
+
+fn packs(filling: Filling, drive: Drive, rounds: usize) -> Row {
+    let kind = drive.kind.number();
+    // A long image is copied anew for each book, and that is what takes the time.
+    let count = if drive.blocks > 1_000 { 8 } else { BOOKS as u64 };
+    let books: Vec<Vec<u8>> = (0..count).map(|seed| book(filling, drive, seed).image).collect();
+    let mut list = fresh_list(64, [0; 16]);
+    let mut packed = vec![0; books[0].len()];
+    let measure = both_checks(drive, &books, &list, rounds) + PACK_COPIES * copies(&books, rounds);
+    let engine = quickest(
+        rounds,
+        || books.clone(),
+        |image| {
+            let answer = by_linked(What::Pack, kind, &mut [image, &mut list, &mut packed]);
+            assert_eq!(std::hint::black_box(answer), 0, "a sound book");
+        },
+    );
+    let plain = quickest(
+        rounds,
+        || books.clone(),
+        |image| {
+            // SAFETY: each pointer comes with the length of the slice it is taken from, and the slices are separate.
+            std::hint::black_box(unsafe {
+                plain_pack(
+                    kind,
+                    image.as_mut_ptr(),
+                    image.len(),
+                    list.as_ptr(),
+                    list.len(),
+                    packed.as_mut_ptr(),
+                    packed.len(),
+                )
+            });
+        },
+    );
+    Row {
+        what: format!(
+            "{}: {}, n = {}",
+            kind_title(drive.kind),
+            filling.title(),
+            drive.blocks
+        ),
+        engine,
+        plain,
+        measure,
+    }
+}
+
+fn all_packs(rounds: usize) -> Vec<Row> {
+    let fillings = [Filling::Empty, Filling::Typical, Filling::FullDirectory];
+    let drives = [
+        (Kind::First, 64),
+        (Kind::First, 256),
+        (Kind::Second, 257),
+        (Kind::Second, 4_096),
+    ];
+    let row = |(filling, (kind, blocks))| packs(filling, Drive { kind, blocks }, rounds);
+    let all = drives
+        .into_iter()
+        .flat_map(|drive| fillings.map(|filling| (filling, drive)));
+    all.map(row).collect()
+}
+
 fn table(title: &str, measure: &str, rows: &[Row], limit: f64, words: &str) -> String {
     let head = format!(
         "\n**{title}**\n\n| image | engine | plain C | engine / C | {measure} | engine / that |\n|---|---|---|---|---|---|\n"
@@ -191,11 +311,19 @@ pub fn measure(rounds: usize) -> String {
         .into_iter()
         .flat_map(|kind| salvages(kind, rounds))
         .collect();
-    table(
+    let salvage = table(
         "Salvage",
         "image check of a full book",
         &salvages,
         SALVAGE_LIMIT,
         &format!("salvage on the hardest image at most {SALVAGE_LIMIT} times the image check of a full book"),
-    )
+    );
+    let pack = table(
+        "Packing",
+        "both checks and 3 copies",
+        &all_packs(rounds),
+        1.0,
+        "packing at most as long as the image check, the list check and 3 copies of the image in C",
+    );
+    salvage + &pack
 }

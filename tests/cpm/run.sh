@@ -1,8 +1,8 @@
 #!/usr/bin/env bash
 # Holds the engine against Debian's cpmtools, which know nothing of it, on drives of 64 and of 256 blocks, and on those
 # of 257, 300 and 1,027 larger blocks that the second kind has: each must read what the other wrote, and the desk's
-# program (host/book.c) must find the tools' images sound and mend those that are damaged. Plays the page that shows how
-# (docs/SALVAGE.md). Then does each case where they differ by intent. One line for each step; at the first other
+# program (host/book.c) must find the tools' images sound, pack them and mend those that are damaged. Plays the page that
+# shows how (docs/SALVAGE.md). Then does each case where they differ by intent. One line for each step; at the first other
 # difference one plain line and exit status 1. Installs cpmtools where they are missing. All files are temporary.
 set -euo pipefail
 here=$(cd "$(dirname "${BASH_SOURCE[0]}")" && pwd -P)
@@ -198,6 +198,19 @@ agree() { # FORMAT IMAGE
     fsck_silent "$1" "$2"
     same_free "$1" "$2"
     same_sizes "$1" "$2"
+}
+
+# The same files for the tools and for the engine, and what they were packed from stays.
+desk_packs() { # FORMAT IMAGE
+    local to=$2.packed
+    rm -rf "$to" "$to.in" "$to.out"
+    cp "$2" "$2.kept"
+    cp -r "$2.in" "$to.in"
+    mkdir "$to.out"
+    bash "$root/machine/run.sh" "$work/desk" pack "$2" -o "$to" >"$work/log" || fail "the desk's program cannot pack $2"
+    cmp -s "$2" "$2.kept" || fail "packing has changed $2"
+    expect "cpmls -u -A of $to" "$(tool cpmls "$1" -u -A "$2")" "$(tool cpmls "$1" -u -A "$to")"
+    agree "$1" "$to"
 }
 
 # ---- What the tools made ----
@@ -402,6 +415,13 @@ byte_13() {
     differs "byte 13 above 128: an error for fsck.cpm; sound for us, the byte is unread"
 }
 
+packed_copies_same() { # IMAGE NAME COPIED: on 64 blocks
+    rm -f "$1.packed"
+    bash "$root/machine/run.sh" "$work/desk" pack "$1" -o "$1.packed" >"$work/log" || fail "cannot pack $1"
+    tool cpmcp mpm64 "$1.packed" "0:$2" packed-copy
+    cmp -s "$3" packed-copy || fail "cpmcp copies other bytes of $2 from the packed $1"
+}
+
 sparse() {
     fresh mpm64 sparse
     content hole $((128 * 300))
@@ -413,6 +433,7 @@ sparse() {
     expect "size of HOLE.DAT for cpmcp" $((128 * 101)) "$(stat -c %s copied)"
     cmp -s -n 12800 copied /dev/zero || fail "no zeros before record 100 of HOLE.DAT"
     cmp -s -n 128 -i 12800 copied hole || fail "cpmcp copies other bytes of record 100 of HOLE.DAT"
+    packed_copies_same sparse HOLE.DAT copied
     differs "hole in an extent: fsck.cpm wants a block for each 8 records of the count; sound for us. cpmcp copies zeros, 33 answers 1/0"
     one_file holes HOLES.DAT 128
     book holes open 0 HOLES.DAT write 0 HOLES.DAT 256 8 hole
@@ -421,6 +442,7 @@ sparse() {
     expect "HOLES.DAT" "0 HOLES.DAT: 128 records, count 128, then 4/0" "$(book holes get 0 HOLES.DAT got)"
     tool cpmcp mpm64 holes 0:HOLES.DAT copied
     expect "size of HOLES.DAT for cpmcp" $((128 * 264)) "$(stat -c %s copied)"
+    packed_copies_same holes HOLES.DAT copied
     differs "missing extent: sound for both; cpmcp copies zeros, 33 answers 4/0"
 }
 
@@ -667,7 +689,16 @@ engine_fills large300 ours300 1200 400 2900 128 2600
 agree large300 ours300
 both_change large300 ours300 40000
 ok "257, 300 and 1,027 blocks of 2,048 bytes, made by the engine and changed by both: cpmls lists the files, cpmcp copies their bytes, fsck.cpm is silent, the free space is the same"
+for n in 257 300 1027; do
+    desk_packs "large$n" "made$n"
+    desk_packs "large$n" "ours$n"
+done
 first_kind
+for n in 64 256; do
+    desk_packs "mpm$n" "made$n"
+    desk_packs "mpm$n" "ours$n"
+done
+ok "the desk's program packs ten images of cpmtools and of the engine: cpmls lists the same files and attributes, cpmcp copies the same bytes, fsck.cpm is silent, the free space and the sizes are the same"
 large_damages
 ok "9 damages to a directory with numbers of two bytes: the engine tells the entry and why, errors for fsck.cpm; mended"
 second_kind

@@ -19,11 +19,13 @@ void *memcpy(void *, const void *, size);
 void *memset(void *, int, size);
 
 u32 mpm_salvage(u32 kind, u8 *image, size image_len, u8 *report, size report_len);
+u32 mpm_pack(u32 kind, const u8 *image, size image_len, const u8 *list, size list_len, u8 *packed,
+             size packed_len);
 
 enum {
     GUARD = 64,
     MAX_BUFFER = 4098 * 2048,
-    AREAS = 2,
+    AREAS = 3,
     CHUNK = 65536,
     STRIDE = 256,
     MALFORMED = 3,
@@ -163,9 +165,11 @@ static void put_changes(struct area *area) {
 /* ---- A case ---- */
 
 static u32 serve(u8 function, u32 kind) {
-    struct area *one = &areas[0], *two = &areas[1];
+    struct area *one = &areas[0], *two = &areas[1], *three = &areas[2];
     switch (function) {
     case 'R': return mpm_salvage(kind, data(one), one->length, data(two), two->length);
+    case 'P':
+        return mpm_pack(kind, data(one), one->length, data(two), two->length, data(three), three->length);
     default: exit(MALFORMED);
     }
 }
@@ -173,6 +177,7 @@ static u32 serve(u8 function, u32 kind) {
 static u32 buffers_of(u8 function) {
     switch (function) {
     case 'R': return 2;
+    case 'P': return 3;
     default: exit(MALFORMED);
     }
 }

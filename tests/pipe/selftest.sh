@@ -93,7 +93,7 @@ desk_differs() { # NAME WORDS
 
 desk_is_same() { # WHAT OBJECTS..
     "${CC:-cc}" "${flags[@]}" "$here/desk.c" "${@:2}" "${libraries[@]}" -o "$work/desk"
-    "$desk" --cases 3000 --failures "$work/failures" -- "$work/desk" >"$work/out" 2>/dev/null || {
+    "$desk" --cases 4000 --failures "$work/failures" -- "$work/desk" >"$work/out" 2>/dev/null || {
         cat "$work/out"
         echo "desk over $1: different"
         exit 1
@@ -112,15 +112,16 @@ compile_plain mpm.o mpm.c
 desk_is_same "the reference" "$archive"
 desk_is_same "plain C" "$work"/{small,large,call,mpm}.o
 
-"${CC:-cc}" "${flags[@]}" -Dmpm_salvage=wrong_salvage -c "$here/desk.c" -o "$work/desk.o"
-for wrong in 1 2 3 4 5 6 7 8; do
+"${CC:-cc}" "${flags[@]}" -Dmpm_salvage=wrong_salvage -Dmpm_pack=wrong_pack -c "$here/desk.c" -o "$work/desk.o"
+for wrong in 1 2 3 4 5 6 7 8 9 10 11 12 13 14; do
     case $wrong in
         5) words='guards broken: 00000010' ;;
         6) words='guards broken: 00000001' ;;
         8) words='pipe: ' ;;
+        13) words='guards broken: 00000100' ;;
         *) words='^different' ;;
     esac
     "${CC:-cc}" "${flags[@]}" -DWRONG="$wrong" "$work/desk.o" "$here/wrong_desk.c" "$archive" "${libraries[@]}" -o "$work/engine"
     desk_differs "wrong desk $wrong" "$words"
 done
-echo "desk over eight wrong desks: all seen"
+echo "desk over 14 wrong desks: all seen"

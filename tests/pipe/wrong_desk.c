@@ -1,5 +1,5 @@
-/* An engine with one fault in a function of the desk. WRONG chooses the fault; desk.c is compiled to call wrong_salvage
-   for mpm_salvage. */
+/* An engine with one fault in a function of the desk. WRONG chooses the fault; those who are to see it are compiled to
+   call wrong_salvage for mpm_salvage and wrong_pack for mpm_pack. */
 
 typedef unsigned char u8;
 typedef unsigned int u32;
@@ -13,15 +13,27 @@ typedef __SIZE_TYPE__ size;
 #define WRITES_BEFORE_THE_IMAGE 6
 #define LAST_ENTRY_LEFT_OUT 7
 #define CRASHES 8
+/* Of packing: */
+#define PACKS_NOTHING 9
+#define LAST_BLOCK_LEFT 10
+#define EMPTY_IN_BYTE_0 11
+#define CHANGES_THE_IMAGE 12
+#define WRITES_BEHIND_THE_PACKED 13
+#define PACKS_WHILE_OPEN 14
 
 #ifndef WRONG
 #define WRONG DOES_NOTHING
 #endif
 
-enum { ENTRY = 32, EMPTIED = 255 };
+enum { ENTRY = 32, EMPTIED = 255, EMPTY = 0xE5 };
+enum { LIST = 1299, HEAD = 19, IN_USE = 255 + 256 * 5, REFUSED = 255 + 256 * 13 };
 
 u32 mpm_salvage(u32 kind, u8 *image, size image_len, u8 *report, size report_len);
 u32 wrong_salvage(u32 kind, u8 *image, size image_len, u8 *report, size report_len);
+u32 mpm_pack(u32 kind, const u8 *image, size image_len, const u8 *list, size list_len, u8 *packed,
+             size packed_len);
+u32 wrong_pack(u32 kind, const u8 *image, size image_len, const u8 *list, size list_len, u8 *packed,
+               size packed_len);
 
 static void spoil(u8 *image, u8 *report, size entries) {
     (void)image, (void)report, (void)entries;
@@ -46,5 +58,36 @@ u32 wrong_salvage(u32 kind, u8 *image, size image_len, u8 *report, size report_l
     if (answer == 0) spoil(image, report, report_len);
     if (answer == 0 && WRONG == LAST_ENTRY_LEFT_OUT && report_len == 64) image[2016] = last;
     if (answer == 1 && WRONG == WRONG_LENGTH_TOUCHED && image_len > 0) image[0] ^= 1;
+    return answer;
+}
+
+static void spoil_packed(u8 *image, u8 *packed, size packed_len) {
+    (void)image, (void)packed, (void)packed_len;
+#if WRONG == LAST_BLOCK_LEFT
+    packed[packed_len - 1] = 0x55;
+#elif WRONG == EMPTY_IN_BYTE_0
+    for (size at = 0; at < 2048; at += ENTRY)
+        for (size i = 1; i < ENTRY && packed[at] == EMPTY; i++) packed[at + i] = image[at + i];
+#elif WRONG == CHANGES_THE_IMAGE
+    for (size i = 0; i < 2048; i++) image[i] = packed[i];
+#elif WRONG == WRITES_BEHIND_THE_PACKED
+    packed[packed_len] = 0;
+#endif
+}
+
+/* The list without its items. */
+static const u8 *without_items(const u8 *list) {
+    static u8 copy[LIST];
+    for (size i = 0; i < LIST; i++) copy[i] = i < HEAD ? list[i] : 0;
+    return copy;
+}
+
+u32 wrong_pack(u32 kind, const u8 *image, size image_len, const u8 *list, size list_len, u8 *packed,
+               size packed_len) {
+    if (WRONG == PACKS_NOTHING) return image_len == packed_len && list_len == LIST ? 0 : (u32)REFUSED;
+    u32 answer = mpm_pack(kind, image, image_len, list, list_len, packed, packed_len);
+    if (answer == IN_USE && WRONG == PACKS_WHILE_OPEN)
+        answer = mpm_pack(kind, image, image_len, without_items(list), list_len, packed, packed_len);
+    if (answer == 0) spoil_packed((u8 *)image, packed, packed_len);
     return answer;
 }

@@ -71,3 +71,8 @@ uint32_t mpm_look(uint32_t kind, uint32_t user, const uint8_t *name, size_t name
 uint32_t mpm_salvage(uint32_t kind, uint8_t *image, size_t image_len, uint8_t *report, size_t report_len) {
     return plain_salvage(kind, image, image_len, report, report_len);
 }
+
+uint32_t mpm_pack(uint32_t kind, const uint8_t *image, size_t image_len, const uint8_t *list, size_t list_len,
+                  uint8_t *packed, size_t packed_len) {
+    return plain_pack(kind, read_only(image), image_len, list, list_len, packed, packed_len);
+}

@@ -423,6 +423,34 @@ static bool sound_locks(const struct drive *d, const struct locks *l) {
     return all_good(d, l) && all_apart(l) && all_keep(l, OPEN, l->open_limit) && all_keep(l, LOCK, l->lock_limit);
 }
 
+/* ---- Packing ---- */
+
+static bool any_item_open(const struct locks *l) {
+    for (size_t i = 0; i < PLACES; i++)
+        if (l->items[i].kind == OPEN) return true;
+    return false;
+}
+
+/* An entry is copied with its blocks, which get the next numbers. Gives the next one after them. */
+static size_t pack_entry(const struct drive *d, const uint8_t *old, uint8_t *new, uint8_t *packed, size_t next) {
+    memcpy(new, old, ENTRY);
+    for (size_t k = 0; k < MAP; k++) {
+        size_t b = number_at(old, k);
+        if (b == 0) continue;
+        memcpy(packed + BLOCK * next, d->bytes + BLOCK * b, BLOCK);
+        set_number(new, k, next++);
+    }
+    return next;
+}
+
+static void pack_drive(const struct drive *d, uint8_t *packed) {
+    size_t to = 0, next = 2;
+    memset(packed, MPM_EMPTY, ENTRY * ENTRIES);
+    for (size_t e = 0; e < ENTRIES; e++)
+        if (entry_at(d, e)[0] != MPM_EMPTY) next = pack_entry(d, entry_at(d, e), packed + ENTRY * to++, packed, next);
+    memset(packed + BLOCK * next, 0, BLOCK * (d->blocks - next));
+}
+
 /* ---- Asking the list ---- */
 
 static bool any_open(const struct locks *l, const struct file *f) {
@@ -884,6 +912,20 @@ uint32_t NAMED(salvage, KIND)(uint8_t *image, size_t image_len, uint8_t *report,
     if (report_len != ENTRIES) return MPM_SALVAGE_WRONG_REPORT;
     salvage_directory(&d, report);
     return MPM_SALVAGE_DONE;
+}
+
+uint32_t NAMED(pack, KIND)(uint8_t *image, size_t image_len, const uint8_t *list, size_t list_len, uint8_t *packed,
+                           size_t packed_len) {
+    struct drive d = {image, image_len / BLOCK};
+    struct locks l;
+    if (list_len != MPM_LIST_LEN || packed_len != image_len) return MPM_ERR_BAD_CALL;
+    if (check_drive(&d, image_len) != MPM_CHECK_SOUND) return MPM_ERR_BAD_IMAGE;
+    if (!all_zero(list)) return MPM_ERR_BAD_LIST;
+    unpack(&l, list);
+    if (!sound_locks(&d, &l)) return MPM_ERR_BAD_LIST;
+    if (any_item_open(&l)) return MPM_ERR_IN_USE;
+    pack_drive(&d, packed);
+    return MPM_OK;
 }
 
 /* Where a record begins, or 0; the image is sound. */

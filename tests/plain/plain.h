@@ -28,6 +28,14 @@ uint32_t plain_salvage(uint32_t kind, uint8_t *image, size_t image_len, uint8_t 
 uint32_t plain_salvage_SMALL(uint8_t *image, size_t image_len, uint8_t *report, size_t report_len);
 uint32_t plain_salvage_LARGE(uint8_t *image, size_t image_len, uint8_t *report, size_t report_len);
 
+/* As mpm_pack. The image is only read. */
+uint32_t plain_pack(uint32_t kind, uint8_t *image, size_t image_len, const uint8_t *list, size_t list_len,
+                    uint8_t *packed, size_t packed_len);
+uint32_t plain_pack_SMALL(uint8_t *image, size_t image_len, const uint8_t *list, size_t list_len, uint8_t *packed,
+                          size_t packed_len);
+uint32_t plain_pack_LARGE(uint8_t *image, size_t image_len, const uint8_t *list, size_t list_len, uint8_t *packed,
+                          size_t packed_len);
+
 /* As mpm_look. The image is only read. */
 uint32_t plain_look(uint32_t kind, uint32_t user, const uint8_t *name, size_t name_len, uint32_t record,
                     uint8_t *image, size_t image_len);

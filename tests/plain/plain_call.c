@@ -32,6 +32,15 @@ uint32_t plain_salvage(uint32_t kind, uint8_t *image, size_t image_len, uint8_t 
     }
 }
 
+uint32_t plain_pack(uint32_t kind, uint8_t *image, size_t image_len, const uint8_t *list, size_t list_len,
+                    uint8_t *packed, size_t packed_len) {
+    switch (kind) {
+    case MPM_KIND_SMALL: return plain_pack_SMALL(image, image_len, list, list_len, packed, packed_len);
+    case MPM_KIND_LARGE: return plain_pack_LARGE(image, image_len, list, list_len, packed, packed_len);
+    default: return MPM_ERR_BAD_CALL;
+    }
+}
+
 uint32_t plain_look(uint32_t kind, uint32_t user, const uint8_t *name, size_t name_len, uint32_t record,
                     uint8_t *image, size_t image_len) {
     if (name_len != MPM_NAME_LEN || plain_check(kind, image, image_len) != MPM_CHECK_SOUND) return 0;

@@ -7,19 +7,17 @@ use mathlib.Core.Logic.{⊎-elim}
 use native.Mathlib.Omega.{arith}
 use lib.ListN.{length}
 use lib.Dec.{eqb}
-use borrow.Author.Tests.{eqb-true, not-false}
+use borrow.Author.Tests.{eqb-true}
 use Rattle.words.specs.Tests.{_and_, _or_, _if_else_}
 use Rattle.words.specs.Tables.{firstOf}
 use Rattle.words.proofs.Tests.{either, equal?}
 use Rattle.words.proofs.Tables.{zero-none}
 use Rattle.words.proofs.Sets.{row-yes, row-no}
-use Rattle.rules.specs.Kinds.{entries}
 use Rattle.rules.specs.declared.routine.Routine.{Routine}
 use Rattle.rules.specs.declared.routine.Routine.the-variants.{Open, Close, Delete, Make, Rename, Read, Write, Size, WriteZeros, TestWrite, Lock, Unlock, FreeSpace, Terminate}
 use Rattle.rules.specs.declared.routine.Chosen.{Chosen}
 use Rattle.rules.specs.declared.routine.Chosen.the-variants.{Call, Unknown}
 use Rattle.rules.specs.Serves.{Buffers, Did, buffers, outcome, functionOf, chosen, isUnknown}
-use Rattle.rules.specs.Drive.{soundImage}
 use Rattle.rules.specs.Codes.{badNumbers, badDrive, rowsInside, rowsAll}
 use Rattle.rules.specs.Call.{served, call}
 use Rattle.rules.specs.Several.{servesRun}
@@ -27,7 +25,6 @@ use Rattle.rules.proofs.Tables.{nonzero-all, call-refused, call-served}
 use Rattle.rules.proofs.Passed.{GoodNumbers, Passed, good-numbers, passed, drive-good}
 use Rattle.rules.proofs.Several.{run-plain, run-refused, run-told}
 use Rattle.rules.proofs.Ends.{did-as, did-none}
-use Rattle.drive.specs.Walks.{Walked}
 use Rattle.calls.specs.Calls.{callBy, servedBy}
 use Rattle.calls.specs.Drives.{readsDrive}
 use Rattle.rules.specs.declared.kind.Kind.{Kind}
@@ -104,11 +101,6 @@ module _ (n p c : ℕ) (fcb dma list : List ℕ) (r : Bool) (e : r ≡ badNumber
     all-passed z =
         let q = zero-none (rowsAll kind n p c (buffers fcb dma list image)) (nonzero-all kind n p c (buffers fcb dma list image)) (sym all-rows ∙ z) in
         (passed kind n p c (buffers fcb dma list image) q, drive-good kind n p c (buffers fcb dma list image) q)
-
--- after `if !sound_index(..) { return .. }`
-pub image-there : (kind : Kind) (r : Bool) (s hints : List ℕ) → Walked (soundImage kind s) s (entries kind) r hints → not r ≡ false
-    → soundImage kind s ≡ true
-image-there kind r s hints w t = sym (w .answer) ∙ not-false r t
 
 -- ---- the ends of the general table, and of a call by the fast path and by the plain engine
 

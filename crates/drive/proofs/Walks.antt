@@ -101,6 +101,11 @@ module _ (x r : Bool) (s : List ℕ) (n : ℕ) (hints : List ℕ) (w : Walked x 
   pub walked-knows : not r ≡ false → Hints (slotAt s) (inUse s) n hints
   walked-knows z = w .knows (not-false r z)
 
+-- after `if !sound_index(..) { return .. }`
+pub image-there : (kind : Kind) (r : Bool) (s hints : List ℕ) → Walked (soundImage kind s) s (entries kind) r hints → not r ≡ false
+    → soundImage kind s ≡ true
+image-there kind r s hints w t = sym (w .answer) ∙ not-false r t
+
 pub known-none : (s : List ℕ) (v : ℕ) → Hints (slotAt s) (inUse s) 0 (replicate 256 v)
 known-none s v = hints-none (slotAt s) (inUse s) v
 

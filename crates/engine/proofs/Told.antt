@@ -5,6 +5,7 @@ use mathlib.Core.Bool.{true}
 use mathlib.Core.List.{List}
 use mathlib.Core.Logic.{⊎-elim}
 use native.Mathlib.Omega.{arith}
+use Rattle.words.specs.Tables.{firstOf}
 use Rattle.words.proofs.Tests.{equal?}
 use Rattle.rules.specs.declared.kind.Kind.{Kind}
 use Rattle.rules.specs.declared.kind.Told.{Told}
@@ -24,6 +25,7 @@ use Rattle.rules.proofs.Look.{look-inside, look-sound}
 use Rattle.locklist.specs.Start.{DidStart}
 use Rattle.calls.specs.Calls.{callBy}
 use Rattle.repair.specs.Salvage.{salvaged, salvage, salvageTold}
+use Rattle.packing.specs.Packs.{packs, pack, packTold}
 
 -- after `let Told::Known(known) = told_kind(kind) else { return .. }`
 module _ (n : ℕ) (t : Told) (is : t ≡ toldKind n) where
@@ -60,6 +62,10 @@ module _ (n : ℕ) (t : Told) (is : t ≡ toldKind n) where
     unfolding salvageTold
     salvage-known a s r u q h = h ∙ ap (λ (x : Told). salvageTold x s r) kind-is
 
+    pub pack-known : (s list out : List ℕ) (a : ℕ) (left : List ℕ) → packs a left ≡ pack kind s list out → packs a left ≡ packTold (toldKind n) s list out
+    unfolding packTold
+    pack-known s list out a left h = h ∙ ap (λ (x : Told). packTold x s list out) kind-is
+
   module _ (other : t ≡ Other) where
     other-is : Other ≡ toldKind n
     other-is = sym other ∙ is
@@ -90,6 +96,10 @@ module _ (n : ℕ) (t : Told) (is : t ≡ toldKind n) where
     pub salvage-other : (s r : List ℕ) → salvaged 1 s r ≡ salvageTold (toldKind n) s r
     unfolding salvageTold
     salvage-other s r = ap (λ (x : Told). salvageTold x s r) other-is
+
+    pub pack-other : (s list out : List ℕ) → packs 3583 out ≡ packTold (toldKind n) s list out
+    unfolding packTold
+    pack-other s list out = ap (λ (x : Told). packTold x s list out) other-is
 
 -- ---- Look's number
 

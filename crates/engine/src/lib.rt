@@ -5,6 +5,7 @@ use calls::answer::answer;
 use drive::check::image_check;
 use drive::look::look_at;
 use locklist::start::start;
+use packcall::call::pack;
 use rules::answer::image_told;
 use rules::code::BAD_CALL;
 use rules::kind::Told;
@@ -18,6 +19,7 @@ ghost use Rattle.rules.specs.Serves.{Did, buffers};
 ghost use Rattle.rules.specs.Told.{callTold, singlyTold, startTold, checkTold, lookTold};
 ghost use Rattle.locklist.specs.Start.{DidStart};
 ghost use Rattle.repair.specs.Salvage.{salvaged, salvageTold};
+ghost use Rattle.packing.specs.Packs.{packs, packTold};
 
 // A call: the kind of drive, three numbers and four separate buffers in, A + 256 H out.
 #[no_mangle]
@@ -115,4 +117,16 @@ pub extern "C" fn mpm_salvage(kind: u32, image: &mut [u8], report: &mut [u8]) ->
         return WRONG_LENGTH;
     };
     repair_image(known, image, report)
+}
+
+// Packs the book of the image into a second buffer of its length, while the list holds no open; else the buffer is left.
+#[no_mangle]
+pub extern "C" fn mpm_pack(kind: u32, image: &[u8], list: &[u8], packed: &mut [u8]) -> u32
+    ensures { λ r. ⌜ packs r (now (packed .exit)) ≡ packTold (toldKind kind) (now (image .entry)) (now (list .entry)) (now (packed .entry)) ⌝ }
+{
+    let told = told_kind(kind);
+    let Told::Known(known) = told else {
+        return BAD_CALL;
+    };
+    pack(known, image, list, packed)
 }

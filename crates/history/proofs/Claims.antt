@@ -42,11 +42,15 @@ use Rattle.repair.proofs.Cleaning.{repaired-sound}
 use Rattle.repair.proofs.Unchanged.{repaired-same, report-none}
 use Rattle.repair.proofs.Mends.{repaired-mends}
 use Rattle.repair.proofs.Report.{report-compares}
+use Rattle.packing.proofs.Sound.{packed-sound}
+use Rattle.packing.proofs.Kept.{length-packed, look-packed, missing-packed, entry-packed}
+use Rattle.packing.proofs.Twice.{packed-twice, free-packed, free-highest}
+use Rattle.packing.proofs.Answers.{pack-accepts, pack-zero, pack-leaves}
 use Rattle.repair.proofs.Outcome.{refused-nothing, good-answered, salvaged-twice}
 use Rattle.history.specs.History.{Ask, State, Engine, isWord, isPossible, isKept, lent, outcomeOf, withCount}
 use Rattle.history.specs.Deeds.{doneIn}
 use Rattle.history.specs.Demands.{NoTrace, Demand1, Demand2}
-use Rattle.history.specs.Claims.{Claims, KeepsContract, Refuses, ToldClaims, TheSession, LookClaims, CheckClaims, SizeClaims, SalvageClaims, AllClaims}
+use Rattle.history.specs.Claims.{Claims, KeepsContract, Refuses, ToldClaims, TheSession, LookClaims, CheckClaims, SizeClaims, SalvageClaims, PackClaims, AllClaims}
 use Rattle.history.proofs.First.{leaves-no-trace, counted-possible, fewer-possible}
 use Rattle.history.proofs.Alike.{meets-third}
 use Rattle.history.proofs.Unlocks.{unlock-order}
@@ -197,6 +201,21 @@ salvage-claims = record {
   twice = salvaged-twice;
 }
 
+pack-claims : PackClaims
+pack-claims = record {
+  refused = pack-leaves;
+  done = pack-accepts;
+  done-only = pack-zero;
+  sound = packed-sound;
+  as-long = length-packed;
+  look-stays = look-packed;
+  same-extents = missing-packed;
+  heads-stay = entry-packed;
+  twice = packed-twice;
+  as-many-free = free-packed;
+  free-highest = free-highest;
+}
+
 -- every promise, of every engine that keeps the contract, and of the rules
 pub all-claims : AllClaims
 all-claims = record {
@@ -224,5 +243,6 @@ all-claims = record {
   unlocks = record { unlocking = unlocking-told; wrong-fall = wrong-unlocks };
   sizes = size-claims;
   salvages = salvage-claims;
+  packs = pack-claims;
   least = least;
 }

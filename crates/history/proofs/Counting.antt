@@ -15,7 +15,7 @@ use Rattle.words.specs.Lists.{tally, without}
 use Rattle.rules.specs.declared.kind.Kind.{Kind}
 use Rattle.rules.specs.Kinds.{blockRecords, entries, numbers}
 use Rattle.rules.specs.declared.file.File.{File}
-use Rattle.rules.specs.Drive.{fileAt, extentAt, mapNumber, mapPlace, isOf}
+use Rattle.rules.specs.Drive.{fileAt, extentAt, mapNumber, mapPlace, isOf, allNumbers, isNumbered}
 use Rattle.rules.specs.Effects.{erased, renamed}
 use Rattle.rules.proofs.Sizes.{place-fits, flat-entry, flat-place, flat-both, flat-short, flat-there, flat-below}
 use Rattle.rules.proofs.Sound.{Names, SoundImage, file-long}
@@ -23,14 +23,14 @@ use Rattle.rules.proofs.Frames.{head-of, file-same, extent-same, empty-same, of
 use Rattle.rules.proofs.Items.{file-is, file-refl}
 use Rattle.soundness.proofs.Steps.{Stays}
 use Rattle.soundness.proofs.Changes.{Grown, names-grown}
-use Rattle.soundness.proofs.Blocks.{At, only, is-grown, at-names}
+use Rattle.soundness.proofs.Blocks.{At, only, is-grown, at-names, numbered-names, names-numbered, names-flat}
 use Rattle.soundness.proofs.Written.{Old, New}
 use Rattle.soundness.proofs.Erased.{erased-gone, erased-kept}
 use Rattle.soundness.proofs.Renamed.{renamed-empty, renamed-extent, renamed-number, renamed-kept}
 use Rattle.soundness.proofs.Stored.{free-low}
-use Rattle.history.specs.Groups.{Group, group, isCounted, isNumbered, groupAt, touching, ofFile, carried, allNumbers}
+use Rattle.history.specs.Groups.{Group, group, isCounted, groupAt, touching, ofFile, carried}
 use Rattle.words.proofs.Tallies.{tally-without, tally-map}
-use Rattle.history.proofs.Positions.{Counted, holdsGroup, numbered-names, names-numbered, names-flat, at-group, counted-at, at-counted}
+use Rattle.history.proofs.Positions.{Counted, holdsGroup, at-group, counted-at, at-counted}
 
 -- two tests of the places that agree where a number stands
 holds-same : (kind : Kind) (s t : List ℕ) (p q : Group → Bool) (i : ℕ) → isNumbered kind t i ≡ isNumbered kind s i

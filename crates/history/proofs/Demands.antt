@@ -17,23 +17,23 @@ use Rattle.rules.specs.Kinds.{blockSize, blockRecords}
 use Rattle.rules.specs.declared.item.Item.{Item}
 use Rattle.rules.specs.declared.routine.Chosen.{Chosen}
 use Rattle.rules.specs.Serves.{Outcome}
-use Rattle.rules.specs.Drive.{blocks, freeBlocks, blockOf}
+use Rattle.rules.specs.Drive.{blocks, allNumbers, isNumbered, blocksInUse, freeBlocks, blockOf}
 use Rattle.rules.specs.Locks.{unpack}
 use Rattle.rules.specs.Effects.{does46}
 use Rattle.rules.specs.Call.{asked, askedBy, effectOf}
 use Rattle.rules.specs.Several.{callRun}
-use Rattle.rules.proofs.Sound.{SoundImage, isUsedData}
+use Rattle.rules.proofs.Sound.{SoundImage}
 use Rattle.rules.proofs.Tables.{accepted, zero-accepted}
 use Rattle.rules.proofs.Several.{run-plain}
 use Rattle.rules.proofs.Look.{same-group}
 use Rattle.history.specs.History.{Ask, State, Begun, lent, forgetful, outcomeOf, kept, event, eventsOf, after, historyOf, outcomeAfter}
 use Rattle.history.specs.Deeds.{ends, tells, deed}
 use Rattle.history.specs.Held.{anyOpenBy}
-use Rattle.history.specs.Groups.{Group, hasBlock, isNumbered, isInUse, blocksInUse, allNumbers}
+use Rattle.history.specs.Groups.{Group, hasBlock}
 use Rattle.history.specs.Demands.{itemsOf, HeadStays, figureIn, Groups, Figure, NoneLeft, Stands, Next}
 use Rattle.words.proofs.Tallies.{tally-all}
 use Rattle.history.proofs.Positions.{holdsGroup, each-counted}
-use Rattle.history.proofs.InUse.{in-use}
+use Rattle.soundness.proofs.InUse.{in-use}
 use Rattle.history.proofs.Dead.{none-then}
 use Rattle.history.proofs.Served.{figure-plain}
 use Rattle.history.proofs.Done.{told}
@@ -87,11 +87,9 @@ module _ (kind : Kind) (g : Begun kind) (s : State) (items : List Item) (groups 
   blocks-kept = ap (λ (n : ℕ). n / blockSize kind) (i .long)
 
   figures : length groups + freeBlocks kind (s .image) ≡ blocks kind (g .image) - 2
-  unfolding blocksInUse isInUse isUsedData
   figures =
-      let a : freeBlocks kind (s .image) + count (isInUse kind (s .image)) (blocks kind (s .image)) ≡ blocks kind (s .image) - 2 =
-      Rattle.rules.proofs.Sound.add-up kind (s .image) in
-      let b : count (isInUse kind (s .image)) (blocks kind (s .image)) ≡ length groups = groups-counted .as-many in
+      let a = Rattle.rules.proofs.Sound.add-up kind (s .image) in
+      let b : blocksInUse kind (s .image) ≡ length groups = groups-counted .as-many in
       let c = blocks-kept in
       omega arith
 

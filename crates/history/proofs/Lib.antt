@@ -10,7 +10,6 @@ pub mod Done
 pub mod Locking
 pub mod Holding
 pub mod Positions
-pub mod InUse
 pub mod Counting
 pub mod Solid
 pub mod AddsUp

@@ -3,10 +3,11 @@ use Rattle.session.specs.Session.{session, orders, fcbWith, dmaWith, firstImage
 use Rattle.words.specs.Bytes.{areBytes}
 use Rattle.words.specs.Lists.{tally, without}
 use Rattle.words.specs.Tests.{sumBelow}
+use Rattle.rules.specs.Drive.{isNumbered, isInUse, blocksInUse}
 use Rattle.history.specs.History.{isWord, isLendable, isPossible, arePossible, isKept, forgetful, outcomeOf, stateAfter, eventsOf, after, historyOf, outcomeAfter}
 use Rattle.history.specs.Deeds.{fileBy, newBy, deedBy, writesRun, deed}
 use Rattle.history.specs.Held.{sameItem, isAmong, granting, grantingAt, grantingRun, isBy, holding, heldAfter}
-use Rattle.history.specs.Groups.{sameGroup, isCounted, hasBlock, isNumbered, groupAt, groupsBelow, groupsOf, isInUse, blocksInUse, touching, touchingAt, touchingRun, ofFile, carried, counting, countedAfter}
+use Rattle.history.specs.Groups.{sameGroup, isCounted, hasBlock, groupAt, groupsBelow, groupsOf, touching, touchingAt, touchingRun, ofFile, carried, counting, countedAfter}
 use Rattle.history.specs.Demands.{itemsOf, groupsBy, isItemAt, itemsBy, figureIn, isUserOf, isUnheld}
 
 -- the words of the history

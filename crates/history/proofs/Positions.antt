@@ -1,4 +1,4 @@
--- The block numbers of all the maps, sixteen or eight to an entry, and the groups that they are of. Assumes nothing.
+-- The groups that the block numbers of all the maps are of. Assumes nothing.
 use Prim.Native.Nat.{ℕ, zero, suc, _+_, _*_, _/_, _%_, _≤_, _<_}
 use mathlib.Core.Path.{_≡_, refl, sym, ap, _∙_}
 use mathlib.Core.Bool.{Bool, true, false}
@@ -15,35 +15,13 @@ use Rattle.words.specs.Lists.{tally}
 use Rattle.rules.specs.declared.kind.Kind.{Kind}
 use Rattle.rules.specs.Kinds.{blockRecords, numbers}
 use Rattle.rules.specs.declared.file.File.{File}
-use Rattle.rules.specs.Drive.{fileAt, extentAt, mapNumber, mapPlace}
+use Rattle.rules.specs.Drive.{fileAt, extentAt, mapNumber, mapPlace, allNumbers, isNumbered}
 use Rattle.rules.specs.Locks.{sameFile}
-use Rattle.rules.proofs.Sizes.{place-fits, flat-entry, flat-place, flat-short, flat-there, flat-below, flat-group}
-use Rattle.rules.proofs.Sound.{Is, Names, SoundImage, file-long}
+use Rattle.rules.proofs.Sizes.{place-fits, flat-entry, flat-place, flat-below, flat-group}
+use Rattle.rules.proofs.Sound.{Is, SoundImage, file-long}
 use Rattle.rules.proofs.Items.{file-is, file-refl}
-use Rattle.soundness.proofs.Blocks.{At, at-of, of-at, at-names}
-use Rattle.history.specs.Groups.{Group, group, sameGroup, isCounted, hasBlock, isNumbered, groupAt, groupsBelow, groupsOf, allNumbers}
-
--- ---- place k of entry e, and place numbers·e + k of all
-
--- a place, numbered through all the maps, that holds a number names a block, ..
-pub numbered-names : (kind : Kind) (s : List ℕ) (i : ℕ) → i < allNumbers kind → isNumbered kind s i ≡ true → Names kind s (i / numbers kind) (i % numbers kind)
-unfolding isNumbered
-numbered-names kind s i m h = record {
-  entry-there = flat-there kind i m;
-  place-there = flat-short kind i;
-  entry-used = not-true _ (and-fst _ _ h);
-  some = eqb-false _ _ (not-true _ (and-snd _ _ h));
-}
-
--- .. one that names a block holds a number, ..
-pub names-numbered : (kind : Kind) (s : List ℕ) (i : ℕ) → Names kind s (i / numbers kind) (i % numbers kind) → isNumbered kind s i ≡ true
-unfolding isNumbered
-names-numbered kind s i n = and-both _ _ (not-of-false _ (n .entry-used)) (not-of-false _ (ne-eqb _ _ (n .some)))
-
--- .. and so it is of place k of entry e
-pub names-flat : (kind : Kind) (s : List ℕ) (e k : ℕ) → Names kind s e k → isNumbered kind s (numbers kind * e + k) ≡ true
-names-flat kind s e k n =
-    names-numbered kind s (numbers kind * e + k) (rw (flat-entry kind e k (n .place-there), flat-place kind e k (n .place-there)) n)
+use Rattle.soundness.proofs.Blocks.{At, at-of, of-at, at-names, numbered-names, names-flat}
+use Rattle.history.specs.Groups.{Group, group, sameGroup, isCounted, hasBlock, groupAt, groupsBelow, groupsOf}
 
 -- ---- groups
 

@@ -8,14 +8,14 @@ use Rattle.words.specs.Tests.{count, sumBelow}
 use Rattle.words.specs.Lists.{tally}
 use Rattle.rules.specs.declared.item.Item.{Item}
 use Rattle.rules.specs.declared.kind.Kind.the-variants.{Small}
-use Rattle.rules.specs.Drive.{blocks, freeBlocks, fileFrom, soundImage}
+use Rattle.rules.specs.Drive.{blocks, blocksInUse, freeBlocks, fileFrom, soundImage}
 use Rattle.rules.specs.Locks.{unpack, itemAt, freePlaces, freshOpen, freshLock, soundList}
 use Rattle.rules.specs.Look.{look}
 use Rattle.session.specs.Open.{rules}
 use Rattle.session.specs.Session.{Step, Line, session, orders, fcbWith, dmaWith, firstImage, list0, list3, list11, list12, list13, image0, image2, image5, image13}
 use Rattle.history.specs.History.{Ask, Event, event}
 use Rattle.history.specs.Held.{sameItem, isBy, heldAfter}
-use Rattle.history.specs.Groups.{Group, group, isCounted, hasBlock, groupsOf, blocksInUse, countedAfter}
+use Rattle.history.specs.Groups.{Group, group, isCounted, hasBlock, groupsOf, countedAfter}
 use Rattle.history.specs.Demands.{isItemAt, itemsBy, isUnheld, figureIn}
 use Rattle.history.proofs.Opened.{history, listed}
 

@@ -13,7 +13,7 @@ use Rattle.words.specs.Lists.{tally}
 use Rattle.rules.specs.declared.kind.Kind.the-variants.{Small}
 use Rattle.rules.specs.Serves.{Outcome, buffers, outcome}
 use Rattle.rules.specs.Kinds.{entries, numbers}
-use Rattle.rules.specs.Drive.{isEmpty, blocks}
+use Rattle.rules.specs.Drive.{isEmpty, blocks, isNumbered, blocksInUse}
 use Rattle.rules.specs.Locks.{freshOpen, unpack}
 use Rattle.rules.specs.Several.{callRun}
 use Rattle.session.specs.Open.{rules}
@@ -22,7 +22,7 @@ use Rattle.session.proofs.Session.{the-session}
 use Rattle.history.specs.History.{Ask, Engine, Event, Begun, state, isPossible, arePossible, outcomeOf, event, eventsOf, after, historyOf, outcomeAfter}
 use Rattle.history.specs.Deeds.{tells, deed}
 use Rattle.history.specs.Held.{sameItem}
-use Rattle.history.specs.Groups.{Group, isNumbered, groupsBelow, groupsOf, blocksInUse, countedAfter}
+use Rattle.history.specs.Groups.{Group, groupsBelow, groupsOf, countedAfter}
 use Rattle.history.specs.Demands.{Demand2, Demand3, itemsOf, groupsBy, isItemAt, figureIn}
 use Rattle.history.specs.Wrong.{refusing, accepting, unstored, idle, pretending, butAfter, figured, madeUp, unbitted, unlimited, lavish, promoted, isWriting, promoting}
 use Rattle.history.proofs.Opened.{history, listed}

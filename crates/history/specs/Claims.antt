@@ -6,6 +6,7 @@ use mathlib.Core.Bool.{true, false}
 use mathlib.Core.List.{List}
 use mathlib.Core.Logic.{_⊎_}
 use lib.ListN.{length, replicate}
+use lib.Dec.{leb}
 use Rattle.words.specs.Bytes.{byte, areBytes}
 use Rattle.words.specs.Tables.{_∕_, firstOf, anyRow}
 use Rattle.rules.specs.declared.kind.Kind.{Kind}
@@ -18,14 +19,14 @@ use Rattle.rules.specs.declared.kind.Told.the-variants.{Known}
 use Rattle.rules.specs.Kinds.{toldKind, entries}
 use Rattle.rules.specs.Serves.{Buffers, outcome, Did, chosen, listSize}
 use Rattle.rules.specs.declared.answer.ImageAnswer.{ImageAnswer}
-use Rattle.rules.specs.Drive.{entrySize, recordSize, goodLength, fileFrom, extentAt, isOf, lookUp, soundImage, imageCheck, imageTold}
+use Rattle.rules.specs.Drive.{entrySize, recordSize, goodLength, fileFrom, entryByte, extentAt, isOf, noEntry, entryOf, lookUp, isFree, freeBlocks, blocksInUse, soundImage, imageCheck, imageTold}
 use Rattle.rules.specs.Checks.{CheckTells}
 use Rattle.rules.specs.Locks.{pack, unpack, soundList, start}
 use Rattle.rules.specs.Call.{asked, rowsCall, effectOf, call}
 use Rattle.rules.specs.Asks.{callerFile, newFile, recordOf}
 use Rattle.rules.specs.Effects.{fileSize}
 use Rattle.rules.specs.Several.{callSingly, callRun}
-use Rattle.rules.specs.Look.{lookAt}
+use Rattle.rules.specs.Look.{lookAt, look}
 use Rattle.rules.specs.Told.{callTold, checkTold, lookTold}
 use Rattle.session.specs.Session.{AsListed, session, firstImage, firstList}
 use Rattle.unlocking.specs.Unlocks.{locksTold, unlocksTold, Unlocking}
@@ -33,6 +34,8 @@ use Rattle.unlocking.specs.Wrong.{WrongUnlocks}
 use Rattle.filling.specs.Least.{Least}
 use Rattle.repair.specs.Salvage.{salvaged, salvageTold, repaired, reportOf, compared}
 use Rattle.repair.specs.Mends.{Mends}
+use Rattle.packing.specs.Packed.{packed}
+use Rattle.packing.specs.Packs.{rowsPack, packs, packTold}
 use Rattle.history.specs.History.{Ask, State, Engine, isWord, EachCall, lent, outcomeOf, withCount}
 use Rattle.history.specs.Demands.{Demand1, Demand2, Demand3}
 use Rattle.history.specs.Unlocks.{UnlockOrder}
@@ -187,6 +190,30 @@ pub record SalvageClaims : Type 0 where
   pub twice : (kind : Kind) (s r : List ℕ) → goodLength kind s ≡ true → length r ≡ entries kind
       → salvageTold (Known kind) (repaired kind s) r ≡ salvaged 0 (repaired kind s) (replicate (entries kind) 0)
 
+-- T-12, "Packing a book", of what `mpm_pack` promises; s is the image, list the list, out the second buffer as lent.
+pub record PackClaims : Type 0 where
+  -- "Refusals: .. the second buffer unchanged": it is done exactly where the kind is known and no row applies (image and list are only read)
+  pub refused : (told : Told) (s list out : List ℕ) → (packTold told s list out .answer ≡ 0 → ⊥) → packTold told s list out .out ≡ out
+  pub done : (kind : Kind) (s list out : List ℕ) → anyRow (rowsPack kind s list out) ≡ false
+      → packTold (Known kind) s list out ≡ packs (0 ∕ 0) (packed kind s)
+  pub done-only : (told : Told) (s list out : List ℕ) → packTold told s list out .answer ≡ 0
+      → (kind : Kind) × (told ≡ Known kind) × (anyRow (rowsPack kind s list out) ≡ false)
+  -- "Look, attributes and counts of every file stay": bytes 0 to 15 of every extent; + the packed book is sound, and as long
+  pub sound : (kind : Kind) (s : List ℕ) → soundImage kind s ≡ true → soundImage kind (packed kind s) ≡ true
+  pub as-long : (kind : Kind) (s : List ℕ) → soundImage kind s ≡ true → length (packed kind s) ≡ length s
+  pub look-stays : (kind : Kind) (s : List ℕ) → soundImage kind s ≡ true
+      → (user : ℕ) (name : List ℕ) (r : ℕ) → look kind user name r (packed kind s) ≡ look kind user name r s
+  pub same-extents : (kind : Kind) (s : List ℕ) → soundImage kind s ≡ true → (f : File) (x : ℕ) → length (f .name) ≡ 11
+      → noEntry kind (entryOf kind (packed kind s) f x) ≡ noEntry kind (entryOf kind s f x)
+  pub heads-stay : (kind : Kind) (s : List ℕ) → soundImage kind s ≡ true → (f : File) (x k : ℕ) → length (f .name) ≡ 11
+      → entryOf kind s f x < entries kind → k < 16
+      → entryByte (packed kind s) (entryOf kind (packed kind s) f x) k ≡ entryByte s (entryOf kind s f x) k
+  -- "packing twice equals packing once"; + as many blocks are free, and they are the highest ones
+  pub twice : (kind : Kind) (s : List ℕ) → soundImage kind s ≡ true → packed kind (packed kind s) ≡ packed kind s
+  pub as-many-free : (kind : Kind) (s : List ℕ) → soundImage kind s ≡ true → freeBlocks kind (packed kind s) ≡ freeBlocks kind s
+  pub free-highest : (kind : Kind) (s : List ℕ) → soundImage kind s ≡ true → (b : ℕ) → 2 ≤ b
+      → isFree kind (packed kind s) b ≡ leb (2 + blocksInUse kind s) b
+
 -- ---- All of it
 
 pub record AllClaims : Type 0 where
@@ -200,5 +227,6 @@ pub record AllClaims : Type 0 where
   pub unlocks : UnlockClaims
   pub sizes : SizeClaims
   pub salvages : SalvageClaims
+  pub packs : PackClaims
   -- T-10: "Give also a sequence with one place fewer where one of them is": + for all limits and numbers of processes, so that the bound is the least.
   pub least : Least

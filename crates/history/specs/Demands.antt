@@ -16,7 +16,7 @@ use Rattle.rules.specs.declared.file.File.{File}
 use Rattle.rules.specs.declared.item.Item.{Item}
 use Rattle.rules.specs.declared.list.LockList.{LockList}
 use Rattle.rules.specs.Serves.{Outcome, outcome, processes, listSize}
-use Rattle.rules.specs.Drive.{entrySize, blocks, recordSize, recordAt, isEmpty, userByte, blockOf, freeBlocks, soundImage}
+use Rattle.rules.specs.Drive.{entrySize, blocks, recordSize, recordAt, isEmpty, userByte, blockOf, blocksInUse, freeBlocks, soundImage}
 use Rattle.rules.specs.Locks.{anEmpty, anOpen, aLock, places, itemAt, unpack, freshLock, isKindBy, opensBy, locksBy, isEmptyAt, freePlaces, soundList}
 use Rattle.rules.specs.Asks.{recordOf}
 use Rattle.rules.specs.Look.{look}
@@ -24,7 +24,7 @@ use Rattle.rules.specs.Several.{callRun}
 use Rattle.history.specs.History.{Ask, State, Serving, Engine, Event, Begun, withCount, isPossible, arePossible, EachCall, lent, outcomeOf, kept, eventsOf, event, after, historyOf, outcomeAfter}
 use Rattle.history.specs.Deeds.{ends, tells, deed, doneIn, fileBy}
 use Rattle.history.specs.Held.{sameItem, isAmong, isBy, heldAfter, anyOpenBy}
-use Rattle.history.specs.Groups.{Group, groupOf, hasBlock, isCounted, groupsOf, blocksInUse, countedAfter}
+use Rattle.history.specs.Groups.{Group, groupOf, hasBlock, isCounted, groupsOf, countedAfter}
 
 -- ---- Demand 1: a refusal leaves all four buffers unchanged. Of several records the refused one and those after it leave no
 -- trace: what is left is what a call of just the records done leaves, and that call is accepted.

@@ -4,13 +4,13 @@
 use Prim.Native.Nat.{ℕ, zero, suc, _+_, _*_, _/_, _%_}
 use mathlib.Core.Bool.{Bool, false, not}
 use mathlib.Core.List.{List, [], _∷_, map}
-use lib.Dec.{leb, eqb}
-use Rattle.words.specs.Tests.{_and_, _or_, _if_else_, count}
+use lib.Dec.{eqb}
+use Rattle.words.specs.Tests.{_and_, _or_, _if_else_}
 use Rattle.words.specs.Lists.{turns, without}
 use Rattle.rules.specs.declared.kind.Kind.{Kind}
-use Rattle.rules.specs.Kinds.{blockRecords, entries, numbers}
+use Rattle.rules.specs.Kinds.{blockRecords, numbers}
 use Rattle.rules.specs.declared.file.File.{File}
-use Rattle.rules.specs.Drive.{blocks, isEmpty, fileAt, extentAt, mapNumber, blockOf, isUsed}
+use Rattle.rules.specs.Drive.{fileAt, extentAt, blockOf, allNumbers, isNumbered}
 use Rattle.rules.specs.Locks.{sameFile}
 use Rattle.history.specs.History.{Event}
 use Rattle.history.specs.Deeds.{Deed, nothing, opens, closes, locks, unlocks, ends, touches, drops, carries, tells, deed}
@@ -39,14 +39,7 @@ hasBlock kind s f r = not (eqb (blockOf kind s f r) 0)
 abbrev pub groupOf : Kind → File → ℕ → Group
 groupOf kind f r = group f (r / blockRecords kind)
 
--- so many places have all the maps, sixteen or eight to an entry
-abbrev pub allNumbers : Kind → ℕ
-allNumbers kind = numbers kind * entries kind
-
--- place i of them holds a block number; the group that it is of
-unfoldable pub isNumbered : Kind → List ℕ → ℕ → Bool
-isNumbered kind s i = not (isEmpty s (i / numbers kind)) and not (eqb (mapNumber kind s (i / numbers kind) (i % numbers kind)) 0)
-
+-- the group that place i of all the maps is of
 unfoldable pub groupAt : Kind → List ℕ → ℕ → Group
 groupAt kind s i = group (fileAt s (i / numbers kind)) (numbers kind * extentAt s (i / numbers kind) + i % numbers kind)
 
@@ -58,13 +51,6 @@ groupsBelow kind s (suc n) = groupAt kind s n ∷ groupsBelow kind s n if isNumb
 -- the groups that have a block at the start
 unfoldable pub groupsOf : Kind → List ℕ → List Group
 groupsOf kind s = groupsBelow kind s (allNumbers kind)
-
--- the blocks in use, of 2 to n−1
-unfoldable pub isInUse : Kind → List ℕ → ℕ → Bool
-isInUse kind s b = leb 2 b and isUsed kind s b
-
-unfoldable pub blocksInUse : Kind → List ℕ → ℕ
-blocksInUse kind s = count (isInUse kind s) (blocks kind s)
 
 -- ---- In the history
 

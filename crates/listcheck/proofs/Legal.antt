@@ -1,15 +1,14 @@
 -- A name that a sound image has is legal and has no high bits: an item that is found there needs no look at its name. Assumes nothing.
-use Prim.Native.Nat.{ℕ, _*_, _/_, _≤_, _<_}
+use Prim.Native.Nat.{ℕ, _/_, _≤_, _<_}
 use mathlib.Core.Path.{_≡_, sym, ap, _∙_}
 use mathlib.Core.Bool.{Bool, true, false}
 use mathlib.Core.List.{List}
 use mathlib.Core.Logic.{⊎-elim}
-use native.Mathlib.Omega.{arith}
 use lib.ListN.{length}
 use lib.Dec.{ltb, eqb}
 use borrow.Author.Needs.{needs}
 use borrow.Author.Tests.{eqb-false, leb-false, le-leb, lt-leb, ltb-true, ltb-false, not-true}
-use Rattle.words.specs.Tests.{_and_, _if_else_, all}
+use Rattle.words.specs.Tests.{_if_else_, all}
 use Rattle.words.proofs.Tests.{either, and-fst, and-snd}
 use Rattle.words.proofs.Sets.{and-first, and-then, and-last}
 use Rattle.rules.specs.declared.kind.Kind.{Kind}
@@ -18,12 +17,9 @@ use Rattle.rules.specs.declared.item.Item.{Item}
 use Rattle.rules.specs.Kinds.{entries, top}
 use Rattle.rules.specs.Drive.{userByte, nameAt, legalName, fileAt, entryOf, lookUp, missing, goodFields, soundImage}
 use Rattle.rules.specs.Locks.{isLow}
-use Rattle.rules.proofs.Sound.{Is, found-is, length-long, sound-length, sound-of, block-named}
+use Rattle.rules.proofs.Sound.{Is, found-is, image-long, sound-of, block-named}
 use Rattle.soundness.proofs.Taken.{name-low, name-legal}
 use Rattle.listcheck.specs.Check.{fileBy, openAlone, lockAlone, itemAlone}
-
-pub image-long : (kind : Kind) (s : List ℕ) → soundImage kind s ≡ true → 32 * entries kind ≤ length s
-image-long kind s h = let k = length-long kind s (sound-length kind s h) in omega arith
 
 module _ (kind : Kind) (s : List ℕ) (f : File) (x : ℕ) (long : length (f .name) ≡ 11) (there : entryOf kind s f x < entries kind) where
   is : Is s f x (entryOf kind s f x)

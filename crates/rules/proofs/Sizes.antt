@@ -1,6 +1,6 @@
 -- The sizes of a drive of either kind: all the arithmetic in which they meet. Assumes nothing.
-use Prim.Native.Nat.{ℕ, _+_, _*_, _/_, _%_, _≤_, _<_}
-use mathlib.Core.Path.{_≡_, refl, sym}
+use Prim.Native.Nat.{ℕ, _+_, _-_, _*_, _/_, _%_, _≤_, _<_}
+use mathlib.Core.Path.{_≡_, refl, sym, ap, _∙_}
 use mathlib.Core.Bool.{true, false}
 use mathlib.Core.List.{List}
 use mathlib.Core.Logic.{_⊎_, inl, inr, ⊎-elim}
@@ -9,7 +9,7 @@ use lib.ListN.{length}
 use lib.Dec.{leb}
 use borrow.Author.Tests.{eqb-true, leb-true, leb-false}
 use Rattle.words.specs.Tests.{_and_}
-use Rattle.words.specs.Bytes.{byte, numberAt}
+use Rattle.words.specs.Bytes.{byte, numberAt, le}
 use Rattle.words.proofs.Tests.{either, and-fst, and-snd}
 use Rattle.rules.specs.declared.kind.Kind.{Kind}
 use Rattle.rules.specs.declared.kind.Kind.the-variants.{Small, Large}
@@ -235,3 +235,107 @@ pub flat-group : (kind : Kind) (r : ℕ) → numbers kind * (r / 128) + mapPlace
 unfolding mapPlace numbers blockRecords
 flat-group Small r = omega arith
 flat-group Large r = omega arith
+
+-- all of them are as many on either kind
+pub all-numbers : (kind : Kind) → numbers kind * entries kind ≡ 1024
+unfolding numbers entries
+all-numbers Small = refl
+all-numbers Large = refl
+
+-- the places of one entry
+pub flat-next : (kind : Kind) (e : ℕ) → numbers kind * (e + 1) ≡ numbers kind * e + numbers kind
+unfolding numbers
+flat-next Small e = omega arith
+flat-next Large e = omega arith
+
+pub flat-within : (kind : Kind) (e i : ℕ) → numbers kind * e ≤ i → i < numbers kind * e + numbers kind → i / numbers kind ≡ e
+unfolding numbers
+flat-within Small e i h l = omega arith
+flat-within Large e i h l = omega arith
+
+pub flat-past : (kind : Kind) (e i : ℕ) → numbers kind * e ≤ i → e ≤ i / numbers kind
+unfolding numbers
+flat-past Small e i h = omega arith
+flat-past Large e i h = omega arith
+
+pub flat-up : (kind : Kind) (d e : ℕ) → d ≤ e → numbers kind * d ≤ numbers kind * e
+unfolding numbers
+flat-up Small d e h = omega arith
+flat-up Large d e h = omega arith
+
+-- ---- the bytes of one map
+
+-- they are sixteen
+pub map-size : (kind : Kind) → width kind * numbers kind ≡ 16
+unfolding width numbers
+map-size Small = refl
+map-size Large = refl
+
+pub map-inside : (kind : Kind) (k j : ℕ) → k < numbers kind → j < width kind → width kind * k + j < 16
+unfolding width numbers
+map-inside Small k j l m = omega arith
+map-inside Large k j l m = omega arith
+
+pub map-room : (kind : Kind) (k : ℕ) → k < numbers kind → width kind * k + width kind ≤ 16
+unfolding width numbers
+map-room Small k l = omega arith
+map-room Large k l = omega arith
+
+-- a number below n whose bytes stand in place k
+pub map-held : (kind : Kind) (s : List ℕ) (e k n : ℕ) → n < most kind
+    → ((j : ℕ) → j < width kind → byte s (32 * e + (16 + (width kind * k + j))) ≡ byte (le (width kind) n) j) → mapNumber kind s e k ≡ n
+unfolding width le most
+map-held Small s e k n l h =
+    let p : 1 * k + 0 ≡ k = omega arith in
+    rw (← map-small s e k, ← p) (h 0 (omega arith) ∙ omega arith)
+map-held Large s e k n l h =
+    let p : 32 * e + (16 + (2 * k + 0)) ≡ 32 * e + (16 + 2 * k) = omega arith in
+    let q : 32 * e + (16 + (2 * k + 1)) ≡ 32 * e + (16 + 2 * k) + 1 = omega arith in
+    let a : byte s (32 * e + (16 + 2 * k)) ≡ n % 256 = ap (byte s) (sym p) ∙ h 0 (omega arith) in
+    let b : byte s (32 * e + (16 + 2 * k) + 1) ≡ n / 256 % 256 = ap (byte s) (sym q) ∙ h 1 (omega arith) in
+    rw (← map-large s e k, a, b) (omega arith)
+
+-- ---- the bytes of the blocks
+
+-- m blocks behind the directory, and the rest of n
+pub blocks-rest : (kind : Kind) (n m : ℕ) → 2 + m ≤ n → 32 * entries kind + (blockSize kind * m + blockSize kind * (n - 2 - m)) ≡ blockSize kind * n
+unfolding blockSize entries
+blocks-rest Small n m h = omega arith
+blocks-rest Large n m h = omega arith
+
+pub block-behind : (kind : Kind) (j i : ℕ) → blockSize kind * (2 + j) + i ≡ 32 * entries kind + (blockSize kind * j + i)
+unfolding blockSize entries
+block-behind Small j i = omega arith
+block-behind Large j i = omega arith
+
+pub block-low : (kind : Kind) (j m i : ℕ) → j < m → i < blockSize kind → blockSize kind * j + i < blockSize kind * m
+unfolding blockSize
+block-low Small j m i h l = omega arith
+block-low Large j m i h l = omega arith
+
+-- ---- the records of a block
+
+-- a byte of a record is one of its block
+pub record-byte : (kind : Kind) (r i : ℕ) → i < 128 → 128 * (r % blockRecords kind) + i < blockSize kind
+unfolding blockRecords blockSize
+record-byte Small r i h = omega arith
+record-byte Large r i h = omega arith
+
+-- the record of byte i of the block in place k of extent x's map: its extent, its place, and byte i again
+abbrev pub recordOver : Kind → ℕ → ℕ → ℕ → ℕ
+recordOver kind x k i = 128 * x + (blockRecords kind * k + i / 128)
+
+pub over-extent : (kind : Kind) (x k i : ℕ) → k < numbers kind → i < blockSize kind → recordOver kind x k i / 128 ≡ x
+unfolding blockRecords numbers blockSize
+over-extent Small x k i l m = omega arith
+over-extent Large x k i l m = omega arith
+
+pub over-place : (kind : Kind) (x k i : ℕ) → k < numbers kind → i < blockSize kind → mapPlace kind (recordOver kind x k i) ≡ k
+unfolding mapPlace blockRecords numbers blockSize
+over-place Small x k i l m = omega arith
+over-place Large x k i l m = omega arith
+
+pub over-byte : (kind : Kind) (x k i b : ℕ) → i < blockSize kind → recordAt kind b (recordOver kind x k i) + i % 128 ≡ blockSize kind * b + i
+unfolding recordAt blockRecords blockSize
+over-byte Small x k i b m = omega arith
+over-byte Large x k i b m = omega arith

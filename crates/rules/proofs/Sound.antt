@@ -8,7 +8,7 @@ use native.Mathlib.Omega.{arith}
 use lib.ListN.{length, getD}
 use lib.Dec.{eqb, leb, ltb}
 use borrow.Author.Tests.{eqb-true, eqb-false, eq-eqb, ne-eqb, leb-true, leb-false, ltb-true, le-leb, lt-ltb, not-true}
-use Rattle.words.specs.Tests.{_and_, _if_else_, all, any, count}
+use Rattle.words.specs.Tests.{_and_, _if_else_, all, any}
 use Rattle.words.specs.Lists.{tab}
 use Rattle.words.specs.Bytes.{byte, lowFrom}
 use Rattle.words.proofs.Tests.{either, never, all-at, all-make, any-at, any-found, any-never, any-some, lowest-holds, and-fst, and-snd, or-fst, or-snd, or-so, or-case}
@@ -19,7 +19,7 @@ use Rattle.rules.specs.declared.answer.ImageAnswer.the-variants.{Sound}
 use Rattle.rules.specs.declared.file.File.{File}
 use Rattle.rules.specs.declared.kind.Kind.{Kind}
 use Rattle.rules.specs.Kinds.{blockSize, most, entries, numbers, top}
-use Rattle.rules.specs.Drive.{goodLength, blocks, isEmpty, nameAt, extentAt, mapNumber, mapPlace, sameLow, isNamed, fileFrom, fileAt, isOf, isEntry, entryOf, holdsNumber, namesBlock, isUsed, isFree, freeBlocks, goodFields, inRange, namedBefore, isFirst, isRepeat, goodEntry, hasFirst, soundDirectory, soundImage, imageCheck, userByte, blockIn, blockOf}
+use Rattle.rules.specs.Drive.{goodLength, blocks, isEmpty, nameAt, extentAt, mapNumber, mapPlace, sameLow, isNamed, fileFrom, fileAt, isOf, isEntry, entryOf, holdsNumber, namesBlock, isUsed, isInUse, blocksInUse, isFree, freeBlocks, goodFields, inRange, namedBefore, isFirst, isRepeat, goodEntry, hasFirst, soundDirectory, soundImage, imageCheck, userByte, blockIn, blockOf}
 use Rattle.rules.proofs.Sizes.{size-whole, size-long, place-fits}
 
 -- ---- entries
@@ -138,6 +138,13 @@ module _ (kind : Kind) (s : List ℕ) (h : soundImage kind s ≡ true) where
   pub sound-length : goodLength kind s ≡ true
   unfolding soundImage
   sound-length = and-fst _ _ h
+
+  -- the directory lies in the image, and so does each entry
+  pub image-long : 32 * entries kind ≤ length s
+  image-long = let a = length-long kind s sound-length in omega arith
+
+  pub entry-inside : (e : ℕ) → e < entries kind → 32 * e + 32 ≤ length s
+  entry-inside e l = let a = image-long in omega arith
 
   entry-of : (e : ℕ) → e < entries kind → isEmpty s e ≡ false
       → (goodFields kind s e and all (inRange kind s e) (numbers kind) and all (isFirst kind s e) (numbers kind) and not (isRepeat s e)) ≡ true
@@ -270,13 +277,9 @@ module _ (kind : Kind) (s : List ℕ) (g : SoundImage kind s) where
 
 -- ---- blocks
 
--- a used block of the drive
-unfoldable pub isUsedData : Kind → List ℕ → ℕ → Bool
-isUsedData kind s b = leb 2 b and isUsed kind s b
-
 -- the free and the used blocks add up to n − 2
-pub add-up : (kind : Kind) (s : List ℕ) → freeBlocks kind s + count (isUsedData kind s) (blocks kind s) ≡ blocks kind s - 2
-unfolding freeBlocks isFree isUsedData
+pub add-up : (kind : Kind) (s : List ℕ) → freeBlocks kind s + blocksInUse kind s ≡ blocks kind s - 2
+unfolding freeBlocks isFree blocksInUse isInUse
 add-up kind s = count-split 2 (blocks kind s) (isUsed kind s)
 
 -- a record that has a block: where its number stands

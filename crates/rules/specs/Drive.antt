@@ -161,6 +161,20 @@ namesBlock kind s b e = not (isEmpty s e) and any (holdsNumber kind s b e) (numb
 unfoldable pub isUsed : Kind → List ℕ → ℕ → Bool
 isUsed kind s b = any (namesBlock kind s b) (entries kind)
 
+-- so many places have all the maps, sixteen or eight to an entry; place i of them holds a block number
+abbrev pub allNumbers : Kind → ℕ
+allNumbers kind = numbers kind * entries kind
+
+unfoldable pub isNumbered : Kind → List ℕ → ℕ → Bool
+isNumbered kind s i = not (isEmpty s (i / numbers kind)) and not (eqb (mapNumber kind s (i / numbers kind) (i % numbers kind)) 0)
+
+-- the blocks in use, of 2 to n−1
+unfoldable pub isInUse : Kind → List ℕ → ℕ → Bool
+isInUse kind s b = leb 2 b and isUsed kind s b
+
+unfoldable pub blocksInUse : Kind → List ℕ → ℕ
+blocksInUse kind s = count (isInUse kind s) (blocks kind s)
+
 -- Data blocks are 2 to n−1.
 unfoldable pub isFree : Kind → List ℕ → ℕ → Bool
 isFree kind s b = leb 2 b and not (isUsed kind s b)

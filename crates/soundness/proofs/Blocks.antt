@@ -1,5 +1,5 @@
 -- The block of a record: where its number stands, and that it stands there alone. Assumes nothing.
-use Prim.Native.Nat.{ℕ, _/_, _<_}
+use Prim.Native.Nat.{ℕ, _+_, _*_, _/_, _%_, _<_}
 use mathlib.Core.Path.{_≡_, sym, _∙_}
 use mathlib.Core.Bool.{true, false}
 use mathlib.Core.List.{List}
@@ -7,14 +7,15 @@ use mathlib.Core.Logic.{⊎-elim}
 use native.Mathlib.Omega.{arith}
 use lib.ListN.{length}
 use lib.Dec.{ltb}
-use borrow.Author.Tests.{ltb-true, ltb-false, lt-leb}
+use borrow.Author.Tests.{eqb-false, ne-eqb, ltb-true, ltb-false, lt-leb, not-true}
 use Rattle.words.specs.Tests.{_if_else_}
-use Rattle.words.proofs.Tests.{either, equal?, any-found, lowest-below}
+use Rattle.words.proofs.Tests.{either, equal?, and-fst, and-snd, any-found, lowest-below}
+use Rattle.words.proofs.Sets.{and-both, not-of-false}
 use Rattle.rules.specs.declared.kind.Kind.{Kind}
-use Rattle.rules.specs.Kinds.{entries}
+use Rattle.rules.specs.Kinds.{entries, numbers}
 use Rattle.rules.specs.declared.file.File.{File}
-use Rattle.rules.specs.Drive.{mapNumber, mapPlace, isEntry, entryOf, blockIn, blockOf}
-use Rattle.rules.proofs.Sizes.{place-fits}
+use Rattle.rules.specs.Drive.{mapNumber, mapPlace, isEntry, entryOf, blockIn, blockOf, allNumbers, isNumbered}
+use Rattle.rules.proofs.Sizes.{place-fits, flat-entry, flat-place, flat-short, flat-there}
 use Rattle.rules.proofs.Sound.{Is, Entries, Names, SoundImage, entry-so, found-is, block-is, block-named}
 use Rattle.rules.proofs.Frames.{Same, head-of, same-back, is-same, map-same}
 use Rattle.soundness.proofs.Changes.{Grown, Theirs, Touches}
@@ -73,6 +74,30 @@ of-at kind s f r b n g a =
     let l = found-below kind s f (r / 128) (a .entry) (a .below) (a .is) in
     let q : a .entry ≡ e = only kind s f (r / 128) (a .entry) e (g .files) (a .below) l (a .is) (found-is kind s f (r / 128) n l) in
     rw (lt-leb (entries kind) e l, ← q) (a .number)
+
+-- ---- place k of entry e, and place numbers·e + k of all
+
+-- a place, numbered through all the maps, that holds a number names a block, ..
+pub numbered-names : (kind : Kind) (s : List ℕ) (i : ℕ) → i < allNumbers kind → isNumbered kind s i ≡ true → Names kind s (i / numbers kind) (i % numbers kind)
+unfolding isNumbered
+numbered-names kind s i m h = record {
+  entry-there = flat-there kind i m;
+  place-there = flat-short kind i;
+  entry-used = not-true _ (and-fst _ _ h);
+  some = eqb-false _ _ (not-true _ (and-snd _ _ h));
+}
+
+-- .. one that names a block holds a number, ..
+pub names-numbered : (kind : Kind) (s : List ℕ) (i : ℕ) → Names kind s (i / numbers kind) (i % numbers kind) → isNumbered kind s i ≡ true
+unfolding isNumbered
+names-numbered kind s i n = and-both _ _ (not-of-false _ (n .entry-used)) (not-of-false _ (ne-eqb _ _ (n .some)))
+
+-- .. and so it is of place k of entry e
+pub names-flat : (kind : Kind) (s : List ℕ) (e k : ℕ) → Names kind s e k → isNumbered kind s (numbers kind * e + k) ≡ true
+names-flat kind s e k n =
+    names-numbered kind s (numbers kind * e + k) (rw (flat-entry kind e k (n .place-there), flat-place kind e k (n .place-there)) n)
+
+-- ---- in two images
 
 -- two images in which the record has the same block, or both none
 pub blocks-same : (kind : Kind) (s t : List ℕ) (f : File) (r : ℕ) → length (f .name) ≡ 11 → SoundImage kind s → SoundImage kind t

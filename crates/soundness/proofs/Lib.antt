@@ -10,6 +10,7 @@ pub mod Turns
 pub mod Erased
 pub mod Renamed
 pub mod Blocks
+pub mod InUse
 pub mod Leaves
 pub mod Walk
 pub mod Placed

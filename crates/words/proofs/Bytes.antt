@@ -1,15 +1,16 @@
 -- Laws of bytes: parts, bytes put at a place, numbers in bytes. Assumes nothing.
-use Prim.Native.Nat.{ℕ, _+_, _-_, _/_, _%_, _≤_, _<_}
+use Prim.Native.Nat.{ℕ, zero, suc, _+_, _-_, _/_, _%_, _≤_, _<_}
 use mathlib.Core.Path.{_≡_, refl, sym, ap, _∙_}
-use mathlib.Core.List.{List, _++_, append-assoc, append-nil}
+use mathlib.Core.List.{List, [], _∷_, _++_, append-assoc, append-nil}
 use mathlib.Core.Logic.{_⊎_, ⊎-elim}
 use native.Mathlib.Numerals.{add-one}
 use native.Mathlib.Omega.{arith}
-use lib.ListN.{length, getD, set, take, drop, replicate, length-append, length-take, length-drop, length-replicate, List·getD-append, List·getD-eq-default, take-append-drop}
+use lib.ListN.{length, getD, set, take, drop, replicate, length-append, length-take, length-drop, length-replicate, getD-replicate, List·getD-append, List·getD-eq-default, take-append-drop}
 use lib.Seq.{drop-length, getD-append-add, getD-take, getD-drop, length-take-le, take-length, take-at, drop-at, drop-drop, paste, paste-suc}
 use borrow.Rule.Slice.PartMut.{putMid}
-use Rattle.words.specs.Bytes.{byte, part, put, word}
-use Rattle.words.proofs.Lists.{tab-ext, tab-getD}
+use Rattle.words.specs.Lists.{tab}
+use Rattle.words.specs.Bytes.{byte, byteFrom, bytesFrom, part, put, le, word}
+use Rattle.words.proofs.Lists.{tab-ext, tab-getD, length-tab}
 
 -- what stands past the end of a list
 pub past-end : (l : List ℕ) (n i : ℕ) → length l ≡ n → n ≤ i → 0 ≡ getD l i 0
@@ -23,13 +24,60 @@ part-long s at n h = simp (length-take, length-drop) (omega arith)
 pub part-byte : (s : List ℕ) (at n k : ℕ) → k < n → byte (part at n s) k ≡ byte s (at + k)
 part-byte s at n k h = getD-take n (drop at s) k 0 h ∙ getD-drop at s k 0
 
--- of two lists with the same bytes there
+-- as the table of its bytes
+pub part-tab : (s : List ℕ) (at n : ℕ) → at + n ≤ length s → part at n s ≡ tab (byteFrom s at) n
+part-tab s at n h =
+    sym (tab-getD (part at n s) 0 n (part-long s at n h))
+    ∙ tab-ext (λ (k : ℕ). getD (part at n s) k 0) (byteFrom s at) n (λ k l. part-byte s at n k l)
+
+-- of two lists with the same bytes there, ..
+pub part-alike : (s t : List ℕ) (a b n : ℕ) → a + n ≤ length s → b + n ≤ length t → ((k : ℕ) → k < n → byte t (b + k) ≡ byte s (a + k))
+    → part b n t ≡ part a n s
+part-alike s t a b n h g e = part-tab t b n g ∙ tab-ext (byteFrom t b) (byteFrom s a) n e ∙ sym (part-tab s a n h)
+
+-- .. at the same place
 pub part-same : (s t : List ℕ) (at n : ℕ) → at + n ≤ length s → length t ≡ length s → ((k : ℕ) → k < n → byte t (at + k) ≡ byte s (at + k))
     → part at n t ≡ part at n s
-part-same s t at n h e b =
-    sym (tab-getD (part at n t) 0 n (part-long t at n (omega arith)))
-    ∙ tab-ext (λ (k : ℕ). getD (part at n t) k 0) (λ (k : ℕ). getD (part at n s) k 0) n (λ k l. part-byte t at n k l ∙ b k l ∙ sym (part-byte s at n k l))
-    ∙ tab-getD (part at n s) 0 n (part-long s at n h)
+part-same s t at n h e b = part-alike s t at at n h (omega arith) b
+
+-- ---- bytes from a place on, with zeros past the end
+
+padded-at : (xs : List ℕ) (n k : ℕ) → k < n → getD (xs ++ replicate n 0) k 0 ≡ getD xs k 0
+padded-at [] n k l = getD-replicate n k 0 0 l
+padded-at (x ∷ xs) n zero l = refl
+padded-at (x ∷ xs) n (suc k) l = padded-at xs n k (omega arith)
+
+-- they are the table of its bytes, ..
+pub from-tab : (s : List ℕ) (at n : ℕ) → bytesFrom s at n ≡ tab (byteFrom s at) n
+unfolding bytesFrom
+from-tab s at n =
+    let m : length (replicate {A = ℕ} n 0) ≡ n = length-replicate n 0 in
+    let a = length-append (drop at s) (replicate n 0) in
+    let l = length-take-le n (drop at s ++ replicate n 0) (omega arith) in
+    sym (tab-getD (bytesFrom s at n) 0 n l)
+    ∙ tab-ext (λ (k : ℕ). getD (bytesFrom s at n) k 0) (byteFrom s at) n
+    (λ k h. getD-take n (drop at s ++ replicate n 0) k 0 h ∙ padded-at (drop at s) n k h ∙ getD-drop at s k 0)
+
+-- .. so many, ..
+pub from-size : (s : List ℕ) (at n : ℕ) → length (bytesFrom s at n) ≡ n
+from-size s at n = ap length (from-tab s at n) ∙ length-tab (byteFrom s at) n
+
+-- .. and a part of a list where it has as many
+pub from-part : (s : List ℕ) (at n : ℕ) → at + n ≤ length s → part at n s ≡ bytesFrom s at n
+from-part s at n h = part-tab s at n h ∙ sym (from-tab s at n)
+
+-- ---- one list after another
+
+module _ (xs ys : List ℕ) (n : ℕ) (size : length xs ≡ n) where
+  -- a byte of the first, ..
+  pub first-byte : (i : ℕ) → i < n → byte (xs ++ ys) i ≡ byte xs i
+  first-byte i l = List·getD-append xs ys 0 i (omega arith)
+
+  -- .. and one of the second
+  pub second-byte : (i : ℕ) → n ≤ i → byte (xs ++ ys) i ≡ byte ys (i - n)
+  second-byte i l =
+      let p : i ≡ length xs + (i - n) = omega arith in
+      ap (λ (j : ℕ). byte (xs ++ ys) j) p ∙ getD-append-add xs ys (i - n) 0
 
 -- ---- bytes of a list that v was put into
 
@@ -98,12 +146,20 @@ lent-back a e xs ys zs h g n =
     ∙ ap (λ (t : List ℕ). take a xs ++ (zs ++ t)) (drop-drop (e - a) a xs ∙ ap (λ (m : ℕ). drop m xs) k)
     ∙ sym (append-assoc (take a xs) zs (drop (a + length zs) xs))
 
--- the same of a part of k bytes that came back filled with zeros
-pub lent-zeros : (a e k : ℕ) (xs ys : List ℕ) → e ≡ a + k → e ≤ length xs → ys ≡ replicate (length (take (e - a) (drop a xs))) 0
-    → putMid a (e - a) xs ys ≡ put a (replicate k 0) xs
-lent-zeros a e k xs ys h m n =
+-- the same of a part of k bytes that came back filled with one byte
+pub lent-filled : (a e k b : ℕ) (xs ys : List ℕ) → e ≡ a + k → e ≤ length xs → ys ≡ replicate (length (take (e - a) (drop a xs))) b
+    → putMid a (e - a) xs ys ≡ put a (replicate k b) xs
+lent-filled a e k b xs ys h m n =
     let j : length (take (e - a) (drop a xs)) ≡ k = simp (length-take, length-drop) (omega arith) in
-    lent-back a e xs ys (replicate k 0) (omega arith) (length-replicate k 0 ∙ omega arith) (n ∙ ap (λ (i : ℕ). replicate i 0) j)
+    lent-back a e xs ys (replicate k b) (omega arith) (length-replicate k b ∙ omega arith) (n ∙ ap (λ (i : ℕ). replicate i b) j)
+
+-- a list that begins with v, when w has been put behind v
+pub begins-more : (v w s : List ℕ) (at : ℕ) → take (length v) s ≡ v → at ≡ length v → at + length w ≤ length s
+    → take (length (v ++ w)) (put at w s) ≡ v ++ w
+unfolding put
+begins-more v w s at h e fits =
+    let q : take at s ≡ v = ap (λ (n : ℕ). take n s) e ∙ h in
+    ap (λ (x : List ℕ). take (length (v ++ w)) (x ++ w ++ drop (at + length w) s)) q ∙ take-at (v ++ w) (drop (at + length w) s) (length (v ++ w)) refl
 
 -- all of it put anew
 pub put-whole : (v s : List ℕ) → length v ≡ length s → put 0 v s ≡ v
@@ -128,6 +184,11 @@ pub put-as : (at : ℕ) (v v′ s l : List ℕ) → l ≡ put at v s → v ≡ v
 put-as at v v′ s l h e = h ∙ ap (λ (x : List ℕ). put at x s) e
 
 -- ---- numbers in bytes
+
+pub le-long : (k n : ℕ) → length (le k n) ≡ k
+unfolding le
+le-long zero n = refl
+le-long (suc k) n = ap suc (le-long k (n / 256))
 
 pub word-back : (n : ℕ) → n < 4294967296 → word (n % 256) (n / 256 % 256) (n / 256 / 256 % 256) (n / 256 / 256 / 256 % 256) ≡ n
 word-back n h = omega arith

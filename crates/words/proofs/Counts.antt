@@ -3,6 +3,7 @@ use Prim.Native.Nat.{ℕ, zero, suc, _+_, _-_, _≤_, _<_}
 use mathlib.Core.Path.{_≡_, refl, sym, ap, _∙_}
 use mathlib.Core.Bool.{Bool, true, false, not}
 use mathlib.Core.Logic.{⊎-elim}
+use native.Mathlib.Nat.{add-zero}
 use native.Mathlib.Omega.{arith}
 use lib.Dec.{leb, eqb}
 use borrow.Author.Tests.{leb-true, leb-false, eqb-true, eqb-false}
@@ -114,3 +115,36 @@ count-set f g j n m was h =
     let k = count-ext g f n (λ i l. ⊎-elim (λ (e : i ≡ j). ap g e ∙ q ∙ sym was ∙ ap f (sym e)) (λ (e : i ≡ j → ⊥). h i l e) (equal? i j)) in
     rw q (omega arith))
     (either (g j))
+
+-- ---- where those that pass stand
+
+module _ (f : ℕ → Bool) where
+  -- below one that passes, fewer are counted, ..
+  pub count-below : (i j : ℕ) → i < j → f i ≡ true → count f i < count f j
+  count-below i j l h = let a = count-yes f i h in let b = count-grows f (suc i) j l in omega arith
+
+  -- .. so that no two have the same count
+  pub count-apart : (i j : ℕ) → f i ≡ true → f j ≡ true → count f i ≡ count f j → i ≡ j
+  count-apart i j h g e =
+      ⊎-elim (λ (c : leb j i ≡ true). ⊎-elim
+      (λ (d : leb i j ≡ true). let m = leb-true j i c in let n = leb-true i j d in omega arith)
+      (λ (d : leb i j ≡ false). let k = count-below j i (leb-false i j d) g in absurd (omega arith)) (either (leb i j)))
+      (λ (c : leb j i ≡ false). let k = count-below i j (leb-false j i c) h in absurd (omega arith)) (either (leb j i))
+
+  -- all of them pass
+  pub count-all : (n : ℕ) → ((i : ℕ) → i < n → f i ≡ true) → count f n ≡ n
+  unfolding count
+  count-all zero h = refl
+  count-all (suc n) h = let k = count-all n (λ i l. h i (omega arith)) in let q = count-yes f n (h n (omega arith)) in omega arith
+
+-- two tests that agree from two places on
+pub count-shift : (f g : ℕ → Bool) (a b : ℕ) → count f a ≡ count g b → (j : ℕ) → ((i : ℕ) → i < j → f (a + i) ≡ g (b + i))
+    → count f (a + j) ≡ count g (b + j)
+unfolding count
+count-shift f g a b e zero h = rw (add-zero a, add-zero b) e
+count-shift f g a b e (suc j) h =
+    let k = count-shift f g a b e j (λ i l. h i (omega arith)) in
+    let p : a + suc j ≡ suc (a + j) = omega arith in
+    let q : b + suc j ≡ suc (b + j) = omega arith in
+    ap (count f) p ∙ ap (λ (n : ℕ). n + (1 if f (a + j) else 0)) k ∙ ap (λ (t : Bool). count g (b + j) + (1 if t else 0)) (h j (omega arith))
+    ∙ ap (count g) (sym q)

@@ -5,6 +5,7 @@ pub mod Bytes
 pub mod AreBytes
 pub mod Tables
 pub mod Counts
+pub mod Passing
 pub mod Tallies
 pub mod Sums
 pub mod Sets

@@ -1,7 +1,7 @@
 -- Laws of lists made by a rule. Assumes nothing.
 use Prim.Native.Nat.{ℕ, zero, suc, _+_, _*_, _≤_, _<_}
 use mathlib.Core.Path.{_≡_, refl, sym, ap, subst, _∙_}
-use mathlib.Core.List.{List, [], _∷_, _++_, map}
+use mathlib.Core.List.{List, [], _∷_, _++_, map, append-nil, append-assoc}
 use native.Mathlib.Nat.{le-of-suc-le-suc, not-suc-le-zero, mul-suc}
 use native.Mathlib.Numerals.{add-one}
 use native.Mathlib.Omega.{arith}
@@ -120,6 +120,34 @@ module _ {A : Type 0} (f : A → List ℕ) (w : ℕ) (hw : (x : A) → length (f
   flat-block (suc i) (x ∷ xs) d h =
       let z : w * suc i ≡ length (f x) + w * i = omega (arith, mul-suc w i, hw x) in
       rw (z, drop-append-add (f x) (flat f xs) (w * i)) (flat-block i xs d (le-of-suc-le-suc h))
+
+-- ---- more of them
+
+module _ {A : Type 0} where
+  pub flat-append : (f : A → List ℕ) (xs ys : List A) → flat f (xs ++ ys) ≡ flat f xs ++ flat f ys
+  unfolding flat
+  flat-append f [] ys = refl
+  flat-append f (x ∷ xs) ys = ap (λ (t : List ℕ). f x ++ t) (flat-append f xs ys) ∙ sym (append-assoc (f x) (flat f xs) (flat f ys))
+
+  pub flat-one : (f : A → List ℕ) (x : A) → flat f (x ∷ []) ≡ f x
+  unfolding flat
+  flat-one f x = append-nil (f x)
+
+  pub tab-more : (f : ℕ → A) (n : ℕ) → tab f (suc n) ≡ tab f n ++ (f n ∷ [])
+  unfolding tab
+  tab-more f zero = refl
+  tab-more f (suc n) = ap (λ (t : List A). f 0 ∷ t) (tab-more (λ (k : ℕ). f (suc k)) n)
+
+  -- two rules that give the same of each element
+  pub flat-same : (f g : A → List ℕ) (d : A) (xs ys : List A) → length xs ≡ length ys
+      → ((i : ℕ) → i < length xs → f (getD xs i d) ≡ g (getD ys i d)) → flat f xs ≡ flat g ys
+  unfolding flat
+  flat-same f g d [] [] e h = refl
+  flat-same f g d [] (y ∷ ys) e h = absurd (omega arith)
+  flat-same f g d (x ∷ xs) [] e h = absurd (omega arith)
+  flat-same f g d (x ∷ xs) (y ∷ ys) e h =
+      ap (λ (t : List ℕ). t ++ flat f xs) (h 0 (omega arith))
+      ∙ ap (λ (t : List ℕ). g y ++ t) (flat-same f g d xs ys (omega arith) (λ i l. h (suc i) (omega arith)))
 
 -- a list cut into blocks, each of which g takes for f's
 module _ {A : Type 0} (f : A → List ℕ) (g : List ℕ → A) (w : ℕ) where

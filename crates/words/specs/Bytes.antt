@@ -2,7 +2,7 @@
 use Prim.Native.Nat.{ℕ, zero, suc, _+_, _*_, _/_, _%_}
 use mathlib.Core.Bool.{Bool, true}
 use mathlib.Core.List.{List, [], _∷_, _++_}
-use lib.ListN.{length, getD, take, drop}
+use lib.ListN.{length, getD, take, drop, replicate}
 use lib.Dec.{ltb}
 use Rattle.words.specs.Tests.{_and_}
 
@@ -20,6 +20,10 @@ lowFrom s at k = byte s (at + k) % 128
 -- k bytes from a place on
 abbrev pub part : ℕ → ℕ → List ℕ → List ℕ
 part at k s = take k (drop at s)
+
+-- the same, with 0 for each byte past the end
+unfoldable pub bytesFrom : List ℕ → ℕ → ℕ → List ℕ
+bytesFrom s at k = take k (drop at s ++ replicate k 0)
 
 -- s with v from a place on
 unfoldable pub put : ℕ → List ℕ → List ℕ → List ℕ

@@ -14,6 +14,11 @@ unfoldable pub flat : {A : Type 0} → (A → List ℕ) → List A → List ℕ
 flat f [] = []
 flat f (x ∷ xs) = f x ++ flat f xs
 
+-- the numbers below n that pass a test, rising
+unfoldable pub passing : (ℕ → Bool) → ℕ → List ℕ
+passing f zero = []
+passing f (suc n) = passing f n ++ (n ∷ [] if f n else [])
+
 -- how many of a list pass a test
 unfoldable pub tally : {A : Type 0} → (A → Bool) → List A → ℕ
 tally t [] = 0

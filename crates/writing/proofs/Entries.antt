@@ -6,7 +6,7 @@ use mathlib.Core.List.{List, [], _∷_, _++_}
 use native.Mathlib.Omega.{arith}
 use lib.ListN.{length, getD, take, drop, replicate}
 use borrow.Rule.Slice.PartMut.{putMid}
-use Rattle.words.proofs.Bytes.{lent-zeros}
+use Rattle.words.proofs.Bytes.{lent-filled}
 use borrow.Author.Needs.{needs}
 use borrow.Author.Tests.{ltb-true}
 use Rattle.words.specs.Tests.{all, _if_else_, _and_}
@@ -92,7 +92,7 @@ module _ (kind : Kind) (zeros : Bool) (w : Spot) (xs : List ℕ) where
       → blockSize kind * w .block + blockSize kind ≤ length xs → ys ≡ replicate (length (take (a + m - a) (drop a xs))) 0
       → putMid a (a + m - a) xs ys ≡ cleared kind zeros w xs
   unfolding cleared _if_else_ _and_
-  cleared-on ys a m z y p q f h = rw (z, y, ← p, ← q) (lent-zeros a (a + m) m xs ys refl (omega arith) h)
+  cleared-on ys a m z y p q f h = rw (z, y, ← p, ← q) (lent-filled a (a + m) m 0 xs ys refl (omega arith) h)
 
   pub cleared-no : zeros ≡ false → xs ≡ cleared kind zeros w xs
   unfolding cleared _if_else_ _and_

@@ -1,4 +1,4 @@
-use crate::bytes::fill_zeros;
+use crate::bytes::fill;
 use directory::name::eleven_from;
 use directory::place::block_at;
 use directory::place::map_place;
@@ -134,7 +134,7 @@ pub fn clear_block(kind: Kind, image: &mut [u8], zeros: bool, w: Spot)
         if w.taken {
             let a = block_at(kind, w.block);
             let e = a + block_size(kind);
-            fill_zeros(&mut image[a..e]);
+            fill(&mut image[a..e], 0);
         }
     }
 }

@@ -7,7 +7,7 @@ use std::collections::{BTreeMap, BTreeSet};
 pub const EMPTY: u8 = 0xE5;
 pub const RECORD_LIMIT: u32 = 262_144;
 
-const FIRST_DATA_BLOCK: usize = 2;
+pub const FIRST_DATA_BLOCK: usize = 2;
 const HIGHEST_USER: u8 = 15;
 const EX_LIMIT: u8 = 32;
 const MODULE_LIMIT: u8 = 64;

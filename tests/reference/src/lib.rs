@@ -6,6 +6,7 @@ pub mod drive;
 pub mod kind;
 pub mod locks;
 pub mod name;
+pub mod packing;
 pub mod program;
 pub mod salvage;
 pub mod singly;
@@ -70,6 +71,30 @@ pub fn salvage(kind: u32, image: &mut [u8], report: &mut [u8]) -> u32 {
     }
     report.copy_from_slice(&salvage::mend(kind, blocks, &mut image[..kind.directory()]));
     0
+}
+
+/// Writes the book packed into a buffer of the image's length. A + 256·H; a refusal leaves the buffer as it was.
+pub fn pack(kind: u32, image: &[u8], list: &[u8], packed: &mut [u8]) -> u32 {
+    match packing_of(kind, image, list, packed.len()) {
+        Ok(bytes) => {
+            packed.copy_from_slice(&bytes);
+            Answer::SUCCESS.word()
+        }
+        Err(refusal) => refusal.word(),
+    }
+}
+
+fn packing_of(kind: u32, image: &[u8], list: &[u8], length: usize) -> Result<Vec<u8>, Answer> {
+    let kind = Kind::told(kind).ok_or(Answer::extended(13))?;
+    if list.len() != LIST_LENGTH || length != image.len() {
+        return Err(Answer::extended(13));
+    }
+    let drive = Drive::read(kind, image).map_err(|_| Answer::extended(1))?;
+    let list = LockList::read(list, &drive).ok_or(Answer::extended(12))?;
+    if list.holds_an_open() {
+        return Err(Answer::extended(5));
+    }
+    Ok(packing::packed(kind, image))
 }
 
 /// A + 256·H.

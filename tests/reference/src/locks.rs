@@ -173,6 +173,11 @@ impl LockList {
         self.opens_of(file).next().is_some()
     }
 
+    /// Somebody has some file open.
+    pub fn holds_an_open(&self) -> bool {
+        !self.opens.is_empty()
+    }
+
     pub fn is_open_by_another(&self, file: &File, process: u8) -> bool {
         self.opens_of(file).any(|(other, _)| other != process)
     }

@@ -2,7 +2,7 @@
 
 use super::books::{book_of, some_blocks, some_book};
 use super::damaged::{damage, overwrite};
-use super::{Case, What};
+use super::{packs, Case, What};
 use crate::random::Random;
 use reference::kind::Kind;
 
@@ -32,6 +32,7 @@ impl Cases {
     pub fn next_of(&mut self, what: What, kind: Kind) -> Case {
         let mut case = match what {
             What::Salvage => self.salvage(kind),
+            What::Pack => packs::some_case(kind, &mut self.random),
         };
         match self.random.below(100) {
             0 => case.kind = self.random.pick(&UNKNOWN_KINDS),

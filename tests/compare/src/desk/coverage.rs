@@ -1,6 +1,6 @@
 //! What the cases have reached, read from their bytes by rules of its own.
 
-use super::{Case, Outcome, What};
+use super::{packs, Case, Outcome, What};
 use crate::faults::{block_numbers, extent_number, image_faults, is_legal_name};
 use reference::kind::Kind;
 use std::collections::{BTreeMap, BTreeSet};
@@ -22,6 +22,7 @@ impl Coverage {
         *self.cases.entry(case.what).or_default() += 1;
         let seen = match case.what {
             What::Salvage => seen_of_salvage(case, outcome),
+            What::Pack => packs::seen(case, outcome),
         };
         for one in seen {
             *self.met.entry((case.what, one)).or_default() += 1;
@@ -57,9 +58,11 @@ impl Coverage {
 fn wanted(what: What) -> Vec<String> {
     let of_kind = |kind: Kind| match what {
         What::Salvage => wanted_of_salvage(kind),
+        What::Pack => packs::wanted(kind),
     };
     let of_unknown = match what {
         What::Salvage => vec!["unknown kind: 1".to_string()],
+        What::Pack => vec!["unknown kind: 255/13".to_string()],
     };
     let known = Kind::ALL.into_iter().flat_map(|kind| {
         let told = move |one: String| format!("kind {}: {one}", kind.number());

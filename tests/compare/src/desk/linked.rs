@@ -4,6 +4,16 @@ use super::What;
 
 extern "C" {
     fn mpm_salvage(kind: u32, image: *mut u8, image_len: usize, report: *mut u8, report_len: usize) -> u32;
+
+    fn mpm_pack(
+        kind: u32,
+        image: *const u8,
+        image_len: usize,
+        list: *const u8,
+        list_len: usize,
+        packed: *mut u8,
+        packed_len: usize,
+    ) -> u32;
 }
 
 pub fn by_linked(what: What, kind: u32, buffers: &mut [&mut [u8]]) -> u32 {
@@ -17,6 +27,18 @@ pub fn by_linked(what: What, kind: u32, buffers: &mut [&mut [u8]]) -> u32 {
                 image.len(),
                 report.as_mut_ptr(),
                 report.len(),
+            )
+        },
+        // All are lent mutable, so that a write can be seen.
+        (What::Pack, [image, list, packed]) => unsafe {
+            mpm_pack(
+                kind,
+                image.as_mut_ptr(),
+                image.len(),
+                list.as_mut_ptr(),
+                list.len(),
+                packed.as_mut_ptr(),
+                packed.len(),
             )
         },
         _ => unreachable!("a case has the buffers of its function"),

@@ -9,6 +9,7 @@ pub mod damaged;
 #[cfg(feature = "linked")]
 pub mod linked;
 pub mod named;
+pub mod packs;
 pub mod pipe;
 pub mod watch;
 pub mod wire;
@@ -23,14 +24,16 @@ const SHOWN: usize = 12;
 #[derive(Clone, Copy, Debug, PartialEq, Eq, PartialOrd, Ord)]
 pub enum What {
     Salvage,
+    Pack,
 }
 
 impl What {
-    pub const ALL: [What; 1] = [What::Salvage];
+    pub const ALL: [What; 2] = [What::Salvage, What::Pack];
 
     pub fn title(self) -> &'static str {
         match self {
             What::Salvage => "salvage",
+            What::Pack => "pack",
         }
     }
 
@@ -42,6 +45,7 @@ impl What {
     pub fn buffers(self) -> &'static [&'static str] {
         match self {
             What::Salvage => &["image", "report"],
+            What::Pack => &["image", "list", "packed"],
         }
     }
 }
@@ -89,6 +93,7 @@ impl<F: FnMut(What, u32, &mut [&mut [u8]]) -> u32> Desk for Local<F> {
 pub fn by_reference(what: What, kind: u32, buffers: &mut [&mut [u8]]) -> u32 {
     match (what, buffers) {
         (What::Salvage, [image, report]) => reference::salvage(kind, image, report),
+        (What::Pack, [image, list, packed]) => reference::pack(kind, image, list, packed),
         _ => unreachable!("a case has the buffers of its function"),
     }
 }

@@ -1,6 +1,6 @@
 //! Cases by name, on both kinds of drive: each edge of the rules once.
 
-use super::{Case, What};
+use super::{packs, Case, What};
 use crate::build::{empty_image_of, image_of, put_entry, Entry};
 use reference::kind::Kind;
 
@@ -10,7 +10,7 @@ pub struct Named {
 }
 
 /// The blocks of the drives on which these cases are.
-fn blocks(kind: Kind) -> usize {
+pub fn blocks(kind: Kind) -> usize {
     match kind {
         Kind::First => 40,
         Kind::Second => 300,
@@ -27,6 +27,7 @@ fn highest(kind: Kind) -> u16 {
 pub fn cases(what: What) -> Vec<Named> {
     let of_kind = |kind| match what {
         What::Salvage => salvage(kind),
+        What::Pack => packs::named(kind),
     };
     Kind::ALL.into_iter().flat_map(of_kind).collect()
 }

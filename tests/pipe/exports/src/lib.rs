@@ -1,4 +1,4 @@
-//! The reference behind the engine's six C symbols, to try `pipe.c` and the feature `linked` with.
+//! The reference behind the engine's seven C symbols, to try `pipe.c` and the feature `linked` with.
 
 use std::slice::{from_raw_parts, from_raw_parts_mut};
 
@@ -137,4 +137,24 @@ pub unsafe extern "C" fn mpm_salvage(
     report_len: usize,
 ) -> u32 {
     reference::salvage(kind, lent_mut(image, image_len), lent_mut(report, report_len))
+}
+
+/// # Safety
+/// The three buffers must be good for their lengths and separate.
+#[no_mangle]
+pub unsafe extern "C" fn mpm_pack(
+    kind: u32,
+    image: *const u8,
+    image_len: usize,
+    list: *const u8,
+    list_len: usize,
+    packed: *mut u8,
+    packed_len: usize,
+) -> u32 {
+    reference::pack(
+        kind,
+        lent(image, image_len),
+        lent(list, list_len),
+        lent_mut(packed, packed_len),
+    )
 }

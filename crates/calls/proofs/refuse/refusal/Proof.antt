@@ -2,8 +2,7 @@
 use borrow.Author.Needs.{needs}
 use Rattle.words.proofs.Sets.{codes}
 use Rattle.rules.specs.Codes.{rowsInside}
-use Rattle.drive.proofs.Walks.{known-none, walked-answer, walked-knows}
-use Rattle.calls.proofs.Passing.{image-there}
+use Rattle.drive.proofs.Walks.{known-none, walked-answer, walked-knows, image-there}
 use Rattle.calls.proofs.refuse.refusal.Statement.{statement}
 use Rattle.calls.proofs.refuse.refusal.Tie as tie
 

@@ -2,7 +2,8 @@
 use borrow.Author.Needs.{needs}
 use Rattle.words.proofs.Sets.{choices}
 use Rattle.listcheck.specs.Check.{itemAlone}
-use Rattle.listcheck.proofs.Legal.{image-long, item-far, item-by}
+use Rattle.rules.proofs.Sound.{image-long}
+use Rattle.listcheck.proofs.Legal.{item-far, item-by}
 use Rattle.listcheck.proofs.place.item_alone.Statement.{statement}
 use Rattle.listcheck.proofs.place.item_alone.Tie as tie
 

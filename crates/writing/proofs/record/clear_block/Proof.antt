@@ -14,13 +14,13 @@ clear-block-spec =
     (λ c κs. search needs)
     -- add-e
     (λ c. search needs)
-    -- sub-fill-zeros
+    -- sub-fill
     (λ c. search needs)
-    -- part-fill-zeros-start
+    -- part-fill-start
     (λ c. search needs)
-    -- part-fill-zeros-end
+    -- part-fill-end
     (λ c. search needs)
-    -- fill-zeros-requires
+    -- fill-requires
     (λ c κs. search needs)
     -- same-length
     (λ c. search needs)

@@ -13,11 +13,10 @@ use Rattle.words.proofs.Counts.{count-ext, count-one, count-yes, count-not, cou
 use Rattle.words.proofs.Sets.{and-both, and-left, and-last, not-of-false, count-none}
 use Rattle.rules.specs.declared.kind.Kind.{Kind}
 use Rattle.rules.specs.Kinds.{entries, numbers}
-use Rattle.rules.specs.Drive.{blocks, mapNumber, holdsNumber, namesBlock, isUsed}
+use Rattle.rules.specs.Drive.{blocks, mapNumber, holdsNumber, namesBlock, isUsed, isNumbered, isInUse, blocksInUse, allNumbers}
 use Rattle.rules.proofs.Sizes.{flat-entry, flat-place, flat-both, flat-below}
 use Rattle.rules.proofs.Sound.{Names, SoundImage}
-use Rattle.history.specs.Groups.{isNumbered, isInUse, blocksInUse, allNumbers}
-use Rattle.history.proofs.Positions.{numbered-names, names-flat}
+use Rattle.soundness.proofs.Blocks.{numbered-names, names-flat}
 
 -- ---- numbers m i below n, no two the same: each number is met once
 

@@ -1,0 +1,2 @@
+-- What the routine relies on. Assumes nothing.
+pub mod Calling

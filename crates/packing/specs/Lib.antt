@@ -1,0 +1,3 @@
+-- Packing a book (T-12).
+pub mod Packed
+pub mod Packs

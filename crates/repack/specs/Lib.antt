@@ -1,0 +1,2 @@
+-- How far a book is packed.
+pub mod Laying
