@@ -5,7 +5,7 @@
 # prints the summary.
 # --docs: puts the figures into docs/PERFORMANCE.md, the plots and all rows beside it.
 # run.sh --agree: times nothing, only compares what the three and the engine's single calls answer and leave.
-# run.sh --desk [ROUNDS]: times the desk's functions (salvage, pack) alone, beside plain C, and prints each time beside what it
+# run.sh --desk [ROUNDS]: times the desk's functions (salvage, pack, same) alone, beside plain C, and prints each time beside what it
 # is held against. MPM_ARCHIVE=FILE takes another engine for this processor.
 # run.sh --before ARCHIVE [ROUNDS]: times the engine of the archive, which machine/native.sh has made at an earlier
 # commit, and this tree's, taking turns in one run: the image check alone and the calls, with their stack. First the two

@@ -283,6 +283,31 @@ static uint32_t check_kind(const struct call *c, uint32_t kind, const struct buf
     return check;
 }
 
+/* Two images, whatever they are: the plain C version's answer, in either order, and no byte changed. */
+static void check_same(const struct call *c, const struct buffer *one, const struct buffer *other) {
+    want(mpm_same(c->kind, one->bytes, one->length, other->bytes, other->length) ==
+             plain_same(c->kind, one->bytes, one->length, other->bytes, other->length),
+         c, "the plain C version of comparing gives another answer");
+    want(mpm_same(c->kind, other->bytes, other->length, one->bytes, one->length) ==
+             plain_same(c->kind, other->bytes, other->length, one->bytes, one->length),
+         c, "the plain C version of comparing, turned round, gives another answer");
+}
+
+/* A book and its packed form, as it is and with one thing changed: an attribute of the first entry, a byte of the first
+   block. */
+static void check_moved(const struct call *c, const struct buffer *image, struct buffer *packed) {
+    size_t block = mpm_block_len(c->kind);
+    size_t at[] = {1 + c->process % MPM_NAME_LEN, 2 * block + 8 * (c->count % MPM_MAX_COUNT)};
+    uint8_t bit[] = {MPM_HIGH_BIT, 1};
+    want(mpm_same(c->kind, image->bytes, image->length, packed->bytes, packed->length) == MPM_SAME_BOOK, c,
+         "a packed book is another book");
+    for (size_t i = 0; i < 2; i++) {
+        packed->bytes[at[i]] ^= bit[i];
+        check_same(c, image, packed);
+        packed->bytes[at[i]] ^= bit[i];
+    }
+}
+
 /* The book packed, whatever image and list are: the answer and the bytes of the plain C version, and image and list as
    they were. */
 static void check_pack(const struct call *c, const struct state *before) {
@@ -302,6 +327,9 @@ static void check_pack(const struct call *c, const struct state *before) {
     want(same_bytes(&packed, &plain), c, "the plain C version packs otherwise");
     want(answer != MPM_OK || mpm_check(c->kind, packed.bytes, packed.length) == MPM_CHECK_SOUND, c,
          "a packed book is not sound");
+    if (answer == MPM_OK) check_moved(c, image, &packed);
+    check_same(c, image, &packed);
+    want(same_bytes(image, &copy), c, "comparing has changed the image");
     free(packed.memory);
     free(plain.memory);
     free(copy.memory);

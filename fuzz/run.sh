@@ -174,7 +174,9 @@ selftest() {
         "WRITES_BEHIND_THE_REPORT writes behind the report" "LAST_ENTRY_LEFT_OUT leaves out the last entry"
         "PACKS_NOTHING packs nothing" "LAST_BLOCK_LEFT leaves bytes in a free block"
         "EMPTY_IN_BYTE_0 empties entries in byte 0 alone" "CHANGES_THE_IMAGE packs in place"
-        "WRITES_BEHIND_THE_PACKED writes behind the packed book" "PACKS_WHILE_OPEN packs while a file is open")
+        "WRITES_BEHIND_THE_PACKED writes behind the packed book" "PACKS_WHILE_OPEN packs while a file is open"
+        "ALL_THE_SAME takes all books for the same" "SECOND_FIRST tells 2 before 1"
+        "FIRST_RECORD_FREE does not compare a block's first record" "ATTRIBUTES_FREE does not compare attributes")
     local n fault
     for n in "${!stubs[@]}"; do
         compile bad.o -DSTUB=$((n + 1)) "$root/tests/pipe/stub.c"
@@ -185,7 +187,7 @@ selftest() {
         compile bad.o -DSPOILED="${fault%% *}" "$here/spoiled.c"
         finds "${fault#* }" bad-fuzz.o bad.o engine1.o
     done
-    compile bad-fuzz.o -Dmpm_salvage=wrong_salvage -Dmpm_pack=wrong_pack "$here/fuzz.c"
+    compile bad-fuzz.o -Dmpm_salvage=wrong_salvage -Dmpm_pack=wrong_pack -Dmpm_same=wrong_same "$here/fuzz.c"
     for fault in "${desks[@]}"; do
         compile bad.o -DWRONG="${fault%% *}" "$root/tests/pipe/wrong_desk.c"
         finds "${fault#* }" bad-fuzz.o bad.o engine1.o

@@ -8,10 +8,12 @@
                                        totals. Of a sound one NEW is a copy.
      book pack IMAGE -o NEW            the same files with their entries and blocks at the lowest places: one line with
                                        how many of them were moved
+     book compare OLD NEW              one line: whether two images hold the same book, or what differs first
 
-   Exit status: 0 if all images are sound and all files there, 1 if one is not, for salvage: if it was not and NEW is.
-   2 for an image that cannot be read or mended, a new file that cannot be made or was there already, a word that is no
-   file's name and for wrong use. NEW is made with status 0, and by salvage with 1. */
+   Exit status: 0 if all images are sound, all files there and both books the same, 1 if one is not; for salvage 1 if the
+   image was not sound and NEW is. 2 for an image that cannot be read, mended or compared, a new file that cannot be
+   made or was there already, a word that is no file's name and for wrong use. NEW is made with status 0, and by salvage
+   with 1. */
 
 #define _XOPEN_SOURCE 700
 #include "mpm.h"
@@ -28,8 +30,8 @@ enum { NAME_PART = 8, TEXT = 16 };
 
 /* One byte more than the longest image, so that a longer file is seen to be one. */
 static uint8_t bytes[MPM_LARGE_MAX_BLOCKS * MPM_LARGE_BLOCK_LEN + 1];
-/* What is made of it. */
-static uint8_t made[MPM_LARGE_MAX_BLOCKS * MPM_LARGE_BLOCK_LEN];
+/* What is made of it, or another image. */
+static uint8_t made[sizeof bytes];
 
 struct image {
     const char *path;
@@ -46,18 +48,20 @@ static int fail(const char *path, const char *what) {
 }
 
 /* A folder can be opened, and then not be read. */
-static int load(struct image *image, const char *path) {
+static int load_into(uint8_t buffer[sizeof bytes], struct image *image, const char *path) {
     FILE *stream = fopen(path, "rb");
     if (!stream) return 0;
-    size_t length = fread(bytes, 1, sizeof bytes, stream);
+    size_t length = fread(buffer, 1, sizeof bytes, stream);
     int whole = !ferror(stream);
     fclose(stream);
     image->path = path;
     image->kind = mpm_kind_of(length);
-    image->bytes = bytes;
+    image->bytes = buffer;
     image->length = length;
     return whole;
 }
+
+static int load(struct image *image, const char *path) { return load_into(bytes, image, path); }
 
 static int write_all(int file, const uint8_t *content, size_t length) {
     size_t at = 0;
@@ -102,8 +106,8 @@ static uint32_t number_at(const struct image *image, uint32_t entry, uint32_t k)
     return mpm_get(entry_at(image, entry) + MAP + number_len(image) * k, number_len(image));
 }
 
-static int is_same_file(const struct image *image, uint32_t one, uint32_t other) {
-    const uint8_t *a = entry_at(image, one), *b = entry_at(image, other);
+/* Of two entries, of one image or of two. */
+static int is_same_file(const uint8_t *a, const uint8_t *b) {
     for (size_t i = 1; i <= MPM_NAME_LEN; i++)
         if ((a[i] ^ b[i]) & 0x7F) return 0;
     return a[0] == b[0];
@@ -142,7 +146,7 @@ static uint32_t own_fault(const struct image *image, uint32_t entry) {
 /* The lowest entry of the same file and extent that is good in itself; the entry where there is none before it. */
 static uint32_t first_of_extent(const struct image *image, uint32_t entry) {
     uint32_t e = 0;
-    while (e < entry && !(is_used(image, e) && is_same_file(image, e, entry) &&
+    while (e < entry && !(is_used(image, e) && is_same_file(entry_at(image, e), entry_at(image, entry)) &&
                           extent_at(image, e) == extent_at(image, entry) && own_fault(image, e) == MPM_CHECK_SOUND))
         e++;
     return e;
@@ -458,6 +462,148 @@ static int pack(int count, char **words) {
     return status;
 }
 
+/* ---- Comparing. Both images are sound ---- */
+
+enum { READ_ONLY_AT = 9 };
+
+/* The entry of a file's extent; the number of entries where there is none. */
+static uint32_t find(const struct image *image, const uint8_t *file, uint32_t extent) {
+    uint32_t e = 0;
+    while (e < mpm_entries(image->kind) &&
+           !(is_used(image, e) && extent_at(image, e) == extent && is_same_file(entry_at(image, e), file)))
+        e++;
+    return e;
+}
+
+/* The 128 bytes of a file's record, or none. */
+static const uint8_t *record_of(const struct image *image, const uint8_t *file, uint32_t record) {
+    uint32_t in_block = mpm_block_records(image->kind);
+    uint32_t e = find(image, file, record / MPM_EXTENT_RECORDS);
+    if (e == mpm_entries(image->kind)) return 0;
+    uint32_t block = number_at(image, e, record % MPM_EXTENT_RECORDS / in_block);
+    if (block == 0) return 0;
+    return image->bytes + (size_t)mpm_block_len(image->kind) * block + MPM_RECORD_LEN * (record % in_block);
+}
+
+static int is_same_record(const struct image *one, const struct image *other, const uint8_t *file, uint32_t record) {
+    const uint8_t *a = record_of(one, file, record), *b = record_of(other, file, record);
+    if (!a || !b) return a == b;
+    return memcmp(a, b, MPM_RECORD_LEN) == 0;
+}
+
+/* The lowest record of a file's extents in `one` that differs, below `lowest`; else that. */
+static uint32_t lowest_other(const struct image *one, const struct image *other, const uint8_t *file, uint32_t lowest) {
+    for (uint32_t e = 0; e < mpm_entries(one->kind); e++) {
+        if (!is_used(one, e) || !is_same_file(entry_at(one, e), file)) continue;
+        uint32_t record = MPM_EXTENT_RECORDS * extent_at(one, e), end = record + MPM_EXTENT_RECORDS;
+        while (record < end && record < lowest && is_same_record(one, other, file, record)) record++;
+        if (record < end && record < lowest) lowest = record;
+    }
+    return lowest;
+}
+
+static void say_alone(const struct image *image) { printf(" in %s alone", image->path); }
+
+static void say_which(const struct image *image, uint32_t entry) {
+    char name[TEXT];
+    name_of(image, entry, name);
+    printf("%s of user %u", name, entry_at(image, entry)[0]);
+}
+
+/* The first of the attributes of two entries that differs; 0 where none does. */
+static size_t other_attribute(const uint8_t *a, const uint8_t *b) {
+    for (size_t i = 1; i <= MPM_NAME_LEN; i++)
+        if ((a[i] ^ b[i]) & MPM_HIGH_BIT) return i;
+    return 0;
+}
+
+static void say_attribute(const struct image *old, uint32_t entry, const struct image *new, size_t i) {
+    say_which(old, entry);
+    if (i == READ_ONLY_AT) {
+        printf(": the read-only attribute is set");
+    } else {
+        printf(": attribute %u is set", (unsigned)i);
+    }
+    say_alone(entry_at(old, entry)[i] & MPM_HIGH_BIT ? old : new);
+}
+
+static void say_record(const struct image *old, uint32_t entry, const struct image *new, uint32_t record) {
+    const uint8_t *file = entry_at(old, entry);
+    say_which(old, entry);
+    printf(": record %u ", (unsigned)record);
+    if (!record_of(old, file, record) || !record_of(new, file, record)) {
+        printf("has a block");
+        say_alone(record_of(old, file, record) ? old : new);
+    } else {
+        printf("differs");
+    }
+}
+
+/* Says what differs of a file of the old image, if something does. */
+static int say_file_differs(const struct image *old, uint32_t entry, const struct image *new) {
+    const uint8_t *file = entry_at(old, entry);
+    uint32_t first = find(new, file, 0);
+    if (first == mpm_entries(new->kind)) {
+        say_which(old, entry);
+        printf(" is");
+        say_alone(old);
+        return 1;
+    }
+    size_t attribute = other_attribute(file, entry_at(new, first));
+    if (attribute != 0) {
+        say_attribute(old, entry, new, attribute);
+        return 1;
+    }
+    uint32_t record = lowest_other(new, old, file, lowest_other(old, new, file, MPM_RECORDS));
+    if (record == MPM_RECORDS) return 0;
+    say_record(old, entry, new, record);
+    return 1;
+}
+
+/* The files of the old image in the order of their extents 0, then those that the new one has alone. */
+static void say_difference(const struct image *old, const struct image *new) {
+    uint32_t entries = mpm_entries(old->kind);
+    for (uint32_t e = 0; e < entries; e++)
+        if (is_used(old, e) && extent_at(old, e) == 0 && say_file_differs(old, e, new)) return;
+    for (uint32_t e = 0; e < entries; e++) {
+        if (!is_used(new, e) || find(old, entry_at(new, e), 0) < entries) continue;
+        say_which(new, e);
+        printf(" is");
+        say_alone(new);
+        return;
+    }
+    printf("%s", mpm_same_text(MPM_SAME_DIFFERENT));
+}
+
+static int say_compared(const struct image *old, const struct image *new, uint32_t answer) {
+    printf("%s and %s: ", old->path, new->path);
+    if (answer == MPM_SAME_BOOK) {
+        printf("the same book\n");
+        return DONE;
+    }
+    if (answer != MPM_SAME_DIFFERENT) {
+        printf("%s\n", mpm_same_text(answer));
+        return FAILED;
+    }
+    say_difference(old, new);
+    printf("\n");
+    return NOT_SO;
+}
+
+/* Of images that cannot be compared only why is said. */
+static int compare(int count, char **words) {
+    struct image old, new;
+    (void)count;
+    if (!load(&old, words[0])) return fail(words[0], "cannot be read");
+    if (!load_into(made, &new, words[1])) return fail(words[1], "cannot be read");
+    uint32_t answer = mpm_same(old.kind, old.bytes, old.length, new.bytes, new.length);
+    if (answer == MPM_SAME_BAD_FIRST) return worse(FAILED, check_image(&old));
+    if (answer == MPM_SAME_BAD_SECOND && old.kind != new.kind && new.kind != MPM_KINDS)
+        return fail(new.path, "is of the other kind of drive");
+    if (answer == MPM_SAME_BAD_SECOND) return worse(FAILED, check_image(&new));
+    return say_compared(&old, &new, answer);
+}
+
 /* ---- The program ---- */
 
 static const struct verb {
@@ -471,6 +617,7 @@ static const struct verb {
     {"size", "IMAGE [USER:]NAME..", 2, 0, size_all},
     {"salvage", "IMAGE -o NEW", 3, 3, salvage},
     {"pack", "IMAGE -o NEW", 3, 3, pack},
+    {"compare", "OLD NEW", 2, 2, compare},
 };
 
 static int wrong_use(void) {

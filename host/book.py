@@ -1,5 +1,5 @@
 """The desk's program on images that are damaged in each way, on both kinds of drive: one line for each, as it has to
-be, and its exit status; the sizes that it tells; what it mends and what it packs, to the byte.
+be, and its exit status; the sizes that it tells; what it mends and what it packs, to the byte; what it says of two books.
 
 book.py FOLDER BOOK..
 
@@ -391,7 +391,69 @@ def packs(desk, kind):
     writes_over_nothing(desk, "pack", before)
 
 
-VERBS = ("check IMAGE..", "size IMAGE [USER:]NAME..", "salvage IMAGE -o NEW", "pack IMAGE -o NEW")
+def changes(kind, image):
+    """Bytes to be put into the packed book of scattered(), at which place, and what has to be said, with OLD and NEW for
+    the paths; the pair turned round too, if that is something else. A.DAT of user 3 is in entry 2 there; FIRST has the
+    blocks 2 and 3, B.DAT 6 and, in extent 40, 4 and 5."""
+    in_block = kind.block // 128
+    first, later, bare = "FIRST of user 0", "B.DAT of user 3", "A.DAT of user 3"
+
+    def flipped(at, bit):
+        return at, bytes([image[at] ^ bit])
+
+    def hole(at, index):
+        return ENTRY * at + 16 + kind.width * index, bytes(kind.width)
+
+    yield *flipped(2 * kind.block, 1), f"{first}: record 0 differs"
+    yield *flipped(4 * kind.block - 1, 1), f"{first}: record {2 * in_block - 1} differs"
+    yield *flipped(4 * kind.block + 133, 1), f"{later}: record {40 * 128 + 2 * in_block + 1} differs"
+    yield *hole(0, 1), f"{first}: record {in_block} has a block in OLD alone"
+    yield *hole(1, kind.numbers - 1), f"{later}: record {41 * 128 - in_block} has a block in OLD alone"
+    yield *flipped(9, 0x80), f"{first}: the read-only attribute is set in NEW alone"
+    yield *flipped(ENTRY * 2 + 11, 0x80), f"{bare}: attribute 11 is set in NEW alone"
+    yield ENTRY * 1, b"\xe5", f"{later}: record {40 * 128 + 2 * in_block} has a block in OLD alone"
+    yield ENTRY * 2, b"\xe5", f"{bare} is in OLD alone"
+    yield ENTRY * 2, b"\x04", f"{bare} is in OLD alone", "A.DAT of user 4 is in NEW alone"
+    yield ENTRY * 4, bytes(entry(15, "Z.Z")), "Z.Z of user 15 is in NEW alone"
+
+
+def compares(desk, kind):
+    before, after, _ = scattered(kind)
+    old, new = desk.keep(before), desk.keep(after)
+    for one, other in ((old, new), (new, old), (old, old)):
+        desk.says(["compare", one, other], [f"{one} and {other}: the same book"], DONE)
+    longer = desk.keep(after + bytes(kind.block * 7))
+    desk.says(["compare", old, longer], [f"{old} and {longer}: the same book"], DONE)
+    for at, put, *lines in changes(kind, after):
+        path = desk.keep(after[:at] + put + after[at + len(put) :])
+        for one, other, line in ((old, path, lines[0]), (path, old, lines[-1])):
+            said = line.replace("OLD", old).replace("NEW", path)
+            desk.says(["compare", one, other], [f"{one} and {other}: {said}"], NOT_SO)
+    desk.has_kept(old, before)
+    desk.has_kept(new, after)
+    cannot_be_compared(desk, kind, old)
+
+
+def cannot_be_compared(desk, kind, good):
+    bad, short = desk.keep(Image(kind).poke(9, 15, 129).bytes), desk.keep(bytes(100))
+    why = f"{bad}: entry 9, BUDGET.DAT of user 3: its record count is 129, over 128"
+    length = f"{short}: 100 bytes, no drive's length"
+    missing = os.path.join(desk.folder, "none")
+    other = desk.keep(Image(LARGE if kind is SMALL else SMALL).bytes)
+    for words, line in (
+        ([bad, good], why),
+        ([good, bad], why),
+        ([bad, short], why),
+        ([short, good], length),
+        ([good, short], length),
+        ([missing, good], f"{missing}: cannot be read"),
+        ([good, missing], f"{missing}: cannot be read"),
+        ([good, other], f"{other}: is of the other kind of drive"),
+    ):
+        desk.says(["compare", *words], [line], FAILED)
+
+
+VERBS = ("check IMAGE..", "size IMAGE [USER:]NAME..", "salvage IMAGE -o NEW", "pack IMAGE -o NEW", "compare OLD NEW")
 
 
 def wrong_use(desk):
@@ -399,6 +461,7 @@ def wrong_use(desk):
     bad = [[], ["check"], ["chekc", "x"], ["-h"], ["size"], ["size", "x"]]
     for verb in ("salvage", "pack"):
         bad += [[verb], [verb, "x"], [verb, "x", "-o"], [verb, "x", "y", "z"], [verb, "x", "-o", "y", "z"]]
+    bad += [["compare"], ["compare", "x"], ["compare", "x", "y", "z"]]
     for words in bad:
         desk.says(words, [], FAILED, use)
     none = os.path.join(desk.folder, "none")
@@ -412,6 +475,7 @@ def main():
         sizes(desk, kind)
         salvages(desk, kind)
         packs(desk, kind)
+        compares(desk, kind)
     cannot_be_mended(desk)
     wrong_use(desk)
     print(f"book says what it has to of {desk.images} images")

@@ -1,7 +1,7 @@
 /* mpm.h by itself, as C and as C++: it can be included first and twice, its functions have the types that a host relies
    on, its sizes fit together for each kind of drive, no length of an image is one of both kinds, no two kinds,
    functions or answers have the same number but Make's 255/0, no two codes of the image check have and no two answers
-   of salvage, what its report says is no number of block numbers, and the answers leave the high four bits of H free.
+   of salvage or of comparing, what salvage's report says is no number of block numbers, and the answers leave the high four bits of H free.
    Compiled, never run; what the helpers do is tried by helpers.c. */
 
 #include "mpm.h"
@@ -18,6 +18,7 @@ typedef uint32_t check_type(uint32_t, const uint8_t *, size_t);
 typedef uint32_t look_type(uint32_t, uint32_t, const uint8_t *, size_t, uint32_t, const uint8_t *, size_t);
 typedef uint32_t salvage_type(uint32_t, uint8_t *, size_t, uint8_t *, size_t);
 typedef uint32_t pack_type(uint32_t, const uint8_t *, size_t, const uint8_t *, size_t, uint8_t *, size_t);
+typedef uint32_t same_type(uint32_t, const uint8_t *, size_t, const uint8_t *, size_t);
 typedef uint32_t book_call_type(struct mpm_book *, uint32_t, uint32_t, uint32_t, uint8_t *, uint8_t *);
 
 extern call_type *const header_call;
@@ -27,6 +28,7 @@ extern check_type *const header_check;
 extern look_type *const header_look;
 extern salvage_type *const header_salvage;
 extern pack_type *const header_pack;
+extern same_type *const header_same;
 extern book_call_type *const header_book_call;
 call_type *const header_call = mpm_call;
 call_type *const header_singly = mpm_singly;
@@ -35,6 +37,7 @@ check_type *const header_check = mpm_check;
 look_type *const header_look = mpm_look;
 salvage_type *const header_salvage = mpm_salvage;
 pack_type *const header_pack = mpm_pack;
+same_type *const header_same = mpm_same;
 book_call_type *const header_book_call = mpm_book_call;
 
 /* An array type cannot have a negative size. */
@@ -80,6 +83,7 @@ uint32_t header_records(uint32_t answer);
 uint32_t header_capacity(uint32_t processes);
 uint32_t header_checked(uint32_t check);
 uint32_t header_salvaged(uint32_t answer);
+uint32_t header_compared(uint32_t answer);
 
 uint32_t header_kind(uint32_t kind, size_t image_len) {
     switch (kind) {
@@ -127,6 +131,13 @@ uint32_t header_checked(uint32_t check) {
 uint32_t header_salvaged(uint32_t answer) {
     switch (answer) {
     case MPM_SALVAGE_DONE: case MPM_SALVAGE_WRONG_LENGTH: case MPM_SALVAGE_WRONG_REPORT: return 1u;
+    default: return 0u;
+    }
+}
+
+uint32_t header_compared(uint32_t answer) {
+    switch (answer) {
+    case MPM_SAME_BOOK: case MPM_SAME_BAD_FIRST: case MPM_SAME_BAD_SECOND: case MPM_SAME_DIFFERENT: return 1u;
     default: return 0u;
     }
 }

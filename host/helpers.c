@@ -149,6 +149,21 @@ static void try_salvages(void) {
     want(strcmp(mpm_salvage_name(2), "MPM_SALVAGE_WRONG_REPORT") == 0, "2 is a wrong report");
 }
 
+/* ---- Comparing ---- */
+
+/* The four answers have a name and a sentence each, and no two the same. */
+static void try_comparings(void) {
+    for (uint32_t answer = 0; answer < 300; answer++) {
+        const char *name = mpm_same_name(answer), *text = mpm_same_text(answer);
+        want((strcmp(name, "no answer of comparing") != 0) == (answer < 4), "there are four answers of comparing");
+        want((strcmp(text, "This is no answer of comparing.") != 0) == (answer < 4), "four answers with a sentence");
+        for (uint32_t other = 0; other < answer && answer < 4; other++)
+            want(strcmp(text, mpm_same_text(other)) != 0, "two answers of comparing have one sentence");
+    }
+    want(strcmp(mpm_same_name(2), "MPM_SAME_BAD_SECOND") == 0, "2 is an unsound second");
+    want(strcmp(mpm_same_name(3), "MPM_SAME_DIFFERENT") == 0, "3 is another book");
+}
+
 /* ---- A book ---- */
 
 static void try_book(void) {
@@ -190,6 +205,11 @@ static void try_book(void) {
     want(mpm_pack(book.kind, image, sizeof image, list, sizeof list, packed, 1024) == MPM_ERR_BAD_CALL, "another length");
     want(mpm_pack(book.kind, image, sizeof image, list, sizeof list, packed, sizeof packed) == MPM_OK, "it is packed");
     want(mpm_look(book.kind, 0, fcb + 1, 11, 7, packed, sizeof packed) == 2 * 1024 + 7 * 128, "Look shows the record");
+    want(mpm_same(book.kind, image, sizeof image, packed, sizeof packed) == MPM_SAME_BOOK, "it is the same book");
+    packed[2 * 1024]++;
+    want(mpm_same(book.kind, image, sizeof image, packed, sizeof packed) == MPM_SAME_DIFFERENT, "a byte is another");
+    want(mpm_same(book.kind, image, sizeof image, packed, 1024) == MPM_SAME_BAD_SECOND, "a short image is taken");
+    want(mpm_same(MPM_KINDS, image, sizeof image, packed, sizeof packed) == MPM_SAME_BAD_FIRST, "an unknown kind");
 }
 
 /* ---- The capacity ---- */
@@ -265,6 +285,7 @@ int main(void) {
     try_answers();
     try_checks();
     try_salvages();
+    try_comparings();
     try_book();
     try_capacity();
     if (faults == 0) printf("the helpers do what mpm.h says\n");

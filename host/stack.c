@@ -31,6 +31,7 @@ static void salvage(void) {
 static void pack(void) {
     answer = mpm_pack(book.kind, book.image, book.image_len, book.list, book.list_len, packed, book.image_len);
 }
+static void same(void) { answer = mpm_same(book.kind, book.image, book.image_len, packed, book.image_len); }
 static void call(void) { answer = mpm_book_call(&book, function, process, count, fcb, dma); }
 static void singly(void) {
     answer = mpm_singly(book.kind, function, process, count, fcb, sizeof fcb, dma, sizeof dma, book.list,
@@ -87,7 +88,8 @@ static int measure_kind(uint32_t kind, size_t image_len) {
            mpm_set_fcb(fcb, "OLD.DAT", MPM_MODE_LOCKED) == MPM_NAMING_OK &&
            measure_call("19 Delete", MPM_FN_DELETE, 1, 1, call) &&
            measure_call("22 Make", MPM_FN_MAKE, 1, 1, call) &&
-           measure_call("19 Delete, open by the caller", MPM_FN_DELETE, 1, 1, call) && measure("mpm_pack", pack);
+           measure_call("19 Delete, open by the caller", MPM_FN_DELETE, 1, 1, call) && measure("mpm_pack", pack) &&
+           measure("mpm_same", same);
 }
 
 int main(void) {

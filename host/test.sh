@@ -3,7 +3,7 @@
 # With the kit: mpm.h as C and as C++, its helpers; a host outside the repository, made with what install.sh installs;
 # the story on each kind of drive against expected.sh, and the story over bad engines, which it must not take for good
 # ones (the plain engine of a bad one is as bad, so that the two do not give each other away); the desk's program on
-# images damaged in each way, and over bad image checks, bad salvages and bad packers; saving on a disk that fails and a
+# images damaged in each way, and over bad image checks, salvages, packers and comparisons; saving on a disk that fails and a
 # machine that stops; the
 # minimal host on a full disk, in a read-only folder and killed 50 times. Beside the kit it wants pkg-config, python3
 # and, on x86-64, a C compiler.
@@ -107,7 +107,8 @@ sees_a_bad_answer() { # SPOILED
 }
 
 sees_a_bad_desk() { # WRONG
-    kit_clang -std=c99 -O2 -fPIC -Dmpm_salvage=wrong_salvage -Dmpm_pack=wrong_pack -c "$here/book.c" -o "$work/bad.o" &&
+    kit_clang -std=c99 -O2 -fPIC -Dmpm_salvage=wrong_salvage -Dmpm_pack=wrong_pack -Dmpm_same=wrong_same \
+        -c "$here/book.c" -o "$work/bad.o" &&
         kit_clang -std=c99 -O2 -fPIC "${warnings[@]}" -DWRONG="$1" -c "$wrong_desk" -o "$work/wrong.o" &&
         kit_link "$work/bad" "$work/bad.o" "$work/wrong.o" "$archive" &&
         ends_with 1 says_what_is_bad "$run" "$work/bad"
@@ -236,6 +237,9 @@ with_the_kit() {
     try "packing that does nothing is seen" sees_a_bad_desk PACKS_NOTHING
     try "packing that leaves bytes in a free block is seen" sees_a_bad_desk LAST_BLOCK_LEFT
     try "packing that empties entries in byte 0 alone is seen" sees_a_bad_desk EMPTY_IN_BYTE_0
+    try "a comparison for which all books are the same is seen" sees_a_bad_desk ALL_THE_SAME
+    try "a comparison of the lengths too is seen" sees_a_bad_desk LENGTHS_COUNT
+    try "a comparison without attributes is seen" sees_a_bad_desk ATTRIBUTES_FREE
 }
 
 with_the_system() { # ARCHIVE

@@ -1,6 +1,6 @@
 /* The engine's C interface: the files of MP/M II programs, on one drive that sixteen processes share.
 
-   The engine is seven functions on numbers and lent bytes. It keeps nothing between two calls: the drive is the bytes of
+   The engine is eight functions on numbers and lent bytes. It keeps nothing between two calls: the drive is the bytes of
    the image, who has opened and locked what is the bytes of the list, and both are the host's.
 
    A drive is of one of two kinds, small or large. Nothing in the image says which: every function is told, and an image
@@ -17,7 +17,7 @@
    - Each pointer is valid for the length given with it. With a length of 0 it may be any pointer.
    - The buffers of one call do not overlap, and nobody else uses them until it returns.
 
-   Below stand the seven functions and a book in one struct, then by name the fourteen calls, the answers, the sizes and
+   Below stand the eight functions and a book in one struct, then by name the fourteen calls, the answers, the sizes and
    the places in the buffers, and last the few helpers that every host writes. docs/INTEGRATION.md tells the rest. */
 #ifndef MPM_H
 #define MPM_H
@@ -101,6 +101,14 @@ uint32_t mpm_salvage(uint32_t kind, uint8_t *image, size_t image_len, uint8_t *r
    any process; and then the second buffer is as it was. */
 uint32_t mpm_pack(uint32_t kind, const uint8_t *image, size_t image_len, const uint8_t *list, size_t list_len,
                   uint8_t *packed, size_t packed_len);
+
+/* Tells whether two images of the kind hold the same book, for one that others have moved: the same files with the same
+   attributes of extent 0, all eleven, and Look shows the same 128 bytes or nothing in both, for each record. A block of
+   zeros is not the same as none, and records past the count are compared. Lengths may differ, and so may the order of
+   entries, block numbers, counts, byte 13, the attributes of later extents, extents without blocks and what is free.
+   Gives MPM_SAME_BOOK; or, in this order, MPM_SAME_BAD_FIRST, MPM_SAME_BAD_SECOND or MPM_SAME_DIFFERENT. Changes
+   nothing. A book and what mpm_pack makes of it are always the same, in either order. */
+uint32_t mpm_same(uint32_t kind, const uint8_t *first, size_t first_len, const uint8_t *second, size_t second_len);
 
 /* ---- A book in one struct ---- */
 
@@ -280,6 +288,13 @@ static inline uint32_t mpm_check_entry(uint32_t check) { return check / 256u; }
    1 to 8. */
 #define MPM_SALVAGE_UNTOUCHED 0u
 #define MPM_SALVAGE_EMPTIED 255u
+
+/* ---- Answers of mpm_same ---- */
+
+#define MPM_SAME_BOOK 0u       /* both are sound and hold the same book */
+#define MPM_SAME_BAD_FIRST 1u  /* the first image is not sound, as one of the told kind, or the kind is unknown */
+#define MPM_SAME_BAD_SECOND 2u /* the second image is not sound, as one of the told kind */
+#define MPM_SAME_DIFFERENT 3u  /* both are sound and hold different books */
 
 /* ---- Sizes, in bytes where the name ends in LEN ---- */
 
@@ -605,6 +620,31 @@ static inline const char *mpm_salvage_text(uint32_t answer) {
         MPM_SALVAGE_SENTENCES(MPM_TEXT_OF)
 #undef MPM_TEXT_OF
     default: return "This is no answer of salvage.";
+    }
+}
+
+/* The answers of mpm_same with a sentence for the one who brings the images. */
+#define MPM_SAME_SENTENCES(OF)                                                                                         \
+    OF(MPM_SAME_BOOK, "Both images hold the same book.")                                                               \
+    OF(MPM_SAME_BAD_FIRST, "The first image is damaged, or is none of this kind of drive.")                            \
+    OF(MPM_SAME_BAD_SECOND, "The second image is damaged, or is none of this kind of drive.")                          \
+    OF(MPM_SAME_DIFFERENT, "The two images hold different books.")
+
+static inline const char *mpm_same_name(uint32_t answer) {
+    switch (answer) {
+#define MPM_NAME_OF(code, sentence) case code: return #code;
+        MPM_SAME_SENTENCES(MPM_NAME_OF)
+#undef MPM_NAME_OF
+    default: return "no answer of comparing";
+    }
+}
+
+static inline const char *mpm_same_text(uint32_t answer) {
+    switch (answer) {
+#define MPM_TEXT_OF(code, sentence) case code: return sentence;
+        MPM_SAME_SENTENCES(MPM_TEXT_OF)
+#undef MPM_TEXT_OF
+    default: return "This is no answer of comparing.";
     }
 }
 

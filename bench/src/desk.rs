@@ -6,7 +6,7 @@ use crate::measure::{book, BOOKS};
 use crate::report::goal;
 use compare::build::{image_of, Entry};
 use compare::desk::linked::by_linked;
-use compare::desk::packs::fresh_list;
+use compare::desk::packs::{fresh_list, packed_once};
 use compare::desk::What;
 use compare::engine::Engine;
 use compare::linked::Linked;
@@ -18,6 +18,8 @@ use std::time::Instant;
 const SALVAGE_LIMIT: f64 = 5.0;
 /// Packing is to take as long as both checks and so many copies of the image.
 const PACK_COPIES: f64 = 3.0;
+/// Telling whether two images hold one book, as both image checks and comparing the images so often.
+const SAME_COMPARISONS: f64 = 3.0;
 
 extern "C" {
     fn plain_salvage(kind: u32, image: *mut u8, image_len: usize, report: *mut u8, report_len: usize) -> u32;
@@ -31,6 +33,8 @@ extern "C" {
         packed: *mut u8,
         packed_len: usize,
     ) -> u32;
+
+    fn plain_same(kind: u32, first: *mut u8, first_len: usize, second: *mut u8, second_len: usize) -> u32;
 }
 
 /// Nanoseconds of one function on one sort of image: by the engine, by plain C, and what it is held against.
@@ -268,19 +272,15 @@ fn packs(filling: Filling, drive: Drive, rounds: usize) -> Row {
         },
     );
     Row {
-        what: format!(
-            "{}: {}, n = {}",
-            kind_title(drive.kind),
-            filling.title(),
-            drive.blocks
-        ),
+        what: title(filling, drive),
         engine,
         plain,
         measure,
     }
 }
 
-fn all_packs(rounds: usize) -> Vec<Row> {
+/// Books of three fillings on drives of four sizes.
+fn on_all_drives(row: impl Fn(Filling, Drive) -> Row) -> Vec<Row> {
     let fillings = [Filling::Empty, Filling::Typical, Filling::FullDirectory];
     let drives = [
         (Kind::First, 64),
@@ -288,11 +288,63 @@ fn all_packs(rounds: usize) -> Vec<Row> {
         (Kind::Second, 257),
         (Kind::Second, 4_096),
     ];
-    let row = |(filling, (kind, blocks))| packs(filling, Drive { kind, blocks }, rounds);
     let all = drives
         .into_iter()
         .flat_map(|drive| fillings.map(|filling| (filling, drive)));
-    all.map(row).collect()
+    all.map(|(filling, (kind, blocks))| row(filling, Drive { kind, blocks }))
+        .collect()
+}
+
+// ---- Two images of one book ----
+
+/// A book and its packed form: nothing differs, so that everything is compared.
+fn pairs(filling: Filling, drive: Drive, rounds: usize) -> Row {
+    let kind = drive.kind.number();
+    let count = if drive.blocks > 1_000 { 8 } else { BOOKS as u64 };
+    let pair = |seed: u64| {
+        let image = book(filling, drive, seed).image;
+        let packed = packed_once(drive.kind, &image);
+        (image, packed)
+    };
+    let books: Vec<(Vec<u8>, Vec<u8>)> = (0..count).map(pair).collect();
+    let ready = || books.clone();
+    let check = quickest(rounds, ready, |(one, other)| {
+        std::hint::black_box(Linked.check(kind, one));
+        std::hint::black_box(Linked.check(kind, other));
+    });
+    let alike: Vec<(Vec<u8>, Vec<u8>)> = books.iter().map(|(one, _)| (one.clone(), one.clone())).collect();
+    let compare = quickest(
+        rounds,
+        || alike.clone(),
+        |(one, other)| {
+            assert!(std::hint::black_box(one == other));
+        },
+    );
+    let engine = quickest(rounds, ready, |(one, other)| {
+        let answer = by_linked(What::Same, kind, &mut [one, other]);
+        assert_eq!(std::hint::black_box(answer), 0, "one book");
+    });
+    let plain = quickest(rounds, ready, |(one, other)| {
+        // SAFETY: each pointer comes with the length of the slice it is taken from, and the slices are separate.
+        std::hint::black_box(unsafe {
+            plain_same(kind, one.as_mut_ptr(), one.len(), other.as_mut_ptr(), other.len())
+        });
+    });
+    Row {
+        what: title(filling, drive),
+        engine,
+        plain,
+        measure: check + SAME_COMPARISONS * compare,
+    }
+}
+
+fn title(filling: Filling, drive: Drive) -> String {
+    format!(
+        "{}: {}, n = {}",
+        kind_title(drive.kind),
+        filling.title(),
+        drive.blocks
+    )
 }
 
 fn table(title: &str, measure: &str, rows: &[Row], limit: f64, words: &str) -> String {
@@ -321,9 +373,16 @@ pub fn measure(rounds: usize) -> String {
     let pack = table(
         "Packing",
         "both checks and 3 copies",
-        &all_packs(rounds),
+        &on_all_drives(|filling, drive| packs(filling, drive, rounds)),
         1.0,
         "packing at most as long as the image check, the list check and 3 copies of the image in C",
     );
-    salvage + &pack
+    let same = table(
+        "Two images of one book",
+        "both image checks and comparing 3 times",
+        &on_all_drives(|filling, drive| pairs(filling, drive, rounds)),
+        1.0,
+        "a book and its packed form compared at most as long as both image checks and 3 times comparing both images in C",
+    );
+    [salvage, pack, same].concat()
 }

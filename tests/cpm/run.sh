@@ -1,8 +1,8 @@
 #!/usr/bin/env bash
 # Holds the engine against Debian's cpmtools, which know nothing of it, on drives of 64 and of 256 blocks, and on those
 # of 257, 300 and 1,027 larger blocks that the second kind has: each must read what the other wrote, and the desk's
-# program (host/book.c) must find the tools' images sound, pack them and mend those that are damaged. Plays the page that
-# shows how (docs/SALVAGE.md). Then does each case where they differ by intent. One line for each step; at the first other
+# program (host/book.c) must find the tools' images sound, pack them, know a book that the tools have moved, and mend
+# images that are damaged. Plays the page that shows how (docs/SALVAGE.md). Then does each case where they differ by intent. One line for each step; at the first other
 # difference one plain line and exit status 1. Installs cpmtools where they are missing. All files are temporary.
 set -euo pipefail
 here=$(cd "$(dirname "${BASH_SOURCE[0]}")" && pwd -P)
@@ -211,6 +211,43 @@ desk_packs() { # FORMAT IMAGE
     cmp -s "$2" "$2.kept" || fail "packing has changed $2"
     expect "cpmls -u -A of $to" "$(tool cpmls "$1" -u -A "$2")" "$(tool cpmls "$1" -u -A "$to")"
     agree "$1" "$to"
+}
+
+desk_compares() { # STATUS WORDS OLD NEW
+    local said status=0
+    said=$(bash "$root/machine/run.sh" "$work/desk" compare "$3" "$4") || status=$?
+    expect "the desk's program on $3 and $4" "$3 and $4: $2, status $1" "$said, status $status"
+}
+
+# All files of an image copied by the tools, one by one and the last first, into a new one of another length. It is the
+# same book; and no longer with a byte changed, a file more or an attribute set.
+tools_move() { # FROM IMAGE TO NEW
+    local path base files=("$2".in/*) i
+    fresh "$3" "$4"
+    for ((i = ${#files[@]} - 1; i >= 0; i--)); do
+        base=${files[i]##*/}
+        rm -f moving
+        tool cpmcp "$1" "$2" "${base%%.*}:${base#*.}" moving || fail "cpmcp cannot copy $base from $2"
+        tool cpmcp "$3" "$4" moving "${base%%.*}:${base#*.}" || fail "cpmcp cannot put $base on $4"
+    done
+    checked sound "$4"
+    desk_compares 0 "the same book" "$2" "$4"
+    desk_compares 0 "the same book" "$4" "$2"
+    cp "$4" "$4.byte"
+    tool cpmcp "$3" "$4.byte" 15:RECORD1.TXT other
+    printf 'x' | dd of=other bs=1 seek=128 conv=notrunc status=none
+    tool cpmrm "$3" "$4.byte" 15:RECORD1.TXT
+    tool cpmcp "$3" "$4.byte" other 15:RECORD1.TXT
+    desk_compares 1 "RECORD1.TXT of user 15: record 1 differs" "$2" "$4.byte"
+    cp "$4" "$4.more"
+    tool cpmcp "$3" "$4.more" /dev/null 9:MORE.TXT
+    desk_compares 1 "MORE.TXT of user 9 is in $4.more alone" "$2" "$4.more"
+    cp "$4" "$4.less"
+    tool cpmrm "$3" "$4.less" 15:RECORD1.TXT
+    desk_compares 1 "RECORD1.TXT of user 15 is in $2 alone" "$2" "$4.less"
+    cp "$4" "$4.set"
+    tool cpmchattr "$3" "$4.set" r 15:RECORD1.TXT
+    desk_compares 1 "RECORD1.TXT of user 15: the read-only attribute is set in $4.set alone" "$2" "$4.set"
 }
 
 # ---- What the tools made ----
@@ -434,7 +471,10 @@ sparse() {
     cmp -s -n 12800 copied /dev/zero || fail "no zeros before record 100 of HOLE.DAT"
     cmp -s -n 128 -i 12800 copied hole || fail "cpmcp copies other bytes of record 100 of HOLE.DAT"
     packed_copies_same sparse HOLE.DAT copied
-    differs "hole in an extent: fsck.cpm wants a block for each 8 records of the count; sound for us. cpmcp copies zeros, 33 answers 1/0"
+    fresh mpm64 filled
+    tool cpmcp mpm64 filled copied 0:HOLE.DAT
+    desk_compares 1 "HOLE.DAT of user 0: record 0 has a block in filled alone" sparse filled
+    differs "hole in an extent: fsck.cpm wants a block for each 8 records of the count; sound for us. cpmcp copies zeros, 33 answers 1/0, and a copy with zeros there is another book"
     one_file holes HOLES.DAT 128
     book holes open 0 HOLES.DAT write 0 HOLES.DAT 256 8 hole
     checked sound holes
@@ -699,6 +739,11 @@ for n in 64 256; do
     desk_packs "mpm$n" "ours$n"
 done
 ok "the desk's program packs ten images of cpmtools and of the engine: cpmls lists the same files and attributes, cpmcp copies the same bytes, fsck.cpm is silent, the free space and the sizes are the same"
+tools_move mpm64 made64 mpm256 moved256
+second_kind
+tools_move large257 made257 large300 moved300
+first_kind
+ok "books moved by cpmtools, file by file, to an image of another length: the same for the desk's program, and different with a byte changed, a file more or less, an attribute set"
 large_damages
 ok "9 damages to a directory with numbers of two bytes: the engine tells the entry and why, errors for fsck.cpm; mended"
 second_kind

@@ -21,6 +21,7 @@ void *memset(void *, int, size);
 u32 mpm_salvage(u32 kind, u8 *image, size image_len, u8 *report, size report_len);
 u32 mpm_pack(u32 kind, const u8 *image, size image_len, const u8 *list, size list_len, u8 *packed,
              size packed_len);
+u32 mpm_same(u32 kind, const u8 *first, size first_len, const u8 *second, size second_len);
 
 enum {
     GUARD = 64,
@@ -170,13 +171,14 @@ static u32 serve(u8 function, u32 kind) {
     case 'R': return mpm_salvage(kind, data(one), one->length, data(two), two->length);
     case 'P':
         return mpm_pack(kind, data(one), one->length, data(two), two->length, data(three), three->length);
+    case 'M': return mpm_same(kind, data(one), one->length, data(two), two->length);
     default: exit(MALFORMED);
     }
 }
 
 static u32 buffers_of(u8 function) {
     switch (function) {
-    case 'R': return 2;
+    case 'R': case 'M': return 2;
     case 'P': return 3;
     default: exit(MALFORMED);
     }

@@ -93,7 +93,7 @@ desk_differs() { # NAME WORDS
 
 desk_is_same() { # WHAT OBJECTS..
     "${CC:-cc}" "${flags[@]}" "$here/desk.c" "${@:2}" "${libraries[@]}" -o "$work/desk"
-    "$desk" --cases 4000 --failures "$work/failures" -- "$work/desk" >"$work/out" 2>/dev/null || {
+    "$desk" --cases 5000 --failures "$work/failures" -- "$work/desk" >"$work/out" 2>/dev/null || {
         cat "$work/out"
         echo "desk over $1: different"
         exit 1
@@ -112,8 +112,8 @@ compile_plain mpm.o mpm.c
 desk_is_same "the reference" "$archive"
 desk_is_same "plain C" "$work"/{small,large,call,mpm}.o
 
-"${CC:-cc}" "${flags[@]}" -Dmpm_salvage=wrong_salvage -Dmpm_pack=wrong_pack -c "$here/desk.c" -o "$work/desk.o"
-for wrong in 1 2 3 4 5 6 7 8 9 10 11 12 13 14; do
+"${CC:-cc}" "${flags[@]}" -Dmpm_salvage=wrong_salvage -Dmpm_pack=wrong_pack -Dmpm_same=wrong_same -c "$here/desk.c" -o "$work/desk.o"
+for wrong in 1 2 3 4 5 6 7 8 9 10 11 12 13 14 15 16 17 18 19; do
     case $wrong in
         5) words='guards broken: 00000010' ;;
         6) words='guards broken: 00000001' ;;
@@ -124,4 +124,4 @@ for wrong in 1 2 3 4 5 6 7 8 9 10 11 12 13 14; do
     "${CC:-cc}" "${flags[@]}" -DWRONG="$wrong" "$work/desk.o" "$here/wrong_desk.c" "$archive" "${libraries[@]}" -o "$work/engine"
     desk_differs "wrong desk $wrong" "$words"
 done
-echo "desk over 14 wrong desks: all seen"
+echo "desk over 19 wrong desks: all seen"

@@ -31,6 +31,7 @@ u32 mpm_look(u32 kind, u32 user, const u8 *name, size name_len, u32 record, cons
 u32 mpm_salvage(u32 kind, u8 *image, size image_len, u8 *report, size report_len);
 u32 mpm_pack(u32 kind, const u8 *image, size image_len, const u8 *list, size list_len, u8 *packed,
              size packed_len);
+u32 mpm_same(u32 kind, const u8 *first, size first_len, const u8 *second, size second_len);
 
 u32 mpm_start(u32 kind, u32 capacity, u32 open_limit, u32 lock_limit, const u8 *users,
               size users_len, u8 *list, size list_len) {
@@ -66,6 +67,11 @@ u32 mpm_pack(u32 kind, const u8 *image, size image_len, const u8 *list, size lis
              size packed_len) {
     (void)kind, (void)image, (void)list, (void)list_len, (void)packed;
     return image_len == packed_len ? 0 : REFUSED;
+}
+
+u32 mpm_same(u32 kind, const u8 *first, size first_len, const u8 *second, size second_len) {
+    (void)kind, (void)first, (void)second;
+    return first_len == second_len ? 0 : 3;
 }
 
 u32 mpm_call(u32 kind, u32 function, u32 process, u32 count, u8 *fcb, size fcb_len, u8 *dma,

@@ -1,5 +1,5 @@
 /* An engine with one fault in a function of the desk. WRONG chooses the fault; those who are to see it are compiled to
-   call wrong_salvage for mpm_salvage and wrong_pack for mpm_pack. */
+   call wrong_salvage for mpm_salvage, wrong_pack for mpm_pack and wrong_same for mpm_same. */
 
 typedef unsigned char u8;
 typedef unsigned int u32;
@@ -20,12 +20,19 @@ typedef __SIZE_TYPE__ size;
 #define CHANGES_THE_IMAGE 12
 #define WRITES_BEHIND_THE_PACKED 13
 #define PACKS_WHILE_OPEN 14
+/* Of two images: */
+#define ALL_THE_SAME 15
+#define LENGTHS_COUNT 16
+#define SECOND_FIRST 17
+#define FIRST_RECORD_FREE 18
+#define ATTRIBUTES_FREE 19
 
 #ifndef WRONG
 #define WRONG DOES_NOTHING
 #endif
 
 enum { ENTRY = 32, EMPTIED = 255, EMPTY = 0xE5 };
+enum { BAD_FIRST = 1, BAD_SECOND = 2, DIFFERENT = 3 };
 enum { LIST = 1299, HEAD = 19, IN_USE = 255 + 256 * 5, REFUSED = 255 + 256 * 13 };
 
 u32 mpm_salvage(u32 kind, u8 *image, size image_len, u8 *report, size report_len);
@@ -34,6 +41,9 @@ u32 mpm_pack(u32 kind, const u8 *image, size image_len, const u8 *list, size lis
              size packed_len);
 u32 wrong_pack(u32 kind, const u8 *image, size image_len, const u8 *list, size list_len, u8 *packed,
                size packed_len);
+
+u32 mpm_same(u32 kind, const u8 *first, size first_len, const u8 *second, size second_len);
+u32 wrong_same(u32 kind, const u8 *first, size first_len, const u8 *second, size second_len);
 
 static void spoil(u8 *image, u8 *report, size entries) {
     (void)image, (void)report, (void)entries;
@@ -90,4 +100,33 @@ u32 wrong_pack(u32 kind, const u8 *image, size image_len, const u8 *list, size l
         answer = mpm_pack(kind, image, image_len, without_items(list), list_len, packed, packed_len);
     if (answer == 0) spoil_packed((u8 *)image, packed, packed_len);
     return answer;
+}
+
+/* A copy of an image without what the bad ones do not look at: the first data record of each block, or the high bits of
+   names. */
+static const u8 *blurred(u8 *copy, const u8 *image, size length, size block) {
+    size directory = 2 * block;
+    for (size i = 0; i < length; i++) copy[i] = image[i];
+    for (size i = directory; i < length && WRONG == FIRST_RECORD_FREE; i++)
+        if (i % block < 128) copy[i] = 0;
+    for (size i = 0; i < directory && i < length && WRONG == ATTRIBUTES_FREE; i++)
+        if (i % ENTRY >= 1 && i % ENTRY <= 11 && image[i - i % ENTRY] != EMPTY) copy[i] &= 0x7F;
+    return copy;
+}
+
+u32 wrong_same(u32 kind, const u8 *first, size first_len, const u8 *second, size second_len) {
+    static u8 one[4098 * 2048], other[4098 * 2048];
+    u32 answer = mpm_same(kind, first, first_len, second, second_len);
+    size block = kind == 0 ? 1024 : 2048;
+    switch (WRONG) {
+    case ALL_THE_SAME: return answer == DIFFERENT ? 0 : answer;
+    case LENGTHS_COUNT: return answer == 0 && first_len != second_len ? DIFFERENT : answer;
+    case SECOND_FIRST:
+        return answer == BAD_FIRST && mpm_same(kind, second, second_len, second, second_len) != 0 ? BAD_SECOND : answer;
+    case FIRST_RECORD_FREE: case ATTRIBUTES_FREE:
+        if (answer != DIFFERENT) return answer;
+        return mpm_same(kind, blurred(one, first, first_len, block), first_len, blurred(other, second, second_len, block),
+                        second_len);
+    default: return answer;
+    }
 }

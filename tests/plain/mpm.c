@@ -76,3 +76,7 @@ uint32_t mpm_pack(uint32_t kind, const uint8_t *image, size_t image_len, const u
                   uint8_t *packed, size_t packed_len) {
     return plain_pack(kind, read_only(image), image_len, list, list_len, packed, packed_len);
 }
+
+uint32_t mpm_same(uint32_t kind, const uint8_t *first, size_t first_len, const uint8_t *second, size_t second_len) {
+    return plain_same(kind, read_only(first), first_len, read_only(second), second_len);
+}

@@ -277,6 +277,38 @@ static void salvage_directory(const struct drive *d, uint8_t *report) {
         if (entry_at(d, e)[0] != MPM_EMPTY) report[e] = zero_numbers(d, entry_at(d, e), seen);
 }
 
+/* ---- Two images of one book ---- */
+
+static bool same_attributes(const uint8_t *a, const uint8_t *b) {
+    for (size_t i = 1; i <= NAME; i++)
+        if ((a[i] ^ b[i]) & 0x80) return false;
+    return true;
+}
+
+/* An entry's blocks are there in the other image, and with the same bytes. */
+static bool same_blocks(const struct drive *one, const uint8_t *entry, const struct drive *other, size_t e) {
+    for (size_t k = 0; k < MAP; k++) {
+        size_t b = number_at(entry, k), c = e < ENTRIES ? number_at(entry_at(other, e), k) : 0;
+        if (b == 0) continue;
+        if (c == 0 || memcmp(one->bytes + BLOCK * b, other->bytes + BLOCK * c, BLOCK) != 0) return false;
+    }
+    return true;
+}
+
+/* Whatever one image has, the other has too. */
+static bool has_all(const struct drive *other, const struct drive *one) {
+    for (size_t e = 0; e < ENTRIES; e++) {
+        const uint8_t *entry = entry_at(one, e);
+        if (entry[0] == MPM_EMPTY) continue;
+        struct file f = file_from(entry[0], entry + 1);
+        size_t first = entry_of(other, &f, 0);
+        if (first == ENTRIES) return false;
+        if (extent_at(entry) == 0 && !same_attributes(entry, entry_at(other, first))) return false;
+        if (!same_blocks(one, entry, other, entry_of(other, &f, extent_at(entry)))) return false;
+    }
+    return true;
+}
+
 /* ---- The list, packed and unpacked ---- */
 
 static uint8_t kind_of(const uint8_t *mark) {
@@ -926,6 +958,13 @@ uint32_t NAMED(pack, KIND)(uint8_t *image, size_t image_len, const uint8_t *list
     if (any_item_open(&l)) return MPM_ERR_IN_USE;
     pack_drive(&d, packed);
     return MPM_OK;
+}
+
+uint32_t NAMED(same, KIND)(uint8_t *first, size_t first_len, uint8_t *second, size_t second_len) {
+    struct drive one = {first, first_len / BLOCK}, other = {second, second_len / BLOCK};
+    if (check_drive(&one, first_len) != MPM_CHECK_SOUND) return MPM_SAME_BAD_FIRST;
+    if (check_drive(&other, second_len) != MPM_CHECK_SOUND) return MPM_SAME_BAD_SECOND;
+    return has_all(&other, &one) && has_all(&one, &other) ? MPM_SAME_BOOK : MPM_SAME_DIFFERENT;
 }
 
 /* Where a record begins, or 0; the image is sound. */

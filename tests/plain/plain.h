@@ -36,6 +36,11 @@ uint32_t plain_pack_SMALL(uint8_t *image, size_t image_len, const uint8_t *list,
 uint32_t plain_pack_LARGE(uint8_t *image, size_t image_len, const uint8_t *list, size_t list_len, uint8_t *packed,
                           size_t packed_len);
 
+/* As mpm_same. The images are only read. */
+uint32_t plain_same(uint32_t kind, uint8_t *first, size_t first_len, uint8_t *second, size_t second_len);
+uint32_t plain_same_SMALL(uint8_t *first, size_t first_len, uint8_t *second, size_t second_len);
+uint32_t plain_same_LARGE(uint8_t *first, size_t first_len, uint8_t *second, size_t second_len);
+
 /* As mpm_look. The image is only read. */
 uint32_t plain_look(uint32_t kind, uint32_t user, const uint8_t *name, size_t name_len, uint32_t record,
                     uint8_t *image, size_t image_len);

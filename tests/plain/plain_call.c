@@ -41,6 +41,14 @@ uint32_t plain_pack(uint32_t kind, uint8_t *image, size_t image_len, const uint8
     }
 }
 
+uint32_t plain_same(uint32_t kind, uint8_t *first, size_t first_len, uint8_t *second, size_t second_len) {
+    switch (kind) {
+    case MPM_KIND_SMALL: return plain_same_SMALL(first, first_len, second, second_len);
+    case MPM_KIND_LARGE: return plain_same_LARGE(first, first_len, second, second_len);
+    default: return MPM_SAME_BAD_FIRST;
+    }
+}
+
 uint32_t plain_look(uint32_t kind, uint32_t user, const uint8_t *name, size_t name_len, uint32_t record,
                     uint8_t *image, size_t image_len) {
     if (name_len != MPM_NAME_LEN || plain_check(kind, image, image_len) != MPM_CHECK_SOUND) return 0;

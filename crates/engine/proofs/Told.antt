@@ -26,6 +26,7 @@ use Rattle.locklist.specs.Start.{DidStart}
 use Rattle.calls.specs.Calls.{callBy}
 use Rattle.repair.specs.Salvage.{salvaged, salvage, salvageTold}
 use Rattle.packing.specs.Packs.{packs, pack, packTold}
+use Rattle.packing.specs.Same.{rowsSame, sameTold}
 
 -- after `let Told::Known(known) = told_kind(kind) else { return .. }`
 module _ (n : ℕ) (t : Told) (is : t ≡ toldKind n) where
@@ -66,6 +67,10 @@ module _ (n : ℕ) (t : Told) (is : t ≡ toldKind n) where
     unfolding packTold
     pack-known s list out a left h = h ∙ ap (λ (x : Told). packTold x s list out) kind-is
 
+    pub same-known : (s u : List ℕ) (a : ℕ) → a ≡ firstOf (rowsSame kind s u) → a ≡ sameTold (toldKind n) s u
+    unfolding sameTold
+    same-known s u a h = h ∙ ap (λ (x : Told). sameTold x s u) kind-is
+
   module _ (other : t ≡ Other) where
     other-is : Other ≡ toldKind n
     other-is = sym other ∙ is
@@ -100,6 +105,10 @@ module _ (n : ℕ) (t : Told) (is : t ≡ toldKind n) where
     pub pack-other : (s list out : List ℕ) → packs 3583 out ≡ packTold (toldKind n) s list out
     unfolding packTold
     pack-other s list out = ap (λ (x : Told). packTold x s list out) other-is
+
+    pub same-other : (s u : List ℕ) → 1 ≡ sameTold (toldKind n) s u
+    unfolding sameTold
+    same-other s u = ap (λ (x : Told). sameTold x s u) other-is
 
 -- ---- Look's number
 

@@ -5,6 +5,8 @@ use calls::answer::answer;
 use drive::check::image_check;
 use drive::look::look_at;
 use locklist::start::start;
+use moving::same::FIRST_UNSOUND;
+use moving::same::same;
 use packcall::call::pack;
 use rules::answer::image_told;
 use rules::code::BAD_CALL;
@@ -20,6 +22,7 @@ ghost use Rattle.rules.specs.Told.{callTold, singlyTold, startTold, checkTold, 
 ghost use Rattle.locklist.specs.Start.{DidStart};
 ghost use Rattle.repair.specs.Salvage.{salvaged, salvageTold};
 ghost use Rattle.packing.specs.Packs.{packs, packTold};
+ghost use Rattle.packing.specs.Same.{sameTold};
 
 // A call: the kind of drive, three numbers and four separate buffers in, A + 256 H out.
 #[no_mangle]
@@ -129,4 +132,16 @@ pub extern "C" fn mpm_pack(kind: u32, image: &[u8], list: &[u8], packed: &mut [u
         return BAD_CALL;
     };
     pack(known, image, list, packed)
+}
+
+// Two images: 0 they hold the same book, 1 the first is unsound, 2 the second is, 3 they hold different books.
+#[no_mangle]
+pub extern "C" fn mpm_same(kind: u32, first: &[u8], second: &[u8]) -> u32
+    ensures { λ r. ⌜ r ≡ sameTold (toldKind kind) (now (first .entry)) (now (second .entry)) ⌝ }
+{
+    let told = told_kind(kind);
+    let Told::Known(known) = told else {
+        return FIRST_UNSOUND;
+    };
+    same(known, first, second)
 }

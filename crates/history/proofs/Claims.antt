@@ -46,11 +46,14 @@ use Rattle.packing.proofs.Sound.{packed-sound}
 use Rattle.packing.proofs.Kept.{length-packed, look-packed, missing-packed, entry-packed}
 use Rattle.packing.proofs.Twice.{packed-twice, free-packed, free-highest}
 use Rattle.packing.proofs.Answers.{pack-accepts, pack-zero, pack-leaves}
+use Rattle.packing.specs.Same.{sameTold}
+use Rattle.packing.proofs.Decides.{same-sym}
+use Rattle.packing.proofs.Accepted.{same-refl, same-then, accepted-so, accepted-of, first-unsound, second-unsound, different, packed-accepted, accepted-packed}
 use Rattle.repair.proofs.Outcome.{refused-nothing, good-answered, salvaged-twice}
 use Rattle.history.specs.History.{Ask, State, Engine, isWord, isPossible, isKept, lent, outcomeOf, withCount}
 use Rattle.history.specs.Deeds.{doneIn}
 use Rattle.history.specs.Demands.{NoTrace, Demand1, Demand2}
-use Rattle.history.specs.Claims.{Claims, KeepsContract, Refuses, ToldClaims, TheSession, LookClaims, CheckClaims, SizeClaims, SalvageClaims, PackClaims, AllClaims}
+use Rattle.history.specs.Claims.{Claims, KeepsContract, Refuses, ToldClaims, TheSession, LookClaims, CheckClaims, SizeClaims, SalvageClaims, PackClaims, SameClaims, AllClaims}
 use Rattle.history.proofs.First.{leaves-no-trace, counted-possible, fewer-possible}
 use Rattle.history.proofs.Alike.{meets-third}
 use Rattle.history.proofs.Unlocks.{unlock-order}
@@ -216,6 +219,21 @@ pack-claims = record {
   free-highest = free-highest;
 }
 
+same-claims : SameClaims
+same-claims = record {
+  accepted = λ kind s t g h k. accepted-so kind s t (record { first-sound = g; second-sound = h; same = k });
+  accepted-only = λ told s t z.
+      let w = accepted-of told s t z in (w .0, w .1, w .2 .first-sound, w .2 .second-sound, w .2 .same);
+  unknown-kind = λ s t. unfold sameTold in refl;
+  first-unsound = first-unsound;
+  second-unsound = second-unsound;
+  different = different;
+  packed-form = λ kind s h. (packed-accepted kind s h, accepted-packed kind s h);
+  itself = same-refl;
+  turned = same-sym;
+  through = same-then;
+}
+
 -- every promise, of every engine that keeps the contract, and of the rules
 pub all-claims : AllClaims
 all-claims = record {
@@ -244,5 +262,6 @@ all-claims = record {
   sizes = size-claims;
   salvages = salvage-claims;
   packs = pack-claims;
+  sames = same-claims;
   least = least;
 }

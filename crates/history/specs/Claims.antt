@@ -15,7 +15,7 @@ use Rattle.rules.specs.declared.kind.Told.{Told}
 use Rattle.rules.specs.declared.file.File.{File}
 use Rattle.rules.specs.declared.routine.Routine.the-variants.{Delete, Make, Rename, Write, Size, WriteZeros, TestWrite}
 use Rattle.rules.specs.declared.routine.Chosen.the-variants.{Call}
-use Rattle.rules.specs.declared.kind.Told.the-variants.{Known}
+use Rattle.rules.specs.declared.kind.Told.the-variants.{Known, Other}
 use Rattle.rules.specs.Kinds.{toldKind, entries}
 use Rattle.rules.specs.Serves.{Buffers, outcome, Did, chosen, listSize}
 use Rattle.rules.specs.declared.answer.ImageAnswer.{ImageAnswer}
@@ -36,6 +36,7 @@ use Rattle.repair.specs.Salvage.{salvaged, salvageTold, repaired, reportOf, com
 use Rattle.repair.specs.Mends.{Mends}
 use Rattle.packing.specs.Packed.{packed}
 use Rattle.packing.specs.Packs.{rowsPack, packs, packTold}
+use Rattle.packing.specs.Same.{SameBook, sameTold}
 use Rattle.history.specs.History.{Ask, State, Engine, isWord, EachCall, lent, outcomeOf, withCount}
 use Rattle.history.specs.Demands.{Demand1, Demand2, Demand3}
 use Rattle.history.specs.Unlocks.{UnlockOrder}
@@ -214,6 +215,26 @@ pub record PackClaims : Type 0 where
   pub free-highest : (kind : Kind) (s : List ℕ) → soundImage kind s ≡ true → (b : ℕ) → 2 ≤ b
       → isFree kind (packed kind s) b ≡ leb (2 + blocksInUse kind s) b
 
+-- T-14, "Accepting a book moved by others", of what `mpm_same` promises; s is the first image, t the second.
+pub record SameClaims : Type 0 where
+  -- "accepts the pair exactly when both are sound, hold the same files with the same extent 0 attributes, and Look shows for each record
+  -- the same 128 bytes or nothing in both"
+  pub accepted : (kind : Kind) (s t : List ℕ) → soundImage kind s ≡ true → soundImage kind t ≡ true → SameBook kind s t → sameTold (Known kind) s t ≡ 0
+  pub accepted-only : (told : Told) (s t : List ℕ) → sameTold told s t ≡ 0
+      → (kind : Kind) × (told ≡ Known kind) × (soundImage kind s ≡ true) × (soundImage kind t ≡ true) × SameBook kind s t
+  -- "Refusals: 1 first image unsound or kind of drive unknown, 2 second unsound, 3 they hold different books"
+  pub unknown-kind : (s t : List ℕ) → sameTold Other s t ≡ 1
+  pub first-unsound : (kind : Kind) (s t : List ℕ) → soundImage kind s ≡ false → sameTold (Known kind) s t ≡ 1
+  pub second-unsound : (kind : Kind) (s t : List ℕ) → soundImage kind s ≡ true → soundImage kind t ≡ false → sameTold (Known kind) s t ≡ 2
+  pub different : (kind : Kind) (s t : List ℕ) → soundImage kind s ≡ true → soundImage kind t ≡ true → (SameBook kind s t → ⊥)
+      → sameTold (Known kind) s t ≡ 3
+  -- "A book and its packed form from T-12 are always accepted": in either order; + it is an equivalence
+  pub packed-form : (kind : Kind) (s : List ℕ) → soundImage kind s ≡ true
+      → (sameTold (Known kind) s (packed kind s) ≡ 0) × (sameTold (Known kind) (packed kind s) s ≡ 0)
+  pub itself : (kind : Kind) (s : List ℕ) → SameBook kind s s
+  pub turned : (kind : Kind) (s t : List ℕ) → SameBook kind s t → SameBook kind t s
+  pub through : (kind : Kind) (s t v : List ℕ) → SameBook kind s t → SameBook kind t v → SameBook kind s v
+
 -- ---- All of it
 
 pub record AllClaims : Type 0 where
@@ -228,5 +249,6 @@ pub record AllClaims : Type 0 where
   pub sizes : SizeClaims
   pub salvages : SalvageClaims
   pub packs : PackClaims
+  pub sames : SameClaims
   -- T-10: "Give also a sequence with one place fewer where one of them is": + for all limits and numbers of processes, so that the bound is the least.
   pub least : Least

@@ -1,4 +1,4 @@
--- Packing leaves the same book, packed once for all. Assumes nothing.
+-- Packing leaves the same book, packed once for all; the test of two images decides whether they hold the same book. Assumes nothing.
 pub mod Laid
 pub mod Moved
 pub mod Sound
@@ -6,3 +6,5 @@ pub mod Looks
 pub mod Kept
 pub mod Twice
 pub mod Answers
+pub mod Decides
+pub mod Accepted

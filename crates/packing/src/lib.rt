@@ -1,1 +1,1 @@
-// Packing a book: what is asked of it and what holds, over the written rules. There is no code here.
+// Packing a book, and books moved by others: what is asked of them and what holds, over the written rules. There is no code here.

@@ -231,6 +231,30 @@ impl Drive {
         Some((highest, RECORDS_PER_EXTENT * highest + u32::from(extent.count)))
     }
 
+    pub fn files(&self) -> impl Iterator<Item = File> + '_ {
+        self.files.keys().copied()
+    }
+
+    /// The file's attributes are those of extent 0.
+    pub fn attributes(&self, file: &File) -> [u8; NAME_LENGTH] {
+        self.extent(file, 0)
+            .map_or([0; NAME_LENGTH], |first| first.attributes)
+    }
+
+    /// The blocks of a file, each with its place among all that the file can have.
+    pub fn blocks_of(&self, file: &File) -> Vec<(u32, u16)> {
+        let per_extent = self.kind.numbers_per_entry() as u32;
+        let extents = self.files.get(file).into_iter().flatten();
+        let blocks = extents.flat_map(|(number, extent)| {
+            let place = move |index: usize| per_extent * number + index as u32;
+            extent
+                .blocks
+                .iter()
+                .map(move |(index, block)| (place(*index), *block))
+        });
+        blocks.collect()
+    }
+
     pub fn block(&self, file: &File, record: u32) -> Option<u16> {
         let extent = self.extent(file, extent_of(record))?;
         extent.block(self.map_index(record))

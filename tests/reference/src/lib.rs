@@ -5,6 +5,7 @@ pub mod calls;
 pub mod drive;
 pub mod kind;
 pub mod locks;
+pub mod moved;
 pub mod name;
 pub mod packing;
 pub mod program;
@@ -95,6 +96,21 @@ fn packing_of(kind: u32, image: &[u8], list: &[u8], length: usize) -> Result<Vec
         return Err(Answer::extended(5));
     }
     Ok(packing::packed(kind, image))
+}
+
+/// 0 the two images hold the same book, 1 the first is unsound or the kind unknown, 2 the second is unsound, 3 they
+/// hold different books.
+pub fn same(kind: u32, first: &[u8], second: &[u8]) -> u32 {
+    let Some(one) = Kind::told(kind).and_then(|kind| Drive::read(kind, first).ok()) else {
+        return 1;
+    };
+    let Some(other) = Kind::told(kind).and_then(|kind| Drive::read(kind, second).ok()) else {
+        return 2;
+    };
+    match moved::book(&one, first) == moved::book(&other, second) {
+        true => 0,
+        false => 3,
+    }
 }
 
 /// A + 256·H.

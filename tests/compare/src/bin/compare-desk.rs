@@ -13,7 +13,7 @@ const USAGE: &str = "\
 compare-desk [--seed N] [--cases N | --seconds N] [--only FUNCTION] [--failures FOLDER] [--table] [ENGINE]
 compare-desk --replay FILE [ENGINE]
 
-FUNCTION  salvage or pack; each in turn unless said
+FUNCTION  salvage, pack or same; each in turn unless said
 ENGINE    nothing: the reference itself
           --linked: the C symbols (feature `linked`, MPM_ARCHIVE)
           -- COMMAND [ARGUMENT...]: a child that speaks the protocol of pipe/desk.c";

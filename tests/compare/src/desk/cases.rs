@@ -2,7 +2,7 @@
 
 use super::books::{book_of, some_blocks, some_book};
 use super::damaged::{damage, overwrite};
-use super::{packs, Case, What};
+use super::{packs, pairs, Case, What};
 use crate::random::Random;
 use reference::kind::Kind;
 
@@ -33,6 +33,7 @@ impl Cases {
         let mut case = match what {
             What::Salvage => self.salvage(kind),
             What::Pack => packs::some_case(kind, &mut self.random),
+            What::Same => pairs::some_case(kind, &mut self.random),
         };
         match self.random.below(100) {
             0 => case.kind = self.random.pick(&UNKNOWN_KINDS),
@@ -83,5 +84,9 @@ impl Cases {
     pub fn book(&mut self, kind: Kind) -> Vec<u8> {
         let blocks = some_blocks(kind, &mut self.random);
         book_of(kind, blocks, &mut self.random)
+    }
+    /// Another image beside this one, of the same book or with one thing changed, for tests.
+    pub fn pair_of(&mut self, kind: Kind, image: &[u8]) -> Vec<u8> {
+        pairs::second_of(kind, image, &mut self.random)
     }
 }

@@ -1,6 +1,6 @@
 //! What the cases have reached, read from their bytes by rules of its own.
 
-use super::{packs, Case, Outcome, What};
+use super::{packs, pairs, Case, Outcome, What};
 use crate::faults::{block_numbers, extent_number, image_faults, is_legal_name};
 use reference::kind::Kind;
 use std::collections::{BTreeMap, BTreeSet};
@@ -23,6 +23,7 @@ impl Coverage {
         let seen = match case.what {
             What::Salvage => seen_of_salvage(case, outcome),
             What::Pack => packs::seen(case, outcome),
+            What::Same => pairs::seen(case, outcome),
         };
         for one in seen {
             *self.met.entry((case.what, one)).or_default() += 1;
@@ -59,9 +60,10 @@ fn wanted(what: What) -> Vec<String> {
     let of_kind = |kind: Kind| match what {
         What::Salvage => wanted_of_salvage(kind),
         What::Pack => packs::wanted(kind),
+        What::Same => pairs::wanted(),
     };
     let of_unknown = match what {
-        What::Salvage => vec!["unknown kind: 1".to_string()],
+        What::Salvage | What::Same => vec!["unknown kind: 1".to_string()],
         What::Pack => vec!["unknown kind: 255/13".to_string()],
     };
     let known = Kind::ALL.into_iter().flat_map(|kind| {

@@ -14,6 +14,8 @@ extern "C" {
         packed: *mut u8,
         packed_len: usize,
     ) -> u32;
+
+    fn mpm_same(kind: u32, first: *const u8, first_len: usize, second: *const u8, second_len: usize) -> u32;
 }
 
 pub fn by_linked(what: What, kind: u32, buffers: &mut [&mut [u8]]) -> u32 {
@@ -39,6 +41,15 @@ pub fn by_linked(what: What, kind: u32, buffers: &mut [&mut [u8]]) -> u32 {
                 list.len(),
                 packed.as_mut_ptr(),
                 packed.len(),
+            )
+        },
+        (What::Same, [first, second]) => unsafe {
+            mpm_same(
+                kind,
+                first.as_mut_ptr(),
+                first.len(),
+                second.as_mut_ptr(),
+                second.len(),
             )
         },
         _ => unreachable!("a case has the buffers of its function"),

@@ -10,6 +10,7 @@ pub mod damaged;
 pub mod linked;
 pub mod named;
 pub mod packs;
+pub mod pairs;
 pub mod pipe;
 pub mod watch;
 pub mod wire;
@@ -25,15 +26,17 @@ const SHOWN: usize = 12;
 pub enum What {
     Salvage,
     Pack,
+    Same,
 }
 
 impl What {
-    pub const ALL: [What; 2] = [What::Salvage, What::Pack];
+    pub const ALL: [What; 3] = [What::Salvage, What::Pack, What::Same];
 
     pub fn title(self) -> &'static str {
         match self {
             What::Salvage => "salvage",
             What::Pack => "pack",
+            What::Same => "same",
         }
     }
 
@@ -46,6 +49,7 @@ impl What {
         match self {
             What::Salvage => &["image", "report"],
             What::Pack => &["image", "list", "packed"],
+            What::Same => &["first", "second"],
         }
     }
 }
@@ -94,6 +98,7 @@ pub fn by_reference(what: What, kind: u32, buffers: &mut [&mut [u8]]) -> u32 {
     match (what, buffers) {
         (What::Salvage, [image, report]) => reference::salvage(kind, image, report),
         (What::Pack, [image, list, packed]) => reference::pack(kind, image, list, packed),
+        (What::Same, [first, second]) => reference::same(kind, first, second),
         _ => unreachable!("a case has the buffers of its function"),
     }
 }

@@ -1,6 +1,6 @@
 //! Cases by name, on both kinds of drive: each edge of the rules once.
 
-use super::{packs, Case, What};
+use super::{packs, pairs, Case, What};
 use crate::build::{empty_image_of, image_of, put_entry, Entry};
 use reference::kind::Kind;
 
@@ -28,6 +28,7 @@ pub fn cases(what: What) -> Vec<Named> {
     let of_kind = |kind| match what {
         What::Salvage => salvage(kind),
         What::Pack => packs::named(kind),
+        What::Same => pairs::named(kind),
     };
     Kind::ALL.into_iter().flat_map(of_kind).collect()
 }

@@ -54,7 +54,7 @@ pub fn some_case(kind: Kind, random: &mut Random) -> Case {
     case(kind.number(), image, list, packed)
 }
 
-fn packed_once(kind: Kind, image: &[u8]) -> Vec<u8> {
+pub fn packed_once(kind: Kind, image: &[u8]) -> Vec<u8> {
     let mut packed = vec![0; image.len()];
     let answer = reference::pack(kind.number(), image, &fresh_list(1, [0; 16]), &mut packed);
     assert_eq!(answer, 0, "a sound book");

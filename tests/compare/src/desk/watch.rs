@@ -1,6 +1,6 @@
 //! Watches over what the reference has answered, by what documents 01 and 02 say of the outcome as a whole.
 
-use super::{on_reference, packs, Case, Outcome, What};
+use super::{on_reference, packs, pairs, Case, Outcome, What};
 use crate::faults::{block_numbers, image_faults};
 use reference::kind::Kind;
 
@@ -9,6 +9,7 @@ pub fn fault(case: &Case, outcome: &Outcome) -> Option<String> {
     let wrong = match case.what {
         What::Salvage => salvage_fault(case, outcome),
         What::Pack => packs::fault(case, outcome),
+        What::Same => pairs::fault(case, outcome),
     };
     wrong.map(|what| format!("the reference's {}: {what}", case.what.title()))
 }

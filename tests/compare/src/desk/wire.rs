@@ -1,7 +1,7 @@
 //! Cases and outcomes as bytes: for the pipe, and for a case kept in a file. Numbers are little-endian and have four
 //! bytes.
 //!
-//! Case:    the function ('R' salvage, 'P' pack), kind, and for each of its buffers:
+//! Case:    the function ('R' salvage, 'P' pack, 'M' same), kind, and for each of its buffers:
 //!          length, fill byte, runs
 //! Outcome: 'A', broken guards(1), answer, and for each buffer runs: what differs from the buffer as it was lent
 //! Runs:    as often as there are any: length (not 0), place, bytes; then a length of 0
@@ -19,6 +19,7 @@ fn tag(what: What) -> u8 {
     match what {
         What::Salvage => b'R',
         What::Pack => b'P',
+        What::Same => b'M',
     }
 }
 

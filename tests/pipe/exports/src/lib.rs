@@ -1,4 +1,4 @@
-//! The reference behind the engine's seven C symbols, to try `pipe.c` and the feature `linked` with.
+//! The reference behind the engine's eight C symbols, to try `pipe.c` and the feature `linked` with.
 
 use std::slice::{from_raw_parts, from_raw_parts_mut};
 
@@ -157,4 +157,17 @@ pub unsafe extern "C" fn mpm_pack(
         lent(list, list_len),
         lent_mut(packed, packed_len),
     )
+}
+
+/// # Safety
+/// The two buffers must be good for their lengths.
+#[no_mangle]
+pub unsafe extern "C" fn mpm_same(
+    kind: u32,
+    first: *const u8,
+    first_len: usize,
+    second: *const u8,
+    second_len: usize,
+) -> u32 {
+    reference::same(kind, lent(first, first_len), lent(second, second_len))
 }

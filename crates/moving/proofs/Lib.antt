@@ -1,0 +1,2 @@
+-- What the comparison relies on. Assumes nothing.
+pub mod Fits

@@ -1,0 +1,2 @@
+-- What the comparison asks of an image.
+pub mod Fits

@@ -1,0 +1,3 @@
+// Two images compared: whether they hold the same book.
+mod held;
+pub mod same;
