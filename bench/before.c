@@ -1,14 +1,17 @@
 /* The engine of an archive, with the parameters of today's mpm.h whatever version its own was: NAME_call, NAME_singly
    and NAME_check over NAME_own_call and so on, which the archive's mpm_call and so on are renamed to. NAME and VERSION,
    the number in the archive's own mpm.h, are given when it is compiled.
-   Until version 2 there was one kind of drive, and nobody was told which. 4 has other names in its header, no more; with
-   5 the check of an unsound image tells an entry. */
+   Until version 2 there was one kind of drive, and nobody was told which. 4 has other names in its header, no more;
+   with 5 the check of an unsound image tells an entry. Until 5 the list ended before the positions of searches, so an
+   engine of those versions is lent what is before them; it has no searches. */
 #include <stddef.h>
 #include <stdint.h>
 
-#if VERSION < 2 || VERSION > 5
-#error "only engines of the versions 2 to 5 can be called"
+#if VERSION < 2 || VERSION > 6
+#error "only engines of the versions 2 to 6 can be called"
 #endif
+
+enum { LIST_LEN = 1315, POSITIONS = 1299 };
 
 #define JOINED(name, what) name##_##what
 #define OF(name, what) JOINED(name, what)
@@ -41,17 +44,25 @@ uint32_t OUTER(kinds)(void);
 /* How many kinds of drive the engine knows. It is asked for no other. */
 uint32_t OUTER(kinds)(void) { return KINDS; }
 
+/* The length of the list that the engine is lent. */
+static size_t own_list_len(size_t list_len) {
+    if (VERSION > 5 || list_len != LIST_LEN) return list_len;
+    return POSITIONS;
+}
+
 uint32_t OUTER(call)(uint32_t kind, uint32_t function, uint32_t process, uint32_t count, uint8_t *fcb, size_t fcb_len,
                      uint8_t *dma, size_t dma_len, uint8_t *list, size_t list_len, uint8_t *image, size_t image_len) {
     (void)kind;
-    return OWN(call)(KIND function, process, count, fcb, fcb_len, dma, dma_len, list, list_len, image, image_len);
+    return OWN(call)(KIND function, process, count, fcb, fcb_len, dma, dma_len, list, own_list_len(list_len), image,
+                     image_len);
 }
 
 uint32_t OUTER(singly)(uint32_t kind, uint32_t function, uint32_t process, uint32_t count, uint8_t *fcb,
                        size_t fcb_len, uint8_t *dma, size_t dma_len, uint8_t *list, size_t list_len, uint8_t *image,
                        size_t image_len) {
     (void)kind;
-    return OWN(singly)(KIND function, process, count, fcb, fcb_len, dma, dma_len, list, list_len, image, image_len);
+    return OWN(singly)(KIND function, process, count, fcb, fcb_len, dma, dma_len, list, own_list_len(list_len), image,
+                       image_len);
 }
 
 uint32_t OUTER(check)(uint32_t kind, const uint8_t *image, size_t image_len) {

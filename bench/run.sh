@@ -1,17 +1,16 @@
 #!/usr/bin/env bash
-# run.sh [--docs] [ROUNDS]: times the engine, the same work in plain C (tests/plain) and the reference, all built for this
-# machine's own processor, on the same books in one run, on both kinds of drive; and calls for several records, beside
-# the engine's single calls. Writes figures.md, rows.csv, plot.svg, several.csv and several.svg to target/bench and
-# prints the summary.
-# --docs: puts the figures into docs/PERFORMANCE.md, the plots and all rows beside it.
-# run.sh --agree: times nothing, only compares what the three and the engine's single calls answer and leave.
-# run.sh --desk [ROUNDS]: times the desk's functions (salvage, pack, same) alone, beside plain C, and prints each time beside what it
-# is held against. MPM_ARCHIVE=FILE takes another engine for this processor.
-# run.sh --before ARCHIVE [ROUNDS]: times the engine of the archive, which machine/native.sh has made at an earlier
-# commit, and this tree's, taking turns in one run: the image check alone and the calls, with their stack. First the two
-# have to answer and leave the same. Writes before.md and, with every call, before.csv to target/bench and prints the
-# former. What parameters the archive's functions have is told by the mpm.h that native.sh has left beside it; where
-# there is none, they are those of version 2, with one kind of drive. Then the small kind alone is timed.
+# run.sh [--docs] [ROUNDS]: times the engine, the same work in plain C (tests/plain) and the reference, all built for
+# this machine's own processor, on the same books in one run, on both kinds of drive; and calls for several records,
+# beside the engine's single calls. Writes figures.md, rows.csv, plot.svg, several.csv and several.svg to target/bench
+# and prints the summary. --docs: puts the figures into docs/PERFORMANCE.md, the plots and all rows beside it. run.sh
+# --agree: times nothing, only compares what the three and the engine's single calls answer and leave. run.sh --desk
+# [ROUNDS]: times the desk's functions (salvage, pack, same) alone, beside plain C, and prints each time beside what it
+# is held against. MPM_ARCHIVE=FILE takes another engine for this processor. run.sh --before ARCHIVE [ROUNDS]: times the
+# engine of the archive, which machine/native.sh has made at an earlier commit, and this tree's, taking turns in one
+# run: the image check alone and the calls, with their stack. First the two have to answer and leave the same. Writes
+# before.md and, with every call, before.csv to target/bench and prints the former. What parameters the archive's
+# functions have is told by the mpm.h that native.sh has left beside it; where there is none, they are those of version
+# 2, with one kind of drive. Then the small kind alone is timed.
 set -euo pipefail
 here=$(cd "$(dirname "${BASH_SOURCE[0]}")" && pwd -P)
 # shellcheck source=../machine/kit.sh
@@ -47,8 +46,8 @@ version_of() { # ARCHIVE
     sed -n 's/^#define MPM_VERSION \([0-9]*\)u$/\1/p' "$header"
 }
 
-# make_object ARCHIVE NAME: an archive's engine as the object NAME.o, whose functions begin with NAME_ instead of mpm_ and
-# have today's parameters (before.c). Each function is put at a multiple of 64: the same code lying otherwise to the
+# make_object ARCHIVE NAME: an archive's engine as the object NAME.o, whose functions begin with NAME_ instead of mpm_
+# and have today's parameters (before.c). Each function is put at a multiple of 64: the same code lying otherwise to the
 # processor's lines can take a tenth more.
 make_object() {
     local name version words=() kept=()
@@ -93,8 +92,9 @@ code_size() { size "$1" | awk 'NR > 1 { sum += $1 } END { print sum }'; }
 # What a reader has to know of the run, and the sizes.
 describe() {
     echo "Run on $(nproc) cores of $(processor), Linux $(uname -m), with" \
-        "$("$own/toolchain/bin/clang" --version | head -n 1) and $(rustc --version), $(date -u +%Y-%m-%d). Code of the" \
-        "archive that ships: $(code_size "$archive") bytes; built for this processor: $(code_size "$native")." |
+        "$("$own/toolchain/bin/clang" --version | head -n 1) and $(rustc --version), $(date -u +%Y-%m-%d)." \
+        "Code of the archive that ships: $(code_size "$archive") bytes;" \
+        "built for this processor: $(code_size "$native")." |
         fold -s -w 120 | sed 's/ *$//'
     echo
 }

@@ -37,7 +37,7 @@ enum { DIRECTORY_END = 1 << 30 }; /* stands for the end of the directory, which 
 
 struct rule {
     uint32_t function;
-    uint32_t answers[ANSWERS]; /* 0, then the refusals; unused ones are 0. AFTER: of a record with others done before */
+    uint32_t answers[ANSWERS]; /* 0, then all others; unused ones are 0. AFTER: of a record with others done before */
     struct {
         int buffer;
         size_t from, to;
@@ -55,7 +55,10 @@ struct rule {
 #define FILL                                                                                                           \
     WRITE, MPM_ERR_DIRECTORY_FULL, MPM_ERR_DISK_FULL, AFTER(MPM_ERR_PAST_END), AFTER(MPM_ERR_LOCKED),                  \
         AFTER(MPM_ERR_DIRECTORY_FULL), AFTER(MPM_ERR_DISK_FULL)
-#define PLACES {LIST, MPM_LIST_PLACES, MPM_LIST_LEN}
+#define PLACES {LIST, MPM_LIST_PLACES, MPM_LIST_POSITIONS}
+#define POSITION {LIST, MPM_LIST_POSITIONS, MPM_LIST_LEN} /* of the caller only */
+#define FINDS ALL, MPM_FOUND(1u), MPM_FOUND(2u), MPM_FOUND(3u), MPM_NO_MATCH
+#define FOUND {DMA, MPM_DMA_ENTRIES, MPM_RECORD_LEN}, POSITION
 #define OPENED {FCB, 12, 32}, {FCB, MPM_FCB_RECORD, MPM_FCB_LEN}, PLACES
 #define DIRECTORY {IMAGE, 0, DIRECTORY_END}
 #define DRIVE {IMAGE, 0, MPM_LARGE_MAX_BLOCKS * MPM_LARGE_BLOCK_LEN}
@@ -65,6 +68,8 @@ static const struct rule rules[] = {
      {ALL, MPM_ERR_BAD_NAME, MPM_ERR_NOT_FOUND, MPM_ERR_IN_USE, MPM_ERR_OPEN_LIMIT, MPM_ERR_OPEN_LIST_FULL},
      {OPENED}},
     {MPM_FN_CLOSE, {ALL, MPM_ERR_CLOSE_NOT_OPEN}, {PLACES}},
+    {MPM_FN_SEARCH_FIRST, {FINDS}, {FOUND}},
+    {MPM_FN_SEARCH_NEXT, {FINDS}, {FOUND}},
     {MPM_FN_DELETE, {ALL, MPM_ERR_BAD_NAME, MPM_ERR_NOT_FOUND, MPM_ERR_IN_USE, MPM_ERR_READ_ONLY}, {PLACES, DIRECTORY}},
     {MPM_FN_MAKE,
      {ALL, MPM_ERR_BAD_NAME, MPM_ERR_EXISTS, MPM_ERR_OPEN_LIMIT, MPM_ERR_OPEN_LIST_FULL, MPM_ERR_NO_EMPTY_ENTRY},
@@ -83,7 +88,7 @@ static const struct rule rules[] = {
      {PLACES}},
     {MPM_FN_UNLOCK, {ALL, MPM_ERR_NOT_OPEN, MPM_ERR_BAD_FILE_ID, MPM_ERR_PAST_END}, {PLACES}},
     {MPM_FN_FREE_SPACE, {NO_FCB}, {{DMA, MPM_DMA_FREE, 3}}},
-    {MPM_FN_TERMINATE, {NO_FCB}, {PLACES}},
+    {MPM_FN_TERMINATE, {NO_FCB}, {PLACES, POSITION}},
 };
 
 enum { RULES = sizeof rules / sizeof rules[0] };
@@ -98,15 +103,23 @@ static bool goes_by_records(uint32_t function) {
     return function == MPM_FN_READ || function == MPM_FN_WRITE || function == MPM_FN_WRITE_ZEROS;
 }
 
-/* How many records were done; 1 for an accepted call of another function. */
+static bool searches(uint32_t function) {
+    return function == MPM_FN_SEARCH_FIRST || function == MPM_FN_SEARCH_NEXT;
+}
+
+/* How many records were done; 1 for a call of another function that was not refused. */
 static uint32_t done_by(const struct call *c) {
-    return mpm_done(c->answer, goes_by_records(c->function) ? c->count : 1);
+    if (goes_by_records(c->function)) return mpm_done(c->answer, c->count);
+    return mpm_refused(c->function, c->answer) ? 0 : 1;
+}
+
+static bool is_done_in_part(const struct call *c) {
+    return goes_by_records(c->function) && c->answer != MPM_OK && done_by(c) > 0;
 }
 
 /* The answer as the rules have it. */
 static uint32_t ruled(const struct call *c) {
-    if (!goes_by_records(c->function) || c->answer == MPM_OK || done_by(c) == 0) return c->answer;
-    return AFTER(mpm_code(c->answer));
+    return is_done_in_part(c) ? AFTER(mpm_code(c->answer)) : c->answer;
 }
 
 static size_t end_of(size_t to, uint32_t kind) {
@@ -116,6 +129,8 @@ static size_t end_of(size_t to, uint32_t kind) {
 static bool may_change(const struct call *c, int buffer, size_t i) {
     const struct rule *rule = rule_of(c->function);
     if (c->function == MPM_FN_READ && i >= MPM_DMA_AT(done_by(c))) return false;
+    if (buffer == LIST && i >= MPM_LIST_POSITIONS && i != MPM_LIST_POSITIONS + c->process) return false;
+    if (buffer == DMA && searches(c->function) && !mpm_found(c->answer)) return false;
     for (size_t k = 0; k < CHANGES; k++)
         if (rule->changes[k].buffer == buffer && i >= rule->changes[k].from &&
             i < end_of(rule->changes[k].to, c->kind))
@@ -166,11 +181,11 @@ static void print_met(void) {
     printf("met: %s: %lu calls\n", kind_name(MPM_KINDS), calls[MPM_KINDS]);
 }
 
-static void count_call(const struct call *c, uint32_t done) {
+static void count_call(const struct call *c) {
     size_t kind = c->kind < MPM_KINDS ? c->kind : MPM_KINDS;
     calls[kind]++;
-    accepted[kind] += c->answer == MPM_OK;
-    in_part[kind] += c->answer != MPM_OK && done > 0;
+    accepted[kind] += done_by(c) > 0 && !is_done_in_part(c);
+    in_part[kind] += is_done_in_part(c);
 }
 
 static void count_pair(const struct call *c, size_t rule, size_t answer) {
@@ -264,7 +279,7 @@ static void check_answer(const struct call *c, const struct state *before) {
     size_t k = 0;
     while (k < ANSWERS && rule->answers[k] != ruled(c)) k++;
     want(k < ANSWERS, c, "the function does not have this answer");
-    want(c->answer == MPM_OK || done_by(c) < c->count || bad, c, "more records done than can be");
+    want(!is_done_in_part(c) || done_by(c) < c->count, c, "more records done than can be");
     count_pair(c, (size_t)(rule - rules), k);
 }
 
@@ -434,11 +449,28 @@ static void check_start(const struct call *c, const struct state *s) {
     memset(due.bytes, good ? 0 : 0xA5, due.length);
     for (size_t i = 0; good && i < 3; i++) due.bytes[i] = (uint8_t)numbers[i];
     if (good) memcpy(due.bytes + MPM_LIST_USERS, users.bytes, users.length);
+    if (good) memset(due.bytes + MPM_LIST_POSITIONS, (int)mpm_entries(c->kind), MPM_PROCESSES);
     uint32_t answer =
         mpm_start(c->kind, numbers[0], numbers[1], numbers[2], users.bytes, users.length, list.bytes, list.length);
     want(answer == (good ? MPM_OK : MPM_ERR_BAD_CALL) && same_bytes(&list, &due), c, "Start does otherwise");
     free(list.memory);
     free(due.memory);
+}
+
+/* A search has left its caller behind an entry of its user, which stands where the answer and the DMA say; or at its
+   end. */
+static void check_search(const struct call *c, const struct state *before, const struct state *after) {
+    if (!searches(c->function) || mpm_refused(c->function, c->answer)) return;
+    const uint8_t *list = after->of[LIST].bytes, *image = after->of[IMAGE].bytes, *dma = after->of[DMA].bytes;
+    uint32_t position = list[MPM_LIST_POSITIONS + c->process], entry = position - 1;
+    uint32_t from = c->function == MPM_FN_SEARCH_NEXT ? before->of[LIST].bytes[MPM_LIST_POSITIONS + c->process] : 0;
+    want(mpm_found(c->answer) || position == mpm_entries(c->kind), c, "a search in vain is not at its end");
+    if (!mpm_found(c->answer)) return;
+    want(position > from && position <= mpm_entries(c->kind), c, "a search has not gone on");
+    want(entry % MPM_RECORD_ENTRIES == mpm_a(c->answer), c, "the entry has another place in its record");
+    want(memcmp(dma, image + MPM_RECORD_LEN * (entry / MPM_RECORD_ENTRIES), MPM_RECORD_LEN) == 0, c,
+         "the DMA has another record of the directory");
+    want(mpm_entry(dma, c->answer)[MPM_ENTRY_USER] == list[MPM_LIST_USERS + c->process], c, "another user's entry");
 }
 
 static void check_singly(const struct call *c, struct state *copy, const struct state *before,
@@ -463,12 +495,13 @@ static void check_call(struct call *c, struct state *s) {
                 (unsigned long)s->of[IMAGE].length);
     c->answer = run(mpm_call, c, s);
     if (telling) fprintf(stderr, " %u %u\n", mpm_a(c->answer), mpm_h(c->answer));
-    count_call(c, done_by(c));
+    count_call(c);
     check_answer(c, &before);
     check_image(c, &before);
     check_changes(c, &before, s);
     if (done_by(c) > 0) check_sound(c, &copy, s);
     check_look(c, s);
+    check_search(c, &before, s);
     check_start(c, s);
     check_singly(c, &copy, &before, s);
     check_plain(c, &before, s);

@@ -161,6 +161,11 @@ selftest() {
         "KEEPS_OWN_OPEN leaves the open of a deleted file" "REFUSES_OWN_OPEN refuses to delete the caller's open file"
         "SIZE_OF_LAST takes the highest entry for the highest extent" "SIZE_BY_EX leaves the module out of the size"
         "SIZE_BY_COUNT_0 tells the size by extent 0's count" "SIZE_IN_TWO_BYTES tells the size in two bytes"
+        "NEXT_THE_SAME finds the same entry for ever" "OTHER_USERS finds other users' entries"
+        "NO_FIRST_MARK takes no mark in the first byte" "NEXT_RECORD gives the next directory record"
+        "NOT_AT_THE_END leaves the position of a search in vain" "ANOTHERS_POSITION sets another process's position"
+        "SEARCH_OUTLIVES leaves the position of a process that ended" "EX_ALONE takes ex 0 for extent 0"
+        "POSITION_65 takes a position above the number of entries"
         "HIGH_BYTE_DROPPED stores a number without its high byte" "BLOCK_4097 takes 4,097 blocks"
         "SIXTEEN_NUMBERS reads eight numbers as sixteen" "FREE_BY_EIGHT counts eight records to a large block"
         "CLEARS_SEVEN clears seven of fifteen records" "UNKNOWN_AS_LARGE takes an unknown kind as large"
@@ -175,6 +180,7 @@ selftest() {
         "PACKS_NOTHING packs nothing" "LAST_BLOCK_LEFT leaves bytes in a free block"
         "EMPTY_IN_BYTE_0 empties entries in byte 0 alone" "CHANGES_THE_IMAGE packs in place"
         "WRITES_BEHIND_THE_PACKED writes behind the packed book" "PACKS_WHILE_OPEN packs while a file is open"
+        "ENDS_SEARCHES ends the searches of a packed book" "POSITIONS_FREE packs whatever the positions are"
         "ALL_THE_SAME takes all books for the same" "SECOND_FIRST tells 2 before 1"
         "FIRST_RECORD_FREE does not compare a block's first record" "ATTRIBUTES_FREE does not compare attributes")
     local n fault

@@ -8,10 +8,12 @@
 
 enum { MAX_STEPS = 80, PATH_LEN = 4096, NOTHING_RISES = 255 };
 
-/* Three names, and the first as an FCB asks for unlocked and for read-only mode. */
+/* Three names, a mark for any, and the first as an FCB asks for unlocked and for read-only mode. */
 #define A "ORDERS  DAT"
 #define B "STOCK   DAT"
 #define C "NEW        "
+#define ANY "???????????"
+#define B_READ_ONLY "STOCK   \304AT"
 #define A_UNLOCKED "ORDE\322S  DAT"
 #define A_READ_ONLY "ORDER\323  DAT"
 
@@ -132,6 +134,8 @@ static void all_functions(uint32_t kind) {
     call(0, MPM_FN_READ, A, 262143, 1, 0);
     call(0, MPM_FN_TEST_WRITE, A, 262143, 1, 0)[1] = KEEP_DMA;
     call(0, MPM_FN_SIZE, A, 0, 1, 0);
+    call(0, MPM_FN_SEARCH_FIRST, ANY, 0, 1, 0);
+    call(0, MPM_FN_SEARCH_NEXT, ANY, 0, 1, 0);
     call(0, MPM_FN_LOCK, A, 0, 1, 0);
     call(0, MPM_FN_CLOSE, A, 0, 1, 0);
     call(0, MPM_FN_OPEN, A_UNLOCKED, 0, 1, 0);
@@ -190,6 +194,62 @@ static void file_sizes(uint32_t kind) {
     call(0, MPM_FN_SIZE, "?RDERS  DAT", 0, 1, 0);
     call(2, MPM_FN_OPEN, A, 0, 1, 0);
     call(3, MPM_FN_SIZE, A, 0, 1, 0);
+    save();
+}
+
+/* A search that admits all extents. */
+static void search_all(uint32_t process, uint32_t function, const char *name) {
+    call(process, function, name, 0, 1, 0)[CONTENT + MPM_FCB_EXTENTS] = MPM_ANY;
+}
+
+/* Entries at each place of a record, of three users and several extents, at both ends of the directory; searches of two
+   processes that go on after Make, Delete, Rename and 143; names with marks, with high bits and illegal ones; positions
+   at both ends and behind them. */
+static void searches(uint32_t kind) {
+    uint32_t last = mpm_entries(kind) - 1;
+    const char one_too_many[] = {(char)(last + 2)};
+    set_drive(kind, fewest(kind, 16));
+    PUT(LIST, MPM_LIST_USERS + 4, 12, 1, 0, "\004");
+    ENTRY(0, 1, "\000" A);
+    ENTRY(1, 1, "\000" A "\001");
+    ENTRY(2, 1, "\000" B_READ_ONLY);
+    ENTRY(3, 1, "\000" A "\000\000\001");
+    ENTRY(5, 1, "\000" "STOCK   DAU");
+    ENTRY(6, 1, "\004" A);
+    ENTRY(last - 1, 1, "\004" B);
+    ENTRY(last, 1, "\000" "ORDERT  DAT");
+    for (int i = 0; i < 6; i++) search_all(0, i == 0 ? MPM_FN_SEARCH_FIRST : MPM_FN_SEARCH_NEXT, ANY);
+    for (int i = 0; i < 4; i++) call(1, i == 0 ? MPM_FN_SEARCH_FIRST : MPM_FN_SEARCH_NEXT, ANY, 0, 1, 0);
+    for (int i = 0; i < 3; i++) call(5, i == 0 ? MPM_FN_SEARCH_FIRST : MPM_FN_SEARCH_NEXT, ANY, 0, 16, 0);
+    call(0, MPM_FN_SEARCH_FIRST, "STOCK   DA?", 0, 1, 0);
+    call(0, MPM_FN_SEARCH_FIRST, "STOCK   DAU", 0, 1, 0);
+    call(0, MPM_FN_SEARCH_FIRST, "ORDERT  ???", 0, 1, 0);
+    search_all(0, MPM_FN_SEARCH_FIRST, "?RDERS  DAT");
+    search_all(0, MPM_FN_SEARCH_NEXT, "\277RDERS  DA\277");
+    search_all(0, MPM_FN_SEARCH_NEXT, "O\322DERS  D\301T");
+    call(0, MPM_FN_SEARCH_FIRST, "ORDER?  DA?", 0, 1, 0)[CONTENT + MPM_FCB_EXTENTS] = 0xBF;
+    call(0, MPM_FN_SEARCH_NEXT, "ORDER?  DA?", 0, 1, 0)[CONTENT + MPM_FCB_EXTENTS] = 1;
+    call(0, MPM_FN_SEARCH_FIRST, " RDERS  DAT", 0, 1, 0);
+    call(0, MPM_FN_SEARCH_FIRST, ANY, 0, 1, 0)[CONTENT] = MPM_ANY;
+    search_all(1, MPM_FN_SEARCH_FIRST, ANY);
+    search_all(2, MPM_FN_SEARCH_FIRST, ANY);
+    call(0, MPM_FN_MAKE, C, 0, 1, 0);
+    call(0, MPM_FN_DELETE, A, 0, 1, 0);
+    search_all(1, MPM_FN_SEARCH_NEXT, ANY);
+    call(3, MPM_FN_RENAME, "ORDERT  DAT", 0, 1, 0);
+    call(1, MPM_FN_TERMINATE, A, 0, 1, 0);
+    search_all(1, MPM_FN_SEARCH_NEXT, ANY);
+    search_all(2, MPM_FN_SEARCH_NEXT, ANY);
+    PUT(LIST, MPM_LIST_POSITIONS, 16, 1, 0, "\060");
+    search_all(15, MPM_FN_SEARCH_NEXT, ANY);
+    call(2, MPM_FN_SEARCH_NEXT, ANY, 0, 1, 0);
+    patch(LIST, MPM_LIST_POSITIONS + 7, 1, 1, NOTHING_RISES, one_too_many, sizeof one_too_many);
+    search_all(0, MPM_FN_SEARCH_NEXT, ANY);
+    call(7, MPM_FN_TERMINATE, ANY, 0, 1, 0);
+    PUT(LIST, MPM_LIST_POSITIONS, 16, 1, 0, "\071");
+    search_all(0, MPM_FN_SEARCH_NEXT, ANY);
+    PUT(LIST, MPM_LIST_POSITIONS, 16, 1, 0, "\171");
+    search_all(0, MPM_FN_SEARCH_NEXT, ANY);
     save();
 }
 
@@ -463,6 +523,7 @@ static void seeds_of(uint32_t kind) {
     all_functions(kind);
     own_files_deleted(kind);
     file_sizes(kind);
+    searches(kind);
     files_in_use(kind);
     broken_bytes(kind);
     runs(kind);

@@ -23,6 +23,15 @@ enum {
     SIZE_BY_EX,        /* 35 leaves the module out */
     SIZE_BY_COUNT_0,   /* 35 takes the count of extent 0 */
     SIZE_IN_TWO_BYTES, /* 35 leaves FCB byte 35 as it was */
+    NEXT_THE_SAME,     /* a search goes on at the entry that it has found */
+    OTHER_USERS,       /* a search finds entries of every user */
+    NO_FIRST_MARK,     /* "?" stands for nothing else in the first byte of a name */
+    NEXT_RECORD,       /* a search gives the directory record behind the entry's */
+    NOT_AT_THE_END,    /* a search in vain leaves the position as it was */
+    ANOTHERS_POSITION, /* a search sets the next process's position */
+    SEARCH_OUTLIVES,   /* 143 leaves the position as it was */
+    EX_ALONE,          /* byte 12 not "?" admits each extent with an ex of 0 */
+    POSITION_65,       /* takes a position of one more than the entries as the end */
     HIGH_BYTE_DROPPED, /* stores a block number of two bytes without the second */
     BLOCK_4097,        /* takes a large drive of 4,097 blocks */
     SIXTEEN_NUMBERS,   /* 33 reads a large drive's eight block numbers as sixteen of one byte */
@@ -97,7 +106,7 @@ static uint8_t *short_copy(const uint8_t *fcb) {
 }
 
 static void put_locks_back(uint8_t *list, const uint8_t *old) {
-    for (size_t at = MPM_LIST_PLACES; at < MPM_LIST_LEN; at += MPM_PLACE_LEN)
+    for (size_t at = MPM_LIST_PLACES; at < MPM_LIST_POSITIONS; at += MPM_PLACE_LEN)
         if (old[at] == MPM_MARK_LOCK % 256u) memcpy(list + at, old + at, MPM_PLACE_LEN);
 }
 
@@ -144,15 +153,74 @@ static uint32_t bad_size(const struct lent *c, uint8_t old) {
     }
 }
 
+/* ---- Faults of searches ---- */
+
+static bool searches(uint32_t function) {
+    return function == MPM_FN_SEARCH_FIRST || function == MPM_FN_SEARCH_NEXT;
+}
+
+static bool is_asked(const struct lent *c, const uint8_t *entry) {
+    for (size_t i = 1; i <= MPM_NAME_LEN; i++) {
+        bool any = (c->fcb[i] & 0x7F) == MPM_ANY && !(SPOILED == NO_FIRST_MARK && i == 1);
+        if (!any && ((entry[i] ^ c->fcb[i]) & 0x7F)) return false;
+    }
+    return true;
+}
+
+static bool is_found(const struct lent *c, const uint8_t *entry) {
+    uint32_t extent = SPOILED == EX_ALONE ? entry[12] : extent_of(entry);
+    bool of_user = entry[0] == c->list[MPM_LIST_USERS + c->process] || SPOILED == OTHER_USERS;
+    bool admitted = c->fcb[MPM_FCB_EXTENTS] == MPM_ANY || extent == 0;
+    return entry[0] != MPM_EMPTY && of_user && admitted && is_asked(c, entry);
+}
+
+/* The search that was made well, made badly from what was there before. */
+static uint32_t bad_search(const struct lent *c, const uint8_t *old_list, const uint8_t *old_dma) {
+    uint8_t *position = c->list + MPM_LIST_POSITIONS + c->process;
+    uint8_t old = old_list[MPM_LIST_POSITIONS + c->process];
+    uint32_t entries = mpm_entries(c->kind), e = c->function == MPM_FN_SEARCH_NEXT ? old : 0;
+    while (e < entries && !is_found(c, entry_at(c->image, e))) e++;
+    memcpy(c->dma, old_dma, MPM_RECORD_LEN);
+    *position = (uint8_t)(e < entries ? e + (SPOILED != NEXT_THE_SAME) : entries);
+    if (SPOILED == NOT_AT_THE_END && e == entries) *position = old;
+    if (SPOILED == ANOTHERS_POSITION) {
+        c->list[MPM_LIST_POSITIONS + (c->process + 1) % MPM_PROCESSES] = *position;
+        *position = old;
+    }
+    if (e == entries) return MPM_NO_MATCH;
+    uint32_t record = e / MPM_RECORD_ENTRIES + (SPOILED == NEXT_RECORD);
+    memcpy(c->dma, c->image + MPM_RECORD_LEN * record, MPM_RECORD_LEN);
+    return MPM_FOUND(e % MPM_RECORD_ENTRIES);
+}
+
+/* A position of one too many is as good as the end; it stays where the call is refused for another reason. */
+static uint32_t with_position_65(struct lent c) {
+    uint8_t old[MPM_PROCESSES];
+    if (c.kind >= MPM_KINDS || c.list_len != MPM_LIST_LEN) return call(&c);
+    uint8_t *positions = c.list + MPM_LIST_POSITIONS;
+    memcpy(old, positions, sizeof old);
+    for (size_t p = 0; p < MPM_PROCESSES; p++)
+        if (positions[p] == mpm_entries(c.kind) + 1) positions[p]--;
+    uint32_t answer = call(&c);
+    if (mpm_refused(c.function, answer)) memcpy(positions, old, sizeof old);
+    return answer;
+}
+
 static uint32_t bad_call(struct lent c) {
+    uint8_t old_dma[MPM_RECORD_LEN];
     uint8_t old[MPM_LIST_LEN], highest_byte = c.fcb_len == MPM_FCB_LEN ? c.fcb[MPM_FCB_LEN - 1] : 0;
     if (c.list_len == sizeof old) memcpy(old, c.list, sizeof old);
+    if (c.dma_len == MPM_DMA_LEN) memcpy(old_dma, c.dma, sizeof old_dma);
+    if (SPOILED == POSITION_65) return with_position_65(c);
     if (SPOILED == REFUSES_OWN_OPEN && refuses_own(c)) return MPM_ERR_IN_USE;
     if (SPOILED == NO_ZERO_FILL && c.function == MPM_FN_WRITE_ZEROS) c.function = MPM_FN_WRITE;
     if (SPOILED == SHORT_LOCK && c.function == MPM_FN_LOCK && c.count == MPM_MAX_COUNT) c.count--;
     if (SPOILED == SHORT_FCB && c.function == MPM_FN_READ && c.fcb_len == MPM_FCB_LEN) c.fcb = short_copy(c.fcb);
     uint32_t answer = call(&c);
     if (SPOILED == WRITES_AT_REFUSAL && answer == MPM_ERR_LOCKED) c.dma[MPM_DMA_LEN - 1] ^= 1;
+    if (searches(c.function) && !mpm_refused(c.function, answer)) answer = bad_search(&c, old, old_dma);
+    if (SPOILED == SEARCH_OUTLIVES && c.function == MPM_FN_TERMINATE && answer == MPM_OK)
+        c.list[MPM_LIST_POSITIONS + c.process] = old[MPM_LIST_POSITIONS + c.process];
     if (c.function == MPM_FN_SIZE && answer == MPM_OK) set_record(c.fcb, bad_size(&c, highest_byte));
     if (SPOILED == LEAVES_LOCKS && c.function == MPM_FN_CLOSE && answer == MPM_OK) put_locks_back(c.list, old);
     if (SPOILED == KEEPS_OWN_OPEN && c.function == MPM_FN_DELETE && answer == MPM_OK) memcpy(c.list, old, sizeof old);

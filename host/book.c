@@ -4,16 +4,18 @@
      book check IMAGE..                for each image one line: sound, or the lowest bad entry of its directory and what
                                        is wrong
      book size IMAGE [USER:]NAME..     for each file, of user 0 unless said, one line with its size
+     book list IMAGE [USER]            for each file of the user, or of every user, one line with its size and its
+                                       attributes, in the order of the directory
      book salvage IMAGE -o NEW         mends a damaged image: a line for each entry that was touched, and one with the
                                        totals. Of a sound one NEW is a copy.
      book pack IMAGE -o NEW            the same files with their entries and blocks at the lowest places: one line with
                                        how many of them were moved
      book compare OLD NEW              one line: whether two images hold the same book, or what differs first
 
-   Exit status: 0 if all images are sound, all files there and both books the same, 1 if one is not; for salvage 1 if the
-   image was not sound and NEW is. 2 for an image that cannot be read, mended or compared, a new file that cannot be
-   made or was there already, a word that is no file's name and for wrong use. NEW is made with status 0, and by salvage
-   with 1. */
+   Exit status: 0 if all images are sound, all files there and both books the same, 1 if one is not; for salvage 1 if
+   the image was not sound and NEW is. 2 for an image that cannot be read, mended or compared, a new file that cannot be
+   made or was there already, a word that is no file's name or no user and for wrong use. NEW is made with status 0, and
+   by salvage with 1. */
 
 #define _XOPEN_SOURCE 700
 #include "mpm.h"
@@ -25,7 +27,7 @@
 #include <unistd.h>
 
 enum { DONE, NOT_SO, FAILED };
-enum { EX = 12, MODULE = 14, COUNT = 15, MAP = 16 }; /* where they stand in an entry */
+enum { EX = MPM_ENTRY_EX, MODULE = MPM_ENTRY_MODULE, COUNT = MPM_ENTRY_COUNT, MAP = MPM_ENTRY_MAP };
 enum { NAME_PART = 8, TEXT = 16 };
 
 /* One byte more than the longest image, so that a longer file is seen to be one. */
@@ -94,10 +96,7 @@ static const uint8_t *entry_at(const struct image *image, uint32_t entry) {
 
 static int is_used(const struct image *image, uint32_t entry) { return entry_at(image, entry)[0] != MPM_EMPTY; }
 
-static uint32_t extent_at(const struct image *image, uint32_t entry) {
-    const uint8_t *at = entry_at(image, entry);
-    return at[EX] + 32u * at[MODULE];
-}
+static uint32_t extent_at(const struct image *image, uint32_t entry) { return mpm_extent(entry_at(image, entry)); }
 
 static uint32_t number_len(const struct image *image) { return MPM_MAP_LEN / mpm_numbers(image->kind); }
 
@@ -114,8 +113,8 @@ static int is_same_file(const uint8_t *a, const uint8_t *b) {
 }
 
 /* The name as people write it: without the blanks that fill it up, with a dot before the type if there is one. */
-static void name_of(const struct image *image, uint32_t entry, char text[TEXT]) {
-    const uint8_t *name = entry_at(image, entry) + 1;
+static void name_of(const uint8_t *entry, char text[TEXT]) {
+    const uint8_t *name = entry + MPM_ENTRY_NAME;
     size_t at = 0, name_end = NAME_PART, type_end = MPM_NAME_LEN;
     while (name_end > 0 && (name[name_end - 1] & 0x7F) == ' ') name_end--;
     while (type_end > NAME_PART && (name[type_end - 1] & 0x7F) == ' ') type_end--;
@@ -168,7 +167,7 @@ static void say_name(const struct image *image, uint32_t entry, const char *done
 
 static void say_file(const struct image *image, uint32_t entry, const char *done) {
     char name[TEXT];
-    name_of(image, entry, name);
+    name_of(entry_at(image, entry), name);
     printf("entry %u, %s of user %u: %s", (unsigned)entry, name, entry_at(image, entry)[0], done);
 }
 
@@ -298,28 +297,36 @@ static uint32_t start_list(const struct image *image, uint32_t user, uint8_t *li
     return mpm_start(image->kind, 1, 1, 1, users, sizeof users, list, MPM_LIST_LEN);
 }
 
-/* The image stays as it is: 35 writes the FCB alone. */
-static uint32_t ask_size(const struct image *image, uint32_t user, uint8_t *fcb) {
-    static uint8_t list[MPM_LIST_LEN], dma[MPM_DMA_LEN];
-    struct mpm_book book = {image->kind, list, sizeof list, image->bytes, image->length};
-    uint32_t answer = start_list(image, user, list);
-    return answer == MPM_OK ? mpm_book_call(&book, MPM_FN_SIZE, 0, 1, fcb, dma) : answer;
+/* A book of the image on which every process is this user. The image stays as it is: 17, 18 and 35, which are all that
+   is called on it, do not write to it. */
+static uint32_t start_book(struct mpm_book *book, const struct image *image, uint32_t user) {
+    static uint8_t list[MPM_LIST_LEN];
+    *book = (struct mpm_book){image->kind, list, sizeof list, image->bytes, image->length};
+    return start_list(image, user, list);
+}
+
+static void say_records(uint32_t records) {
+    printf("%u records, %u bytes", (unsigned)records, (unsigned)(MPM_RECORD_LEN * records));
 }
 
 static int say_size(const struct image *image, const char *word) {
+    static uint8_t dma[MPM_DMA_LEN];
     uint8_t fcb[MPM_FCB_LEN];
     const char *name;
     uint32_t user = user_of(word, &name);
     if (user == MPM_USERS) return fail(word, "A user is a number from 0 to 15.");
     uint32_t naming = mpm_set_fcb(fcb, name, MPM_MODE_LOCKED);
     if (naming != MPM_NAMING_OK) return fail(word, mpm_naming_text(naming));
-    uint32_t answer = ask_size(image, user, fcb);
+    struct mpm_book book;
+    uint32_t answer = start_book(&book, image, user);
+    if (answer == MPM_OK) answer = mpm_book_call(&book, MPM_FN_SIZE, 0, 1, fcb, dma);
     printf("%s: %s of user %u: ", image->path, name, (unsigned)user);
     if (answer == MPM_OK) {
-        printf("%u records, %u bytes\n", (unsigned)mpm_size(fcb), (unsigned)(MPM_RECORD_LEN * mpm_size(fcb)));
+        say_records(mpm_size(fcb));
     } else {
-        printf("%s\n", mpm_answer_text(MPM_FN_SIZE, answer));
+        printf("%s", mpm_answer_text(MPM_FN_SIZE, answer));
     }
+    printf("\n");
     return answer == MPM_OK ? DONE : NOT_SO;
 }
 
@@ -330,6 +337,75 @@ static int size_all(int count, char **words) {
     if (!load(&image, words[0])) return fail(words[0], "cannot be read");
     if (mpm_check(image.kind, image.bytes, image.length) != MPM_CHECK_SOUND) return check_image(&image);
     for (int i = 1; i < count; i++) status = worse(status, say_size(&image, words[i]));
+    return status;
+}
+
+/* ---- The list of files ---- */
+
+/* What the high bits of extent 0's name say. */
+static void say_attributes(const uint8_t *entry) {
+    static const char *const names[MPM_NAME_LEN] = {"f1", "f2", "f3",        "f4",     "f5",     "f6",
+                                                    "f7", "f8", "read-only", "system", "archive"};
+    for (size_t i = 0; i < MPM_NAME_LEN; i++)
+        if (entry[MPM_ENTRY_NAME + i] & MPM_HIGH_BIT) printf(", %s", names[i]);
+}
+
+/* An entry of extent 0, with the size that 35 tells of its file. */
+static int say_listed(struct mpm_book *book, const char *path, const uint8_t *entry) {
+    static uint8_t dma[MPM_DMA_LEN];
+    uint8_t fcb[MPM_FCB_LEN] = {0};
+    char name[TEXT];
+    memcpy(fcb + MPM_FCB_NAME, entry + MPM_ENTRY_NAME, MPM_NAME_LEN);
+    name_of(entry, name);
+    printf("%s: %s of user %u: ", path, name, entry[MPM_ENTRY_USER]);
+    uint32_t answer = mpm_book_call(book, MPM_FN_SIZE, 0, 1, fcb, dma);
+    if (answer != MPM_OK) {
+        printf("%s\n", mpm_answer_text(MPM_FN_SIZE, answer));
+        return FAILED;
+    }
+    say_records(mpm_size(fcb));
+    say_attributes(entry);
+    printf("\n");
+    return DONE;
+}
+
+/* The files of a user; gives how many there are. No search finds more entries than there are. */
+static uint32_t list_user(const struct image *image, uint32_t user, int *status) {
+    static uint8_t dma[MPM_DMA_LEN];
+    uint8_t fcb[MPM_FCB_LEN];
+    struct mpm_book book;
+    uint32_t files = 0;
+    mpm_set_search(fcb, "*.*", 0);
+    uint32_t answer = start_book(&book, image, user);
+    if (answer == MPM_OK) answer = mpm_search_first(&book, 0, fcb, dma);
+    for (; mpm_found(answer) && files < mpm_entries(image->kind); files++) {
+        *status = worse(*status, say_listed(&book, image->path, mpm_entry(dma, answer)));
+        answer = mpm_search_next(&book, 0, fcb, dma);
+    }
+    if (mpm_refused(MPM_FN_SEARCH_NEXT, answer))
+        *status = fail(image->path, mpm_answer_text(MPM_FN_SEARCH_NEXT, answer));
+    return files;
+}
+
+/* A number from 0 to 15, or a number of users. */
+static uint32_t user_told(const char *word) {
+    uint32_t user = 0;
+    size_t digits = 0;
+    for (; word[digits] >= '0' && word[digits] <= '9' && digits < 2; digits++)
+        user = 10u * user + (uint32_t)(word[digits] - '0');
+    return digits > 0 && word[digits] == 0 && user < MPM_USERS ? user : MPM_USERS;
+}
+
+static int list_files(int count, char **words) {
+    struct image image;
+    uint32_t files = 0, first = 0, last = MPM_USERS - 1u;
+    int status = DONE;
+    if (count > 1) first = last = user_told(words[1]);
+    if (first == MPM_USERS) return fail(words[1], "A user is a number from 0 to 15.");
+    if (!load(&image, words[0])) return fail(words[0], "cannot be read");
+    if (mpm_check(image.kind, image.bytes, image.length) != MPM_CHECK_SOUND) return check_image(&image);
+    for (uint32_t user = first; user <= last; user++) files += list_user(&image, user, &status);
+    if (files == 0 && status == DONE) printf("%s: no files\n", image.path);
     return status;
 }
 
@@ -464,8 +540,6 @@ static int pack(int count, char **words) {
 
 /* ---- Comparing. Both images are sound ---- */
 
-enum { READ_ONLY_AT = 9 };
-
 /* The entry of a file's extent; the number of entries where there is none. */
 static uint32_t find(const struct image *image, const uint8_t *file, uint32_t extent) {
     uint32_t e = 0;
@@ -506,7 +580,7 @@ static void say_alone(const struct image *image) { printf(" in %s alone", image-
 
 static void say_which(const struct image *image, uint32_t entry) {
     char name[TEXT];
-    name_of(image, entry, name);
+    name_of(entry_at(image, entry), name);
     printf("%s of user %u", name, entry_at(image, entry)[0]);
 }
 
@@ -519,7 +593,7 @@ static size_t other_attribute(const uint8_t *a, const uint8_t *b) {
 
 static void say_attribute(const struct image *old, uint32_t entry, const struct image *new, size_t i) {
     say_which(old, entry);
-    if (i == READ_ONLY_AT) {
+    if (i == MPM_ENTRY_READ_ONLY) {
         printf(": the read-only attribute is set");
     } else {
         printf(": attribute %u is set", (unsigned)i);
@@ -615,6 +689,7 @@ static const struct verb {
 } verbs[] = {
     {"check", "IMAGE..", 1, 0, check_all},
     {"size", "IMAGE [USER:]NAME..", 2, 0, size_all},
+    {"list", "IMAGE [USER]", 1, 2, list_files},
     {"salvage", "IMAGE -o NEW", 3, 3, salvage},
     {"pack", "IMAGE -o NEW", 3, 3, pack},
     {"compare", "OLD NEW", 2, 2, compare},

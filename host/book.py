@@ -1,5 +1,6 @@
 """The desk's program on images that are damaged in each way, on both kinds of drive: one line for each, as it has to
-be, and its exit status; the sizes that it tells; what it mends and what it packs, to the byte; what it says of two books.
+be, and its exit status; the sizes that it tells, and its lists of files; what it mends and what it packs, to the byte;
+what it says of two books.
 
 book.py FOLDER BOOK..
 
@@ -208,6 +209,57 @@ def sizes(desk, kind):
     desk.has_kept(path, image.bytes)
 
 
+def lists(desk, kind):
+    """Files in the order of their extents 0, whatever stands before them; each once, with extent 0's attributes."""
+    last = kind.entries - 1
+    image = Image(kind)
+    image.put(1, entry(7, "FALLING", 64, 9)).put(2, entry(7, "FALLING", 31, 128)).put(3, entry(7, "FALLING", 0, 127))
+    image.put(last - 1, entry(0, "LAST", 2047, 128)).put(last, entry(0, "LAST", 0, 0)).put(7, entry(0, "NIL.X", 0, 0))
+    image.put(8, entry(15, "A B.C D", 0, 3)).put(10, entry(3, "ZERO.TXT", 0, 0)).put(11, entry(0, "ZERO.TXT", 0, 5))
+    for at, byte in ((0, 9), (7, 10), (7, 2), (last, 11), (last - 1, 1), (1, 9), (10, 8)):
+        image.poke(at, byte, image.bytes[ENTRY * at + byte] + 128)
+    path = desk.keep(image.bytes)
+
+    def line(file, user, records, *attributes):
+        told = [f"{path}: {file} of user {user}: {records} records", f"{128 * records} bytes", *attributes]
+        return ", ".join(told)
+
+    of_users = {
+        0: [
+            line("ORDERS", 0, 1, "read-only"),
+            line("NIL.X", 0, 0, "f2", "system"),
+            line("ZERO.TXT", 0, 5),
+            line("LAST", 0, 262144, "archive"),
+        ],
+        3: [line("BUDGET.DAT", 3, 128 * 33 + 7), line("ZERO.TXT", 3, 0, "f8")],
+        7: [line("FALLING", 7, 128 * 64 + 9)],
+        15: [line("A B.C D", 15, 3)],
+    }
+    desk.says(["list", path], [one for lines in of_users.values() for one in lines], DONE)
+    for user in range(16):
+        desk.says(["list", path, str(user)], of_users.get(user, [f"{path}: no files"]), DONE)
+    desk.says(["list", path, "03"], of_users[3], DONE)
+    for word in ("16", "x", "", "3:", "-1", "003"):
+        desk.says(["list", path, word], [f"{word}: A user is a number from 0 to 15."], FAILED)
+    empty = desk.keep(bytes([0xE5]) * kind.length())
+    desk.says(["list", empty], [f"{empty}: no files"], DONE)
+    full = Image(kind)
+    names = [f"F{at:03}.DAT" for at in range(kind.entries)]
+    for at, name in enumerate(names):
+        full.put(at, entry(at % 2, name, 0, at))
+    full_path = desk.keep(full.bytes)
+    desk.says(
+        ["list", full_path, "1"],
+        [f"{full_path}: {names[at]} of user 1: {at} records, {128 * at} bytes" for at in range(1, kind.entries, 2)],
+        DONE,
+    )
+    bad = desk.keep(Image(kind).poke(9, 15, 129).bytes)
+    why = f"{bad}: entry 9, BUDGET.DAT of user 3: its record count is 129, over 128"
+    desk.says(["list", bad], [why], NOT_SO)
+    desk.says(["list", bad, "0"], [why], NOT_SO)
+    desk.has_kept(path, image.bytes)
+
+
 class Mended:
     """A damaged image, what it has to become, and the lines that have to be said of its entries."""
 
@@ -392,9 +444,9 @@ def packs(desk, kind):
 
 
 def changes(kind, image):
-    """Bytes to be put into the packed book of scattered(), at which place, and what has to be said, with OLD and NEW for
-    the paths; the pair turned round too, if that is something else. A.DAT of user 3 is in entry 2 there; FIRST has the
-    blocks 2 and 3, B.DAT 6 and, in extent 40, 4 and 5."""
+    """Bytes to be put into the packed book of scattered(), at which place, and what has to be said, with OLD and NEW
+    for the paths; the pair turned round too, if that is something else. A.DAT of user 3 is in entry 2 there; FIRST has
+    the blocks 2 and 3, B.DAT 6 and, in extent 40, 4 and 5."""
     in_block = kind.block // 128
     first, later, bare = "FIRST of user 0", "B.DAT of user 3", "A.DAT of user 3"
 
@@ -453,12 +505,19 @@ def cannot_be_compared(desk, kind, good):
         desk.says(["compare", *words], [line], FAILED)
 
 
-VERBS = ("check IMAGE..", "size IMAGE [USER:]NAME..", "salvage IMAGE -o NEW", "pack IMAGE -o NEW", "compare OLD NEW")
+VERBS = (
+    "check IMAGE..",
+    "size IMAGE [USER:]NAME..",
+    "list IMAGE [USER]",
+    "salvage IMAGE -o NEW",
+    "pack IMAGE -o NEW",
+    "compare OLD NEW",
+)
 
 
 def wrong_use(desk):
     use = "".join(f"use: book {verb}\n" for verb in VERBS)
-    bad = [[], ["check"], ["chekc", "x"], ["-h"], ["size"], ["size", "x"]]
+    bad = [[], ["check"], ["chekc", "x"], ["-h"], ["size"], ["size", "x"], ["list"], ["list", "x", "0", "1"]]
     for verb in ("salvage", "pack"):
         bad += [[verb], [verb, "x"], [verb, "x", "-o"], [verb, "x", "y", "z"], [verb, "x", "-o", "y", "z"]]
     bad += [["compare"], ["compare", "x"], ["compare", "x", "y", "z"]]
@@ -466,6 +525,7 @@ def wrong_use(desk):
         desk.says(words, [], FAILED, use)
     none = os.path.join(desk.folder, "none")
     desk.says(["size", none, "LAST"], [f"{none}: cannot be read"], FAILED)
+    desk.says(["list", none], [f"{none}: cannot be read"], FAILED)
 
 
 def main():
@@ -473,6 +533,7 @@ def main():
     check(desk)
     for kind in (SMALL, LARGE):
         sizes(desk, kind)
+        lists(desk, kind)
         salvages(desk, kind)
         packs(desk, kind)
         compares(desk, kind)

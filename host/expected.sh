@@ -145,10 +145,15 @@ step  who      call  what                                           A/H     name
   35  office     35  asks for its size                              0/0     MPM_OK, $((pair + 4)) records
   36  office     22  makes WORK.\$\$\$, locked, for the import         0/0     MPM_OK
   37  office     40  writes lines 0 to 9 of it                      0/0     MPM_OK, 10 lines done
-  38  clerk 2    19  deletes it: the office has it open             255/5   MPM_ERR_IN_USE
-  39  office     19  deletes it, open as it is                      0/0     MPM_OK
-  40  office     46  asks for the free space                        0/0     MPM_OK, $((free - 2 * records)) records free
-  41  host        -  writes ORDERS.BOOK, reads it again; checks it  0       MPM_CHECK_SOUND
+  38  clerk 2    17  lists the directory                            0/0     MPM_FOUND, ORDERS.DAT
+  39  clerk 2    18  lists on                                       1/0     MPM_FOUND, WORK.\$\$\$
+  40  clerk 2    19  deletes it: the office has it open             255/5   MPM_ERR_IN_USE
+  41  clerk 2    17  lists the directory again                      0/0     MPM_FOUND, ORDERS.DAT
+  42  office     19  deletes it, open as it is                      0/0     MPM_OK
+  43  clerk 2    18  lists on: the work file is gone                255/0   MPM_NO_MATCH
+  44  clerk 3    18  lists on, and has not begun                    255/0   MPM_NO_MATCH
+  45  office     46  asks for the free space                        0/0     MPM_OK, $((free - 2 * records)) records free
+  46  host        -  writes ORDERS.BOOK, reads it again; checks it  0       MPM_CHECK_SOUND
 
 The lock list at night
   0 of 12 places taken
@@ -157,5 +162,5 @@ What Look shows of ORDERS.DAT
   line  begins at  text
 $(shown_lines)
 
-All 41 steps went as expected.
+All 46 steps went as expected.
 TEXT

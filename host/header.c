@@ -1,14 +1,15 @@
 /* mpm.h by itself, as C and as C++: it can be included first and twice, its functions have the types that a host relies
    on, its sizes fit together for each kind of drive, no length of an image is one of both kinds, no two kinds,
    functions or answers have the same number but Make's 255/0, no two codes of the image check have and no two answers
-   of salvage or of comparing, what salvage's report says is no number of block numbers, and the answers leave the high four bits of H free.
+   of salvage or of comparing, what salvage's report says is no number of block numbers, and the answers leave the high
+   four bits of H free.
    Compiled, never run; what the helpers do is tried by helpers.c. */
 
 #include "mpm.h"
 #include "mpm.h"
 
-#if MPM_VERSION != 5
-#error "the checks below are those of version 5"
+#if MPM_VERSION != 6
+#error "the checks below are those of version 6"
 #endif
 
 typedef uint32_t call_type(uint32_t, uint32_t, uint32_t, uint32_t, uint8_t *, size_t, uint8_t *, size_t, uint8_t *,
@@ -44,14 +45,19 @@ book_call_type *const header_book_call = mpm_book_call;
 #define HOLDS(name, condition) typedef char name[(condition) ? 1 : -1]
 
 HOLDS(byte_is_one, sizeof(uint8_t) == 1 && sizeof(uint32_t) == 4 && sizeof(size_t) == sizeof(void *));
-HOLDS(list_is_whole, MPM_LIST_PLACES + MPM_PLACES * MPM_PLACE_LEN == MPM_LIST_LEN);
+HOLDS(places_fit, MPM_LIST_PLACES + MPM_PLACES * MPM_PLACE_LEN == MPM_LIST_POSITIONS);
+HOLDS(list_is_whole, MPM_LIST_POSITIONS + MPM_PROCESSES == MPM_LIST_LEN && MPM_LIST_LEN == 1315u);
 HOLDS(users_fit, MPM_LIST_USERS + MPM_USERS_LEN == MPM_LIST_PLACES && MPM_USERS_LEN == MPM_PROCESSES);
 HOLDS(place_is_whole, MPM_PLACE_NAME + MPM_NAME_LEN == MPM_PLACE_MODE && MPM_PLACE_RECORD + 4u == MPM_PLACE_LEN);
 HOLDS(fcb_is_whole, MPM_FCB_RECORD + 3u == MPM_FCB_LEN && MPM_FCB_NEW_NAME + MPM_NAME_LEN <= MPM_FCB_RECORD);
+HOLDS(fcb_has_the_extents, MPM_FCB_NAME + MPM_NAME_LEN == MPM_FCB_EXTENTS);
 HOLDS(fcb_has_the_map, MPM_FCB_COUNT + 1u == MPM_FCB_MAP && MPM_FCB_MAP + MPM_MAP_LEN == MPM_ENTRY_LEN);
 HOLDS(dma_is_whole, MPM_DMA_AT(0u) == MPM_DMA_RECORD && MPM_DMA_AT(MPM_MAX_COUNT) == MPM_DMA_LEN);
 HOLDS(new_record_fits, MPM_DMA_NEW == MPM_DMA_RECORD + MPM_RECORD_LEN && MPM_DMA_NEW + MPM_RECORD_LEN <= MPM_DMA_LEN);
 HOLDS(answer_is_a_and_256_h, MPM_ERR_BAD_CALL == 3583u && MPM_ERR_LOCK_LIST_FULL == 14u && MPM_OK == 0u);
+HOLDS(record_has_entries, MPM_RECORD_ENTRIES * MPM_ENTRY_LEN == MPM_RECORD_LEN);
+HOLDS(finds_are_places, MPM_FOUND(0u) == 0u && MPM_FOUND(MPM_RECORD_ENTRIES - 1u) == 3u && MPM_NO_MATCH == 255u);
+HOLDS(entry_is_whole, MPM_ENTRY_NAME + MPM_NAME_LEN == MPM_ENTRY_EX && MPM_ENTRY_MAP + MPM_MAP_LEN == MPM_ENTRY_LEN);
 HOLDS(make_shares_a_number, MPM_ERR_NO_EMPTY_ENTRY == MPM_ERR_NOT_FOUND);
 HOLDS(highest_answer_leaves_four_bits, MPM_ERR_BAD_CALL < MPM_ANSWER(0u, 16u) && MPM_MAX_COUNT - 1u <= 15u);
 
@@ -79,6 +85,7 @@ HOLDS(report_has_room, MPM_SALVAGE_UNTOUCHED == 0u && MPM_SMALL_NUMBERS < MPM_SA
 uint32_t header_kind(uint32_t kind, size_t image_len);
 uint32_t header_function(uint32_t number);
 uint32_t header_answer(uint32_t answer);
+uint32_t header_searched(uint32_t answer);
 uint32_t header_records(uint32_t answer);
 uint32_t header_capacity(uint32_t processes);
 uint32_t header_checked(uint32_t check);
@@ -95,9 +102,10 @@ uint32_t header_kind(uint32_t kind, size_t image_len) {
 
 uint32_t header_function(uint32_t number) {
     switch (number) {
-    case MPM_FN_OPEN: case MPM_FN_CLOSE: case MPM_FN_DELETE: case MPM_FN_MAKE: case MPM_FN_RENAME: case MPM_FN_READ:
-    case MPM_FN_WRITE: case MPM_FN_SIZE: case MPM_FN_WRITE_ZEROS: case MPM_FN_TEST_WRITE: case MPM_FN_LOCK:
-    case MPM_FN_UNLOCK: case MPM_FN_FREE_SPACE: case MPM_FN_TERMINATE: return 1u;
+    case MPM_FN_OPEN: case MPM_FN_CLOSE: case MPM_FN_SEARCH_FIRST: case MPM_FN_SEARCH_NEXT: case MPM_FN_DELETE:
+    case MPM_FN_MAKE: case MPM_FN_RENAME: case MPM_FN_READ: case MPM_FN_WRITE: case MPM_FN_SIZE:
+    case MPM_FN_WRITE_ZEROS: case MPM_FN_TEST_WRITE: case MPM_FN_LOCK: case MPM_FN_UNLOCK: case MPM_FN_FREE_SPACE:
+    case MPM_FN_TERMINATE: return 1u;
     default: return 0u;
     }
 }
@@ -113,6 +121,10 @@ uint32_t header_answer(uint32_t answer) {
         return mpm_a(answer) + mpm_h(answer);
     default: return 0u;
     }
+}
+
+uint32_t header_searched(uint32_t answer) {
+    return mpm_refused(MPM_FN_SEARCH_NEXT, answer) || !mpm_found(answer) ? 0u : answer + 1u;
 }
 
 uint32_t header_records(uint32_t answer) { return mpm_done(answer, MPM_MAX_COUNT) + mpm_code(answer); }

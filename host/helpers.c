@@ -66,6 +66,40 @@ static void try_fcb(void) {
     want(memcmp(fcb, locked, sizeof fcb) == 0, "an FCB for locked mode");
 }
 
+struct pattern {
+    const char *text, *name;
+    uint32_t naming;
+};
+
+static void try_searches(void) {
+    static const struct pattern all[] = {
+        {"*.*", "???????????", MPM_NAMING_OK},       {"*", "????????   ", MPM_NAMING_OK},
+        {"*.dat", "????????DAT", MPM_NAMING_OK},     {"ORD?RS.*", "ORD?RS  ???", MPM_NAMING_OK},
+        {"or*.d?", "OR??????D? ", MPM_NAMING_OK},    {"EIGHTLET*.TYP*", "EIGHTLETTYP", MPM_NAMING_OK},
+        {"?", "?          ", MPM_NAMING_OK},         {"A.", "A          ", MPM_NAMING_OK},
+        {"????????.???", "???????????", MPM_NAMING_OK}, {"*.A*", "????????A??", MPM_NAMING_OK},
+        {"", 0, MPM_NAMING_NO_NAME},                 {".DAT", 0, MPM_NAMING_NO_NAME},
+        {"NINELETTE", 0, MPM_NAMING_LONG_NAME},      {"?????????.X", 0, MPM_NAMING_LONG_NAME},
+        {"A.????", 0, MPM_NAMING_LONG_TYPE},         {"A*B", 0, MPM_NAMING_CHARACTER},
+        {"**", 0, MPM_NAMING_CHARACTER},             {"A.*B", 0, MPM_NAMING_CHARACTER},
+        {"A.B.C", 0, MPM_NAMING_CHARACTER},          {"A B", 0, MPM_NAMING_CHARACTER},
+        {":A", 0, MPM_NAMING_CHARACTER},             {"A/B.C", 0, MPM_NAMING_CHARACTER},
+    };
+    uint8_t fcb[MPM_FCB_LEN], kept[MPM_FCB_LEN];
+    for (size_t i = 0; i < COUNT(all); i++) {
+        memset(fcb, 0xA5, sizeof fcb);
+        memset(kept, 0xA5, sizeof kept);
+        want(mpm_set_search(fcb, all[i].text, 1) == all[i].naming, all[i].text);
+        if (all[i].naming == MPM_NAMING_OK) {
+            memset(kept, 0, sizeof kept);
+            memcpy(kept + 1, all[i].name, 11);
+            kept[12] = '?';
+        }
+        want(memcmp(fcb, kept, sizeof fcb) == 0, all[i].text);
+    }
+    want(mpm_set_search(fcb, "*.*", 0) == MPM_NAMING_OK && fcb[12] == 0, "extent 0 only");
+}
+
 /* ---- Numbers ---- */
 
 static void try_numbers(void) {
@@ -111,6 +145,30 @@ static void try_answers(void) {
     want(strcmp(mpm_answer_name(MPM_FN_MAKE, 255), "MPM_ERR_NO_EMPTY_ENTRY") == 0, "255/0 of Make");
     want(strcmp(mpm_answer_text(MPM_FN_MAKE, 255), mpm_answer_text(MPM_FN_OPEN, 255)) != 0, "255/0 has one sentence");
     want(strcmp(mpm_answer_name(MPM_FN_MAKE, 0), "MPM_OK") == 0, "0/0 of Make");
+}
+
+/* What was refused is told by the function and the answer. */
+static void try_refusals(void) {
+    static const uint32_t searches[] = {MPM_FN_SEARCH_FIRST, MPM_FN_SEARCH_NEXT};
+    static const uint32_t general[] = {MPM_ERR_BAD_CALL, MPM_ERR_BAD_IMAGE, MPM_ERR_BAD_LIST, MPM_ERR_BAD_DRIVE};
+    for (size_t i = 0; i < COUNT(searches); i++) {
+        for (uint32_t place = 0; place < 4; place++) {
+            want(mpm_found(place) && !mpm_refused(searches[i], place), "a find is none");
+            want(strcmp(mpm_answer_name(searches[i], place), "MPM_FOUND") == 0, "a find has another name");
+        }
+        want(!mpm_found(4) && mpm_refused(searches[i], 4), "4/0 is no answer of a search");
+        want(!mpm_found(255) && !mpm_refused(searches[i], 255), "no match is a refusal");
+        want(strcmp(mpm_answer_name(searches[i], 255), "MPM_NO_MATCH") == 0, "no match has another name");
+        want(strcmp(mpm_answer_text(searches[i], 255), mpm_answer_text(MPM_FN_OPEN, 255)) != 0, "255/0 of a search");
+        want(strcmp(mpm_answer_text(searches[i], 1), mpm_answer_text(MPM_FN_READ, 1)) != 0, "1/0 of a search");
+        for (size_t k = 0; k < COUNT(general); k++) {
+            want(mpm_refused(searches[i], general[k]) && mpm_refused(MPM_FN_READ, general[k]), "a general refusal");
+            want(strcmp(mpm_answer_name(searches[i], general[k]), mpm_answer_name(MPM_FN_OPEN, general[k])) == 0,
+                 "a general refusal has one name");
+        }
+    }
+    want(mpm_refused(MPM_FN_READ, 1) && mpm_refused(MPM_FN_OPEN, 255), "refusals of others");
+    want(!mpm_refused(MPM_FN_READ, 1 + 256 * 16) && !mpm_refused(MPM_FN_READ, 0), "records were done");
 }
 
 /* ---- The image check ---- */
@@ -183,6 +241,15 @@ static void try_book(void) {
     mpm_set_record(fcb, 7);
     mpm_set_file_id(dma, file_id);
     want(mpm_book_call(&book, MPM_FN_LOCK, 3, 1, fcb, dma) == MPM_OK, "it is locked");
+    mpm_set_search(fcb, "ORD*.*", 1);
+    uint32_t found = mpm_search_first(&book, 5, fcb, dma);
+    want(found == MPM_FOUND(0u) && mpm_entry(dma, found) == dma && memcmp(dma, image, 128) == 0, "it is found");
+    want(mpm_extent(mpm_entry(dma, found)) == 0 && mpm_entry(dma, 3) == dma + 96, "extent 0 of the file");
+    want(list[MPM_LIST_POSITIONS + 5] == 1 && list[MPM_LIST_POSITIONS + 3] == 64, "the search is process 5's");
+    want(mpm_search_next(&book, 3, fcb, dma) == MPM_NO_MATCH, "process 3 searches nothing");
+    want(mpm_search_next(&book, 5, fcb, dma) == MPM_NO_MATCH && list[MPM_LIST_POSITIONS + 5] == 64, "there is no more");
+    mpm_set_fcb(fcb, "ORDERS.DAT", MPM_MODE_UNLOCKED);
+    mpm_set_record(fcb, 7);
     mpm_set_file_id(dma, file_id + 1);
     want(mpm_book_call(&book, MPM_FN_LOCK, 3, 1, fcb, dma) == MPM_ERR_BAD_FILE_ID, "another File ID is taken");
     book.list_len--;
@@ -195,14 +262,14 @@ static void try_book(void) {
     want(mpm_salvage(MPM_KINDS, image, sizeof image, report, mpm_entries(book.kind)) == MPM_SALVAGE_WRONG_LENGTH,
          "an unknown kind is mended");
     want(image[MPM_ENTRY_LEN] == 16, "a refused salvage has changed the image");
-    want(mpm_salvage(book.kind, image, sizeof image, report, mpm_entries(book.kind)) == MPM_SALVAGE_DONE, "it is mended");
+    want(mpm_salvage(book.kind, image, sizeof image, report, sizeof report) == MPM_SALVAGE_DONE, "it is mended");
     want(report[0] == MPM_SALVAGE_UNTOUCHED && report[1] == MPM_SALVAGE_EMPTIED, "entry 1 was emptied");
     want(mpm_check(book.kind, image, sizeof image) == MPM_CHECK_SOUND, "a mended image is sound");
     book.list_len++;
     want(mpm_pack(book.kind, image, sizeof image, list, sizeof list, packed, sizeof packed) == MPM_ERR_IN_USE,
          "a book is packed while a file is open");
     want(mpm_book_call(&book, MPM_FN_TERMINATE, 3, 1, fcb, dma) == MPM_OK, "the process is ended");
-    want(mpm_pack(book.kind, image, sizeof image, list, sizeof list, packed, 1024) == MPM_ERR_BAD_CALL, "another length");
+    want(mpm_pack(book.kind, image, sizeof image, list, sizeof list, packed, 9) == MPM_ERR_BAD_CALL, "another length");
     want(mpm_pack(book.kind, image, sizeof image, list, sizeof list, packed, sizeof packed) == MPM_OK, "it is packed");
     want(mpm_look(book.kind, 0, fcb + 1, 11, 7, packed, sizeof packed) == 2 * 1024 + 7 * 128, "Look shows the record");
     want(mpm_same(book.kind, image, sizeof image, packed, sizeof packed) == MPM_SAME_BOOK, "it is the same book");
@@ -282,7 +349,9 @@ int main(void) {
     try_fcb();
     try_numbers();
     try_kinds();
+    try_searches();
     try_answers();
+    try_refusals();
     try_checks();
     try_salvages();
     try_comparings();

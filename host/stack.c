@@ -42,7 +42,7 @@ static int measure(const char *name, void (*job)(void)) {
     size_t taken = stack_of(job);
     printf("%-6s  %6lu  %s\n", book.kind == MPM_KIND_SMALL ? "small" : "large", (unsigned long)taken, name);
     if (taken > highest) highest = taken;
-    if (answer != 0) printf("WRONG: it is refused\n");
+    if (answer != 0) printf("WRONG: it is refused\n"); /* the one entry that is found has place 0 */
     return answer == 0;
 }
 
@@ -56,6 +56,13 @@ static void for_file(uint32_t record, uint32_t file_id) {
     mpm_set_record(fcb, record);
     memset(dma, 0, sizeof dma);
     mpm_set_file_id(dma, file_id);
+}
+
+/* A Next that finds the file's entry, and one that looks through the whole directory in vain. */
+static int measure_next(void) {
+    book.list[MPM_LIST_POSITIONS + 3] = 0;
+    if (!measure_call("18 Search Next", MPM_FN_SEARCH_NEXT, 3, 1, call)) return 0;
+    return mpm_book_call(&book, MPM_FN_SEARCH_NEXT, 3, 1, fcb, dma) == MPM_NO_MATCH;
 }
 
 /* The names of process 1's file: made, written, locked, read, and given up in each way. */
@@ -81,8 +88,10 @@ static int measure_kind(uint32_t kind, size_t image_len) {
            measure_call("42 Lock, 16", MPM_FN_LOCK, 1, 16, call) &&
            measure_call("46 Free Space", MPM_FN_FREE_SPACE, 2, 1, call) &&
            measure_call("35 File Size", MPM_FN_SIZE, 3, 1, call) &&
+           measure_call("17 Search First", MPM_FN_SEARCH_FIRST, 3, 1, call) &&
            measure_call("16 Close", MPM_FN_CLOSE, 2, 1, call) &&
            measure_call("143 Terminate", MPM_FN_TERMINATE, 1, 1, call);
+    good = good && measure_next();
     return good && mpm_set_name(fcb + MPM_FCB_NEW_NAME, "OLD.DAT") == MPM_NAMING_OK &&
            measure_call("23 Rename", MPM_FN_RENAME, 1, 1, call) &&
            mpm_set_fcb(fcb, "OLD.DAT", MPM_MODE_LOCKED) == MPM_NAMING_OK &&

@@ -1,7 +1,7 @@
 /* The story of an order book. Clerks share the file ORDERS.DAT on one drive. One of them locks a long run of order
    lines and dies. Another is held up until the host takes back what the dead one held. A third reads a screen of
    sixteen lines in one call, and writes several in one call until it meets a line that is locked. At night the import
-   makes a work file and deletes it while it has it open.
+   makes a work file and deletes it while it has it open, and a clerk lists the directory before and after.
 
    story FOLDER [small|large]: makes FOLDER/ORDERS.BOOK (save.h) with a drive of that kind (small), plays the story on
    it and prints every step with its answer. The steps are the same on both, but for the numbers of lines that lie in a
@@ -174,9 +174,17 @@ static uint32_t done_of(const struct step *step, uint32_t answer) {
     return done <= count_of(step) ? done : 0;
 }
 
-static void fill_fcb(uint32_t line) {
-    mpm_set_fcb(now.fcb, used_file, used_mode);
-    mpm_set_record(now.fcb, line);
+static int searches(uint32_t function) {
+    return function == MPM_FN_SEARCH_FIRST || function == MPM_FN_SEARCH_NEXT;
+}
+
+/* A search is for all files. */
+static void fill_fcb(const struct step *step) {
+    if (searches(step->function))
+        mpm_set_search(now.fcb, "*.*", 0);
+    else
+        mpm_set_fcb(now.fcb, used_file, used_mode);
+    mpm_set_record(now.fcb, step->first);
 }
 
 static void fill_dma(const struct step *step) {
@@ -244,9 +252,17 @@ static void check_trace(const struct step *step, uint32_t done) {
     if (!written && memcmp(before.room, now.room, sizeof now.room) != 0) fault("the image has changed");
 }
 
+/* A search must leave all as it was but the caller's position and, where it has found, one record in the DMA. */
+static void check_search(const struct step *step, uint32_t answer) {
+    size_t read = mpm_found(answer) ? MPM_RECORD_LEN : 0;
+    before.list[MPM_LIST_POSITIONS + step->process] = now.list[MPM_LIST_POSITIONS + step->process];
+    memcpy(before.dma, now.dma, read);
+    if (memcmp(&before, &now, sizeof now) != 0) fault("a search has changed more than is its own");
+}
+
 /* One call of the engine for all lines of the step. The plain engine must do the same on buffers of its own. */
 static uint32_t call(const struct step *step) {
-    fill_fcb(step->first);
+    fill_fcb(step);
     fill_dma(step);
     before = now;
     singly = now;
@@ -255,7 +271,8 @@ static uint32_t call(const struct step *step) {
     uint32_t done = done_of(step, answer);
     if (lend(mpm_singly, kind, step, &singly) != mpm_code(answer) || memcmp(&singly, &now, sizeof now) != 0)
         fault("single calls do otherwise");
-    if (answer != MPM_OK || goes_by_lines(step->function)) check_trace(step, done);
+    if (mpm_refused(step->function, answer) || goes_by_lines(step->function)) check_trace(step, done);
+    if (searches(step->function)) check_search(step, answer);
     for (uint32_t i = 0; i < done && is_write(step->function) && used_file == ORDERS; i++) {
         compose(lines[step->first + i], step->first + i, step->process);
         give_block(step->first + i);
@@ -285,6 +302,28 @@ static void show_size(void) {
     expect_figure(mpm_size(now.fcb), size);
 }
 
+/* The name as people write it. */
+static void spell(const uint8_t *name, char text[MPM_NAME_LEN + 2]) {
+    size_t length = 0;
+    for (size_t i = 0; i < MPM_NAME_LEN; i++) {
+        if (i == 8) text[length++] = '.';
+        if (name[i] != ' ') text[length++] = (char)name[i];
+    }
+    text[length] = 0;
+}
+
+/* The file that a search has found: ORDERS.DAT in entry 0, the work file in entry 1. */
+static void show_found(uint32_t answer) {
+    char text[MPM_NAME_LEN + 2];
+    if (!mpm_found(answer)) {
+        printf("\n");
+        return;
+    }
+    spell(mpm_entry(now.dma, answer) + MPM_ENTRY_NAME, text);
+    printf(", %s\n", text);
+    if (strcmp(text, answer == MPM_FOUND(0u) ? ORDERS : WORK) != 0) fault("this is another file");
+}
+
 /* How many lines a call of several has done. A line read must be the line written. */
 static void show_lines(const struct step *step, uint32_t answer) {
     uint32_t done = done_of(step, answer);
@@ -297,7 +336,7 @@ static void show_lines(const struct step *step, uint32_t answer) {
     }
 }
 
-static void show_effect(const struct step *step) {
+static void show_effect(const struct step *step, uint32_t answer) {
     switch (step->function) {
     case MPM_FN_OPEN:
     case MPM_FN_MAKE:
@@ -308,6 +347,8 @@ static void show_effect(const struct step *step) {
         break;
     case MPM_FN_FREE_SPACE: show_free_records(); break;
     case MPM_FN_SIZE: show_size(); break;
+    case MPM_FN_SEARCH_FIRST:
+    case MPM_FN_SEARCH_NEXT: show_found(answer); break;
     default: printf("\n");
     }
 }
@@ -317,8 +358,8 @@ static void play(const struct step *step) {
     print_answer_row(who(step), step->function, step->words, answer);
     if (goes_by_lines(step->function))
         show_lines(step, answer);
-    else if (answer == MPM_OK)
-        show_effect(step);
+    else if (!mpm_refused(step->function, answer))
+        show_effect(step, answer);
     else
         printf("\n");
     expect_answer(step->function, answer, step->answer);
@@ -332,12 +373,7 @@ static void play_all(const struct step *all, size_t count) {
 
 static void print_file_name(const uint8_t *name) {
     char text[MPM_NAME_LEN + 2];
-    size_t length = 0;
-    for (size_t i = 0; i < MPM_NAME_LEN; i++) {
-        if (i == 8) text[length++] = '.';
-        if (name[i] != ' ') text[length++] = (char)name[i];
-    }
-    text[length] = 0;
+    spell(name, text);
     printf("%-12s", text);
 }
 
@@ -535,8 +571,13 @@ static void night(void) {
     static const struct step all[] = {
         {OFFICE, MPM_FN_MAKE, "makes WORK.$$$, locked, for the import", 0, 0, MPM_OK, 0},
         {OFFICE, MPM_FN_WRITE_ZEROS, "writes lines 0 to 9 of it", 0, 9, MPM_OK, 0},
+        {CLERK_2, MPM_FN_SEARCH_FIRST, "lists the directory", 0, 0, MPM_FOUND(0u), 0},
+        {CLERK_2, MPM_FN_SEARCH_NEXT, "lists on", 0, 0, MPM_FOUND(1u), 0},
         {CLERK_2, MPM_FN_DELETE, "deletes it: the office has it open", 0, 0, MPM_ERR_IN_USE, 0},
+        {CLERK_2, MPM_FN_SEARCH_FIRST, "lists the directory again", 0, 0, MPM_FOUND(0u), 0},
         {OFFICE, MPM_FN_DELETE, "deletes it, open as it is", 0, 0, MPM_OK, 0},
+        {CLERK_2, MPM_FN_SEARCH_NEXT, "lists on: the work file is gone", 0, 0, MPM_NO_MATCH, 0},
+        {CLERK_3, MPM_FN_SEARCH_NEXT, "lists on, and has not begun", 0, 0, MPM_NO_MATCH, 0},
         {OFFICE, MPM_FN_FREE_SPACE, "asks for the free space", 0, 0, MPM_OK, 0},
     };
     use_file(WORK, MPM_MODE_LOCKED);

@@ -3,10 +3,9 @@
 # With the kit: mpm.h as C and as C++, its helpers; a host outside the repository, made with what install.sh installs;
 # the story on each kind of drive against expected.sh, and the story over bad engines, which it must not take for good
 # ones (the plain engine of a bad one is as bad, so that the two do not give each other away); the desk's program on
-# images damaged in each way, and over bad image checks, salvages, packers and comparisons; saving on a disk that fails and a
-# machine that stops; the
-# minimal host on a full disk, in a read-only folder and killed 50 times. Beside the kit it wants pkg-config, python3
-# and, on x86-64, a C compiler.
+# images damaged in each way, its sizes and lists of files, and over bad image checks, searches, salvages, packers and
+# comparisons; saving on a disk that fails and a machine that stops; the minimal host on a full disk, in a read-only
+# folder and killed 50 times. Beside the kit it wants pkg-config, python3 and, on x86-64, a C compiler.
 # With ARCHIVE, an engine for this machine's own processor (of machine/native.sh, or the reference of
 # tests/pipe/exports): the header, the helpers, the story, the desk's program and saving with the system's compilers
 # (CC, CXX), under the sanitizers of addresses and undefined behaviour.
@@ -146,7 +145,8 @@ makes_a_host_outside() {
             cc_for_x86_64 && cd "$away" && export PKG_CONFIG_PATH=$away/prefix/lib/pkgconfig &&
                 cc -std=c99 minimal.c save.c $(pkg-config --cflags --libs mpm) -o minimal &&
                 head -c 65536 /dev/zero | tr '\0' '\345' >IMAGE &&
-                "${through[@]}" ./minimal new BOOK IMAGE && "${through[@]}" ./minimal image BOOK COPY && cmp IMAGE COPY &&
+                "${through[@]}" ./minimal new BOOK IMAGE &&
+                "${through[@]}" ./minimal image BOOK COPY && cmp IMAGE COPY &&
                 python3 "$here/kill.py" --times 1 --seed 3 served "${through[@]}" "$away/minimal"
         ) && rm -r "$away"
 }
@@ -215,6 +215,9 @@ with_the_kit() {
     try "a plain engine that answers otherwise is seen" sees_a_fault OTHER_SINGLY small
     try "a Delete that leaves the caller's open is seen" sees_a_fault KEEPS_OWN_OPEN small
     try "a Delete that refuses the caller's open is seen" sees_a_fault REFUSES_OWN_OPEN large
+    try "a search that finds the same for ever is seen" sees_a_fault NEXT_THE_SAME small
+    try "a search that gives another directory record is seen" sees_a_fault NEXT_RECORD large
+    try "a search that sets another process's position is seen" sees_a_fault ANOTHERS_POSITION small
     try "a run that clears what it wrote is seen on a large drive" sees_a_fault CLEARS_AGAIN large
     try "numbers of two bytes read as twice as many of one are seen" sees_a_fault SIXTEEN_NUMBERS large
     try "a large drive's free space with eight to a block is seen" sees_a_fault FREE_BY_EIGHT large
@@ -231,6 +234,11 @@ with_the_kit() {
     try "a size without the module is seen" sees_a_bad_answer SIZE_BY_EX
     try "a size by the count of extent 0 is seen" sees_a_bad_answer SIZE_BY_COUNT_0
     try "a size in two bytes is seen" sees_a_bad_answer SIZE_IN_TWO_BYTES
+    try "a list of one file for ever is seen" sees_a_bad_answer NEXT_THE_SAME
+    try "a list of every user's files is seen" sees_a_bad_answer OTHER_USERS
+    try "a list without marks in the first byte is seen" sees_a_bad_answer NO_FIRST_MARK
+    try "a list by another directory record is seen" sees_a_bad_answer NEXT_RECORD
+    try "a list by ex alone is seen" sees_a_bad_answer EX_ALONE
     try "a salvage that does nothing is seen" sees_a_bad_desk DOES_NOTHING
     try "a salvage whose report is one entry off is seen" sees_a_bad_desk REPORT_ONE_OFF
     try "a salvage that changes byte 1 too is seen" sees_a_bad_desk BYTE_1_TOO

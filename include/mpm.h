@@ -1,7 +1,7 @@
 /* The engine's C interface: the files of MP/M II programs, on one drive that sixteen processes share.
 
-   The engine is eight functions on numbers and lent bytes. It keeps nothing between two calls: the drive is the bytes of
-   the image, who has opened and locked what is the bytes of the list, and both are the host's.
+   The engine is eight functions on numbers and lent bytes. It keeps nothing between two calls: the drive is the bytes
+   of the image, who has opened and locked what is the bytes of the list, and both are the host's.
 
    A drive is of one of two kinds, small or large. Nothing in the image says which: every function is told, and an image
    of one kind is never read as the other, since no length is one of both.
@@ -11,13 +11,14 @@
    - A call is accepted exactly when no refusal applies, and then has exactly its effect; otherwise the answer is the
      first refusal that applies.
    - A refusal leaves every buffer unchanged. Where a 33, 34 or 40 of several records stopped at a record, that one and
-     those after it leave no trace; those before it are done, and the answer tells how many.
+     those after it leave no trace; those before it are done, and the answer tells how many. A 17 or 18 that finds no
+     entry is no refusal: it sets the caller's position in the list, and nothing else.
 
    What the host owes, and nothing else:
    - Each pointer is valid for the length given with it. With a length of 0 it may be any pointer.
    - The buffers of one call do not overlap, and nobody else uses them until it returns.
 
-   Below stand the eight functions and a book in one struct, then by name the fourteen calls, the answers, the sizes and
+   Below stand the eight functions and a book in one struct, then by name the sixteen calls, the answers, the sizes and
    the places in the buffers, and last the few helpers that every host writes. docs/INTEGRATION.md tells the rest. */
 #ifndef MPM_H
 #define MPM_H
@@ -32,15 +33,17 @@ extern "C" {
 /* Raised with each change of a length, of a function's parameters or of a name. 1 was before this name was; since 2 the
    DMA has 2,048 bytes; since 3 the first parameter of every function is the kind of drive; since 4 functions have names
    that begin with MPM_FN_, refusals with MPM_ERR_ and the image check's answers with MPM_CHECK_; since 5 the image
-   check tells the lowest bad entry and why. With 4 and 5 no length and no parameter moved: an archive of 3 serves a
-   host of 4, and to one of 5 it tells 2 of entry 0 for every directory that is not sound. */
-#define MPM_VERSION 5u
+   check tells the lowest bad entry and why; since 6 the list has 1,315 bytes, and 0/0 is not the only answer of a call
+   that was accepted. With 4 and 5 no length and no parameter moved: an archive of 3 serves a host of 4, and to one of 5
+   it tells 2 of entry 0 for every directory that is not sound. A list of 1,299 bytes becomes one of 1,315 with sixteen
+   bytes behind it that are the number of entries, mpm_entries; to an engine of 6 as it is, it is 255/13. */
+#define MPM_VERSION 6u
 
 /* ---- The lengths of the buffers, in bytes ---- */
 
 #define MPM_FCB_LEN 36u
 #define MPM_DMA_LEN 2048u /* for every function; 16 records */
-#define MPM_LIST_LEN 1299u
+#define MPM_LIST_LEN 1315u
 #define MPM_USERS_LEN 16u /* a user for each process */
 #define MPM_NAME_LEN 11u  /* name 8, type 3, filled up with blanks */
 
@@ -48,10 +51,10 @@ extern "C" {
 
 /* One call of an MP/M II program. Gives A + 256 H.
    Numbers are taken as they come, never cut to a byte: kind 256 and function 271 are unknown. Count must be 1 to 16 for
-   all functions; 33, 34, 40, 42 and 43 use it, the others do their work once. The lengths must be 36, 2,048, 1,299 and
-   one that a drive of the kind has. An answer other than MPM_OK leaves all four buffers as they were, but for the
-   records that a 33, 34 or 40 has done (mpm_done). The FCB's record number is not moved on, and DMA bytes past the
-   records done stay. A file is a name and the user that the list gives the process. */
+   all functions; 33, 34, 40, 42 and 43 use it, the others do their work once. The lengths must be 36, 2,048, 1,315 and
+   one that a drive of the kind has. A refusal leaves all four buffers as they were (mpm_refused), but for the records
+   that a 33, 34 or 40 has done (mpm_done). The FCB's record number is not moved on, and DMA bytes past the records done
+   stay. A file is a name and the user that the list gives the process. */
 uint32_t mpm_call(uint32_t kind, uint32_t function, uint32_t process, uint32_t count,
                   uint8_t *fcb, size_t fcb_len, uint8_t *dma, size_t dma_len,
                   uint8_t *list, size_t list_len, uint8_t *image, size_t image_len);
@@ -65,7 +68,7 @@ uint32_t mpm_singly(uint32_t kind, uint32_t function, uint32_t process, uint32_t
 
 /* Writes a fresh list for a drive of the kind: MPM_OK, whatever the list held before. Or MPM_ERR_BAD_CALL and the list
    as it was, where the kind is unknown, one of the three numbers is not 1 to 64, a user is not 0 to 15, users_len is
-   not 16 or list_len is not 1,299. */
+   not 16 or list_len is not 1,315. */
 uint32_t mpm_start(uint32_t kind, uint32_t capacity, uint32_t open_limit, uint32_t lock_limit,
                    const uint8_t *users, size_t users_len, uint8_t *list, size_t list_len);
 
@@ -91,12 +94,13 @@ uint32_t mpm_look(uint32_t kind, uint32_t user, const uint8_t *name, size_t name
    nothing has changed. */
 uint32_t mpm_salvage(uint32_t kind, uint8_t *image, size_t image_len, uint8_t *report, size_t report_len);
 
-/* Packs a book: writes the same files into a second buffer of the image's length. Used entries move to the lowest places
-   in their order, and blocks are numbered from 2 in the order in which a walk over these entries and their block numbers
-   meets them; empty entries are E5h throughout, free blocks zeros. An entry moves as it is, but for its block numbers:
-   attributes, counts and holes stay, and Look shows the same of every record. Packing twice is packing once. The image
-   and the list stay as they are; with a file open it is refused.
-   Gives A + 256 H: MPM_OK; or, in this order, MPM_ERR_BAD_CALL where the kind is unknown, list_len is not 1,299 or
+/* Packs a book: writes the same files into a second buffer of the image's length. Used entries move to the lowest
+   places in their order, and blocks are numbered from 2 in the order in which a walk over these entries and their block
+   numbers meets them; empty entries are E5h throughout, free blocks zeros. An entry moves as it is, but for its block
+   numbers: attributes, counts and holes stay, and Look shows the same of every record. Packing twice is packing once.
+   The image and the list stay as they are, positions too, though entries move: an 18 on the packed image may pass files
+   by. With a file open it is refused; a search under way does not matter.
+   Gives A + 256 H: MPM_OK; or, in this order, MPM_ERR_BAD_CALL where the kind is unknown, list_len is not 1,315 or
    packed_len is not image_len, MPM_ERR_BAD_IMAGE, MPM_ERR_BAD_LIST, or MPM_ERR_IN_USE where the list holds an open, of
    any process; and then the second buffer is as it was. */
 uint32_t mpm_pack(uint32_t kind, const uint8_t *image, size_t image_len, const uint8_t *list, size_t list_len,
@@ -140,6 +144,15 @@ static inline uint32_t mpm_book_call(struct mpm_book *book, uint32_t function, u
 /* 16: takes away the caller's open of a file and its locks on it.
    CLOSE_NOT_OPEN */
 #define MPM_FN_CLOSE 16u
+/* 17: finds the lowest entry of the caller's user that has the FCB's name, "?" standing for any character in its place;
+   with "?" in FCB byte 12 an entry of any extent, else of extent 0 only. The directory record with the entry comes to
+   DMA bytes 0 to 127, four entries as they stand, and A is the entry's place there, 0 to 3. Where there is none, the
+   answer is MPM_NO_MATCH. Opens and locks do not matter. No refusal of its own. */
+#define MPM_FN_SEARCH_FIRST 17u
+/* 18: as 17, by its own FCB, from the entry on at which the caller's search goes on, in the directory as it now stands.
+   That position is in the list, one for each process: a find leaves the entry behind it; no match, 143 and mpm_start
+   leave the number of entries, from where on nothing is found; no other call moves it. No refusal of its own. */
+#define MPM_FN_SEARCH_NEXT 18u
 /* 19: empties each entry of a file. Where only the caller has it open, in any mode, takes away that open and the
    caller's locks on it as 16 does; where another process has it open, refused.
    BAD_NAME, NOT_FOUND, IN_USE, READ_ONLY */
@@ -178,7 +191,8 @@ static inline uint32_t mpm_book_call(struct mpm_book *book, uint32_t function, u
 /* 46: puts the number of free records in DMA bytes 0 to 2: eight times the free blocks of a small drive, sixteen times
    those of a large one. No refusal of its own. */
 #define MPM_FN_FREE_SPACE 46u
-/* 143: takes away all opens and locks of a process, as for a program that died. No refusal of its own. */
+/* 143: takes away all opens and locks of a process and ends its search, as for a program that died. No refusal of its
+   own. */
 #define MPM_FN_TERMINATE 143u
 
 /* ---- Answers of calls, mpm_start and mpm_pack: A + 256 H. After each A/H, which function gives it when ---- */
@@ -188,10 +202,15 @@ static inline uint32_t mpm_book_call(struct mpm_book *book, uint32_t function, u
 static inline uint32_t mpm_a(uint32_t answer) { return answer % 256u; }
 static inline uint32_t mpm_h(uint32_t answer) { return answer / 256u; }
 
-/* 0/0: accepted, and all records done. All that is not 0/0 is a refusal: of the call, with nothing done, or of one
-   record of a 33, 34 or 40 of several, the first that was refused. Then the high four bits of H are the number of
-   records done before it: 8/48 is 8/0 after three. Nothing else sets these bits. */
+/* 0/0: accepted, and all records done. All that is not 0/0 is a refusal, but for two answers of 17 and 18 below: of the
+   call, with nothing done, or of one record of a 33, 34 or 40 of several, the first that was refused. Then the high
+   four bits of H are the number of records done before it: 8/48 is 8/0 after three. Nothing else sets these bits. */
 #define MPM_OK MPM_ANSWER(0u, 0u)
+
+/* 0/0 to 3/0: 17, 18: the entry that was found is at this place of its directory record. */
+#define MPM_FOUND(place) MPM_ANSWER(place, 0u)
+/* 255/0: 17, 18: no entry, or no further one; the caller's position is at the end. */
+#define MPM_NO_MATCH MPM_ANSWER(255u, 0u)
 
 /* The answer without those four bits, to compare with the names below. */
 static inline uint32_t mpm_code(uint32_t answer) { return answer % MPM_ANSWER(0u, 16u); }
@@ -199,6 +218,17 @@ static inline uint32_t mpm_code(uint32_t answer) { return answer % MPM_ANSWER(0u
 /* How many records of a 33, 34 or 40 were done: all of its count, or the number in those four bits. */
 static inline uint32_t mpm_done(uint32_t answer, uint32_t count) {
     return answer == MPM_OK ? count : mpm_h(answer) / 16u;
+}
+
+/* Whether a 17 or 18 that answered so has found an entry. */
+static inline int mpm_found(uint32_t answer) { return answer <= MPM_FOUND(3u); }
+
+/* Whether a call of this function that answered so was refused with nothing done, so that all buffers are as they were.
+   The answer alone does not tell: 1/0 is a refusal of 33 and none of 17. */
+static inline int mpm_refused(uint32_t function, uint32_t answer) {
+    if (function == MPM_FN_SEARCH_FIRST || function == MPM_FN_SEARCH_NEXT)
+        return !mpm_found(answer) && answer != MPM_NO_MATCH;
+    return answer != MPM_OK && mpm_done(answer, 0u) == 0u;
 }
 
 /* Tested first, in this order, before any record.
@@ -305,6 +335,8 @@ static inline uint32_t mpm_check_entry(uint32_t check) { return check / 256u; }
 #define MPM_RECORD_LEN 128u
 #define MPM_RECORDS 262144u /* a file has the records 0 to 262,143 */
 
+#define MPM_RECORD_ENTRIES 4u /* entries in a record of the directory */
+
 /* A drive of either kind. The image is a whole number of blocks, of which 0 and 1 are the directory. An empty drive is
    E5h in every byte. An entry is an extent of 128 records; its last 16 bytes are its block numbers, 0 for none. */
 #define MPM_DIRECTORY_BLOCKS 2u
@@ -393,11 +425,13 @@ static inline uint32_t mpm_capacity_for(uint32_t processes, uint32_t open_limit,
 /* ---- Where things stand in the buffers; numbers are stored low byte first ---- */
 
 #define MPM_HIGH_BIT 0x80u
+#define MPM_ANY 0x3Fu /* "?" */
 
 #define MPM_FCB_DRIVE 0u     /* 0 or 1, both the one drive */
 #define MPM_FCB_NAME 1u      /* 11 bytes; high bits take no part in comparing */
 #define MPM_FCB_UNLOCKED 5u  /* 15, 22: high bit set asks for unlocked mode */
 #define MPM_FCB_READ_ONLY 6u /* 15: high bit set asks for read-only mode, before unlocked */
+#define MPM_FCB_EXTENTS 12u  /* 17, 18: MPM_ANY admits all extents, every other byte extent 0 only */
 #define MPM_FCB_COUNT 15u    /* 15, 22 set it: record count of extent 0 */
 #define MPM_FCB_MAP 16u      /* 15, 22 set it: extent 0's 16 map bytes as they are: 16 block numbers, or 8 if large */
 #define MPM_FCB_NEW_NAME 17u /* 23: 11 bytes */
@@ -408,6 +442,7 @@ static inline uint32_t mpm_capacity_for(uint32_t processes, uint32_t open_limit,
 #define MPM_DMA_RECORD 0u  /* 33 puts the first record here; 34 and 40 take it; 41 compares its record */
 #define MPM_DMA_NEW 128u   /* 41 takes the new record from here */
 #define MPM_DMA_FREE 0u    /* 46: 3 bytes, the number of free records */
+#define MPM_DMA_ENTRIES 0u /* 17, 18 put the directory record here, 4 entries */
 
 /* 33, 34, 40: where the record at distance i from the first has its 128 bytes. */
 #define MPM_DMA_AT(i) (MPM_DMA_RECORD + MPM_RECORD_LEN * (i))
@@ -417,12 +452,23 @@ static inline uint32_t mpm_capacity_for(uint32_t processes, uint32_t open_limit,
 #define MPM_LIST_LOCK_LIMIT 2u /* 1 to 64 for each process */
 #define MPM_LIST_USERS 3u      /* 16 bytes */
 #define MPM_LIST_PLACES 19u    /* 64 places; an empty one is 20 zeros */
+/* 16 bytes, the position of each process: the entry at which its search goes on, or the number of entries, 64 or 128 by
+   the kind. Above that the list is not sound. The list does not say for which kind it was started. */
+#define MPM_LIST_POSITIONS 1299u
 
 #define MPM_PLACE_MARK 0u    /* 2 bytes: MPM_MARK_OPEN or MPM_MARK_LOCK */
 #define MPM_PLACE_PROCESS 2u /* 1 byte */
 #define MPM_PLACE_NAME 3u    /* 11 bytes, high bits zero */
 #define MPM_PLACE_MODE 14u   /* 1 byte; then a zero */
 #define MPM_PLACE_RECORD 16u /* 4 bytes; 0 for an open */
+
+#define MPM_ENTRY_USER 0u      /* 0 to 15, or MPM_EMPTY: then the rest is not read */
+#define MPM_ENTRY_NAME 1u      /* 11 bytes; the high bits are attributes, those of extent 0 the file's */
+#define MPM_ENTRY_READ_ONLY 9u /* high bit set: the file is read-only */
+#define MPM_ENTRY_EX 12u       /* 0 to 31; the extent is ex + 32 module */
+#define MPM_ENTRY_MODULE 14u   /* 0 to 63 */
+#define MPM_ENTRY_COUNT 15u    /* 0 to 128 */
+#define MPM_ENTRY_MAP 16u      /* 16 bytes: the block numbers */
 
 #define MPM_MARK_OPEN 0x464Fu /* the bytes 4F 46 */
 #define MPM_MARK_LOCK 0x524Cu /* the bytes 4C 52 */
@@ -459,6 +505,24 @@ static inline void mpm_set_file_id(uint8_t *dma, uint32_t file_id) { mpm_put(dma
 
 /* The number of records that an accepted 35 has left in the FCB. */
 static inline uint32_t mpm_size(const uint8_t *fcb) { return mpm_record(fcb); }
+
+/* The 32 bytes of the entry that an accepted 17 or 18 with this answer has found, in the DMA. */
+static inline const uint8_t *mpm_entry(const uint8_t *dma, uint32_t answer) {
+    return dma + MPM_DMA_ENTRIES + MPM_ENTRY_LEN * mpm_a(answer);
+}
+
+static inline uint32_t mpm_extent(const uint8_t *entry) {
+    return entry[MPM_ENTRY_EX] + 32u * entry[MPM_ENTRY_MODULE];
+}
+
+/* 17 and 18 on a book. Go on while mpm_found says so of the answer. */
+static inline uint32_t mpm_search_first(struct mpm_book *book, uint32_t process, uint8_t *fcb, uint8_t *dma) {
+    return mpm_book_call(book, MPM_FN_SEARCH_FIRST, process, 1u, fcb, dma);
+}
+
+static inline uint32_t mpm_search_next(struct mpm_book *book, uint32_t process, uint8_t *fcb, uint8_t *dma) {
+    return mpm_book_call(book, MPM_FN_SEARCH_NEXT, process, 1u, fcb, dma);
+}
 
 /* What mpm_set_name says of a text. */
 #define MPM_NAMING_OK 0u
@@ -519,6 +583,41 @@ static inline uint32_t mpm_set_fcb(uint8_t *fcb, const char *text, uint32_t mode
     return MPM_NAMING_OK;
 }
 
+/* Puts a part of a text into the bytes of a name from one place on to another: "?" as it is, a "*" at its end as "?" in
+   all that are left. Gives what stands behind the part, or 0 where it is too long. */
+static inline const char *mpm_set_part(uint8_t *name, size_t from, size_t to, const char *text) {
+    uint8_t rest = ' ';
+    for (; *text == '?' || mpm_names(*text); text++) {
+        if (from == to) return 0;
+        name[from++] = (uint8_t)(*text >= 'a' && *text <= 'z' ? *text - 'a' + 'A' : *text);
+    }
+    if (*text == '*') {
+        rest = MPM_ANY;
+        text++;
+    }
+    while (from < to) name[from++] = rest;
+    return text;
+}
+
+/* Makes an FCB of 36 bytes for 17 and 18: a text such as "*.DAT" or "ORD?RS.*", "?" standing for any character and "*"
+   for any to the end of the name or of the type. With all_extents every entry of a file is found, else its first extent
+   only. MPM_NAMING_OK, or what is wrong with the text, and the FCB as it was. */
+static inline uint32_t mpm_set_search(uint8_t *fcb, const char *text, int all_extents) {
+    uint8_t name[MPM_NAME_LEN];
+    size_t i;
+    const char *rest = mpm_set_part(name, 0, 8, text);
+    if (rest == text) return *text == 0 || *text == '.' ? MPM_NAMING_NO_NAME : MPM_NAMING_CHARACTER;
+    if (rest == 0) return MPM_NAMING_LONG_NAME;
+    if (*rest != 0 && *rest != '.') return MPM_NAMING_CHARACTER;
+    rest = mpm_set_part(name, 8, MPM_NAME_LEN, *rest == '.' ? rest + 1 : rest);
+    if (rest == 0) return MPM_NAMING_LONG_TYPE;
+    if (*rest != 0) return MPM_NAMING_CHARACTER;
+    for (i = 0; i < MPM_FCB_LEN; i++) fcb[i] = 0;
+    for (i = 0; i < MPM_NAME_LEN; i++) fcb[MPM_FCB_NAME + i] = name[i];
+    if (all_extents) fcb[MPM_FCB_EXTENTS] = MPM_ANY;
+    return MPM_NAMING_OK;
+}
+
 /* The answers with a sentence for the one who called. */
 #define MPM_SENTENCES(OF)                                                                                              \
     OF(MPM_OK, "Done.")                                                                                                \
@@ -547,9 +646,11 @@ static inline uint32_t mpm_set_fcb(uint8_t *fcb, const char *text, uint32_t mode
     OF(MPM_ERR_LOCK_LIST_FULL, "The lock list is full: there is no room for these locks.")
 
 /* The name of an answer and one plain sentence for it, whatever number of records it tells. The function is asked for
-   since Make's 255/0 is another than Open's; for mpm_start and mpm_pack it is 0. */
+   since Make's 255/0 is another than Open's and 1/0 of a search is no refusal; for mpm_start and mpm_pack it is 0. */
 static inline const char *mpm_answer_name(uint32_t function, uint32_t answer) {
     if (function == MPM_FN_MAKE && answer == MPM_ERR_NO_EMPTY_ENTRY) return "MPM_ERR_NO_EMPTY_ENTRY";
+    if ((function == MPM_FN_SEARCH_FIRST || function == MPM_FN_SEARCH_NEXT) && !mpm_refused(function, answer))
+        return mpm_found(answer) ? "MPM_FOUND" : "MPM_NO_MATCH";
     switch (mpm_code(answer)) {
 #define MPM_NAME_OF(answer, sentence) case answer: return #answer;
         MPM_SENTENCES(MPM_NAME_OF)
@@ -560,6 +661,8 @@ static inline const char *mpm_answer_name(uint32_t function, uint32_t answer) {
 
 static inline const char *mpm_answer_text(uint32_t function, uint32_t answer) {
     if (function == MPM_FN_MAKE && answer == MPM_ERR_NO_EMPTY_ENTRY) return "The directory is full: no entry is empty.";
+    if ((function == MPM_FN_SEARCH_FIRST || function == MPM_FN_SEARCH_NEXT) && !mpm_refused(function, answer))
+        return mpm_found(answer) ? "An entry was found." : "There is no such entry, or no further one.";
     switch (mpm_code(answer)) {
 #define MPM_TEXT_OF(answer, sentence) case answer: return sentence;
         MPM_SENTENCES(MPM_TEXT_OF)

@@ -2,7 +2,8 @@
 # Compares the desk's functions (mpm_salvage, mpm_pack, mpm_same) of the archive that ships with the second program's
 # over a pipe: the answer and every byte of every buffer.
 # desk.sh [COMPARE-DESK OPTIONS]: 20,000 cases with seed 1 unless said, as in `tests/desk.sh --seed 7 --seconds 600`.
-# desk.sh --linked [OPTIONS]: the engine built for this machine's own processor and linked in, 300,000 cases unless said.
+# desk.sh --linked [OPTIONS]: the engine built for this machine's own processor and linked in, 300,000 cases unless
+# said.
 # MPM_ARCHIVE=FILE takes another archive: for x86-64, and with --linked for this processor.
 set -euo pipefail
 here=$(cd "$(dirname "${BASH_SOURCE[0]}")" && pwd -P)

@@ -1,6 +1,6 @@
-//! Times the engine of an earlier commit and that of this tree, taking turns in one run: the image check alone, each call
-//! that is timed beside plain C and each run of sixteen records, of the functions and on the kinds of drive that the
-//! earlier one knows.
+//! Times the engine of an earlier commit and that of this tree, taking turns in one run: the image check alone, each
+//! call that is timed beside plain C and each run of sixteen records, of the functions and on the kinds of drive that
+//! the earlier one knows.
 
 mod engines;
 mod report;
@@ -113,8 +113,8 @@ fn works(shelf: &Shelf) -> Vec<Work> {
     works
 }
 
-/// What each round took, for each work. A round goes through all of them, so that a slow moment of the machine takes a few
-/// rounds of many and not all rounds of one.
+/// What each round took, for each work. A round goes through all of them, so that a slow moment of the machine takes a
+/// few rounds of many and not all rounds of one.
 fn times(works: &[Work], shelf: &mut Shelf, rounds: usize) -> Vec<Vec<Both<f64>>> {
     let mut times = vec![Vec::new(); works.len()];
     for number in 0..rounds {
@@ -125,8 +125,8 @@ fn times(works: &[Work], shelf: &mut Shelf, rounds: usize) -> Vec<Vec<Both<f64>>
     times
 }
 
-/// Each comes right after the other, which has warmed the books: the second once more before the first, uncounted. Who is
-/// first changes from round to round.
+/// Each comes right after the other, which has warmed the books: the second once more before the first, uncounted. Who
+/// is first changes from round to round.
 fn in_turn(number: usize, mut time: impl FnMut(Version) -> f64) -> Both<f64> {
     if number % 2 == 1 {
         time(BEFORE);

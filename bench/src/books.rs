@@ -1,6 +1,6 @@
 //! The books that calls are timed on, and the call of each function on them.
 
-use compare::build::{lock_item, open_item, put_entry, put_item, Entry, Fcb};
+use compare::build::{lock_item, open_item, put_entry, put_item, Entry, Fcb, LIST, POSITIONS};
 use compare::random::Random;
 use reference::calls::DMA_LENGTH;
 use reference::kind::{Kind, ENTRY};
@@ -66,9 +66,11 @@ pub fn kind_title(kind: Kind) -> &'static str {
     }
 }
 
-pub const FUNCTIONS: [(u32, &str); 14] = [
+pub const FUNCTIONS: [(u32, &str); 16] = [
     (15, "Open"),
     (16, "Close"),
+    (17, "Search First"),
+    (18, "Search Next"),
     (19, "Delete"),
     (22, "Make"),
     (23, "Rename"),
@@ -190,7 +192,7 @@ pub fn book(filling: Filling, drive: Drive, random: &mut Random) -> Book {
     let records = records(drive.kind, &owners);
     Book {
         kind: drive.kind,
-        list: list(filling, &names, records),
+        list: list(filling, drive.kind, &names, records),
         image: image(drive, &names, &owners, &order, random),
         names,
         records,
@@ -259,9 +261,12 @@ fn image(drive: Drive, names: &[[u8; 11]], owners: &[usize], order: &[u16], rand
     image
 }
 
-fn list(filling: Filling, names: &[[u8; 11]], records: u32) -> Vec<u8> {
-    let mut list = vec![0; 1299];
+/// The stranger has a search under way, which goes on at entry 0.
+fn list(filling: Filling, kind: Kind, names: &[[u8; 11]], records: u32) -> Vec<u8> {
+    let mut list = vec![0; LIST];
     list[..3].copy_from_slice(&[64, 64, 64]);
+    list[POSITIONS].fill(kind.entries() as u8);
+    list[POSITIONS][usize::from(STRANGER)] = 0;
     for (place, item) in items(filling, names, records).into_iter().enumerate() {
         put_item(&mut list, place, item);
     }
@@ -300,6 +305,12 @@ pub fn call(function: u32, filling: Filling, book: &Book) -> Call {
     let fresh = compare::build::name("NEWFILE.DAT");
     let (process, fcb) = match function {
         15 => (STRANGER, of(SECOND_FILE).unlocked()),
+        // The first entry is found, and then a file in vain, past the whole directory.
+        17 => (CALLER, Fcb::of([b'?'; 11])),
+        18 => (
+            STRANGER,
+            Fcb::of(compare::build::name("NEWFILE?.DAT")).all_extents(),
+        ),
         19 => (CALLER, of(11)),
         22 => (STRANGER, Fcb::of(fresh).unlocked()),
         23 => (CALLER, of(11).new_name(fresh)),

@@ -1,5 +1,5 @@
-//! The time of a call beside the number of its records, as a picture: a row for each kind of drive and filling of a book,
-//! a panel for each call, a curve for each of those who are timed.
+//! The time of a call beside the number of its records, as a picture: a row for each kind of drive and filling of a
+//! book, a panel for each call, a curve for each of those who are timed.
 
 use crate::books::{kind_title, shown, Filling, BY_RECORDS, COUNTS, FILLINGS};
 use crate::measure::Several;
@@ -69,7 +69,8 @@ fn grid(text: &mut String, (left, top): (f64, f64)) {
         let y = height(top, f64::from(power));
         let _ = writeln!(
             text,
-            "<line x1=\"{left}\" y1=\"{y:.1}\" x2=\"{}\" y2=\"{y:.1}\" stroke=\"#e2e2e2\"/><text x=\"{}\" y=\"{:.1}\" text-anchor=\"end\" font-size=\"10\">{}</text>",
+            "<line x1=\"{left}\" y1=\"{y:.1}\" x2=\"{}\" y2=\"{y:.1}\" stroke=\"#e2e2e2\"/><text x=\"{}\" y=\"{:.1}\" \
+             text-anchor=\"end\" font-size=\"10\">{}</text>",
             left + INNER_WIDE,
             left - 8.0,
             y + 3.5,

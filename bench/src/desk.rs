@@ -242,7 +242,7 @@ fn packs(filling: Filling, drive: Drive, rounds: usize) -> Row {
     // A long image is copied anew for each book, and that is what takes the time.
     let count = if drive.blocks > 1_000 { 8 } else { BOOKS as u64 };
     let books: Vec<Vec<u8>> = (0..count).map(|seed| book(filling, drive, seed).image).collect();
-    let mut list = fresh_list(64, [0; 16]);
+    let mut list = fresh_list(drive.kind, 64, [0; 16]);
     let mut packed = vec![0; books[0].len()];
     let measure = both_checks(drive, &books, &list, rounds) + PACK_COPIES * copies(&books, rounds);
     let engine = quickest(
@@ -349,7 +349,8 @@ fn title(filling: Filling, drive: Drive) -> String {
 
 fn table(title: &str, measure: &str, rows: &[Row], limit: f64, words: &str) -> String {
     let head = format!(
-        "\n**{title}**\n\n| image | engine | plain C | engine / C | {measure} | engine / that |\n|---|---|---|---|---|---|\n"
+        "\n**{title}**\n\n| image | engine | plain C | engine / C | {measure} | engine / that \
+         |\n|---|---|---|---|---|---|\n"
     );
     let lines: String = rows.iter().map(Row::line).collect();
     let ratios: Vec<(String, f64)> = rows.iter().map(|row| (row.what.clone(), row.ratio())).collect();
@@ -382,7 +383,8 @@ pub fn measure(rounds: usize) -> String {
         "both image checks and comparing 3 times",
         &on_all_drives(|filling, drive| pairs(filling, drive, rounds)),
         1.0,
-        "a book and its packed form compared at most as long as both image checks and 3 times comparing both images in C",
+        "a book and its packed form compared at most as long as both image checks and 3 times comparing both images \
+         in C",
     );
     [salvage, pack, same].concat()
 }

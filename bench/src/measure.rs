@@ -164,8 +164,8 @@ impl Shelf {
         began.elapsed().as_nanos() as f64 / BOOKS as f64
     }
 
-    /// For each set of calls, by each of those who are timed, the quickest of the rounds, each over all books, all taking
-    /// turns: on a shared machine the slower ones measure its neighbours.
+    /// For each set of calls, by each of those who are timed, the quickest of the rounds, each over all books, all
+    /// taking turns: on a shared machine the slower ones measure its neighbours.
     fn times(&mut self, sets: &[Vec<Call>], timed: [Who; 3], rounds: usize) -> Vec<[f64; 3]> {
         let mut quickest = vec![[f64::INFINITY; 3]; sets.len()];
         for _ in 0..rounds {

@@ -59,7 +59,8 @@ fn words(filling: Filling, drive: Drive) -> String {
 
 pub fn head(width: f64, height: f64) -> String {
     format!(
-        "<svg xmlns=\"http://www.w3.org/2000/svg\" width=\"{width}\" height=\"{height}\" font-family=\"sans-serif\" font-size=\"12\">\n\
+        "<svg xmlns=\"http://www.w3.org/2000/svg\" width=\"{width}\" height=\"{height}\" font-family=\"sans-serif\" \
+         font-size=\"12\">\n\
          <rect width=\"100%\" height=\"100%\" fill=\"white\"/>\n",
     )
 }
@@ -92,7 +93,8 @@ fn grid(text: &mut String, top: f64) {
         let y = height(top, f64::from(power));
         let _ = writeln!(
             text,
-            "<line x1=\"{LEFT}\" y1=\"{y:.1}\" x2=\"{}\" y2=\"{y:.1}\" stroke=\"#e2e2e2\"/><text x=\"{}\" y=\"{:.1}\" text-anchor=\"end\" font-size=\"10\">{}</text>",
+            "<line x1=\"{LEFT}\" y1=\"{y:.1}\" x2=\"{}\" y2=\"{y:.1}\" stroke=\"#e2e2e2\"/><text x=\"{}\" y=\"{:.1}\" \
+             text-anchor=\"end\" font-size=\"10\">{}</text>",
             WIDTH - 20.0,
             LEFT - 8.0,
             y + 3.5,

@@ -38,7 +38,8 @@ fn summary_of(figures: &Figures, kind: Kind) -> String {
     let [beside, shown] = beside_and_shown(kind);
     let mut text = format!(
         "\n**{} drives**, n = {}\n\n\
-         | book | engine, median | engine, slowest | image check alone | plain C, median | engine / C, highest | reference / engine, median | n = {} / n = {}, median |\n\
+         | book | engine, median | engine, slowest | image check alone | plain C, median | engine / C, highest | \
+         reference / engine, median | n = {} / n = {}, median |\n\
          |---|---|---|---|---|---|---|---|\n",
         kind_title(kind), shown.blocks, shown.blocks, beside.blocks,
     );
@@ -125,7 +126,8 @@ fn ratio_goals(rows: &[Row], several: &[Several]) -> String {
             PLAIN_LIMIT,
         ),
         goal(
-            &format!("sixteen records that are there, read or written in one call, at most {SIXTEEN_LIMIT} times one record's call"),
+            &format!("sixteen records that are there, read or written in one call, at most {SIXTEEN_LIMIT} times one \
+            record's call"),
             &sixteen,
             SIXTEEN_LIMIT,
         ),
@@ -136,7 +138,7 @@ fn ratio_goals(rows: &[Row], several: &[Several]) -> String {
 /// A call's time may grow with the entries, not with n.
 fn growth_goals(rows: &[Row], kind: Kind) -> String {
     match kind {
-        Kind::First => growth_goal(rows, kind, "the fourteen calls", &[]),
+        Kind::First => growth_goal(rows, kind, "the sixteen calls", &[]),
         Kind::Second => {
             growth_goal(rows, kind, "the calls but 40 and 46", &BY_BLOCKS) + &block_goal(rows, kind)
         }
@@ -151,7 +153,8 @@ fn growth_goal(rows: &[Row], kind: Kind, calls: &str, but: &[u32]) -> String {
         (format!("{title} {}", filling.title()), growth)
     });
     let words = format!(
-        "no growth with n: {calls} of a book on a {title} drive at n = {many} under {GROWTH_LIMIT} times those at n = {few}"
+        "no growth with n: {calls} of a book on a {title} drive at n = {many} under {GROWTH_LIMIT} times those at n = \
+         {few}"
     );
     goal(&words, &growth, GROWTH_LIMIT)
 }
@@ -240,7 +243,8 @@ fn table(rows: &[Row], filling: Filling, kind: Kind) -> String {
         .map(|drive| format!("n = {}", drive.blocks))
         .collect();
     let mut text = format!(
-        "\n**{} drive, {}**: {}\n\n| call | A/H | {} | plain C | engine / C | reference | stack |\n|---|---|{}---|---|---|---|\n",
+        "\n**{} drive, {}**: {}\n\n| call | A/H | {} | plain C | engine / C | reference | stack \
+         |\n|---|---|{}---|---|---|---|\n",
         kind_title(kind),
         filling.title(),
         filling.describe(shown(kind)),
@@ -271,7 +275,8 @@ fn table(rows: &[Row], filling: Filling, kind: Kind) -> String {
 pub fn several(rows: &[Several]) -> String {
     let mut text = format!(
         "\n**{MOST} records in one call**: from record 0 on, all there\n\n\
-         | call | drive | book | n | 1 record | {MOST} records | {MOST} / 1 | plain C | engine / C | {MOST} single calls | single / one call | stack |\n\
+         | call | drive | book | n | 1 record | {MOST} records | {MOST} / 1 | plain C | engine / C | {MOST} single \
+         calls | single / one call | stack |\n\
          |---|---|---|---|---|---|---|---|---|---|---|---|\n"
     );
     for row in rows {

@@ -14,6 +14,7 @@
      write USER NAME FIRST COUNT FILE  34: copies COUNT records of FILE, from record FIRST on, to the same records
      fill USER NAME FIRST COUNT FILE   40, likewise
      size USER NAME                    35: prints the number of records
+     list USER                         17, 18: prints the names of the user's files, in the order of the directory
      get USER NAME FILE                15, 33, 16: copies the records from 0 to the first refusal to FILE; prints how
                                        many, the record count that 15 gave and the refusal. Look must show the same.
 
@@ -171,6 +172,33 @@ static int file_size(const struct command *command, char **operands) {
     return DONE;
 }
 
+/* The name without the blanks that fill it up, with a dot before the type if there is one. */
+static void print_listed(const uint8_t *entry) {
+    const uint8_t *name = entry + MPM_ENTRY_NAME;
+    printf("%u.", entry[MPM_ENTRY_USER]);
+    for (size_t i = 0; i < MPM_NAME_LEN; i++) {
+        char c = (char)(name[i] & 0x7F);
+        if (i == NAME_PART && c != ' ') printf(".");
+        if (c != ' ') printf("%c", c);
+    }
+    printf("\n");
+}
+
+/* No search finds more entries than there are. */
+static int list_files(const struct command *command, char **operands) {
+    uint32_t user, files = 0;
+    if (!read_number(operands[0], &user)) return wrong(operands[0]);
+    mpm_set_search(fcb, "*.*", 0);
+    uint32_t answer = call(MPM_FN_SEARCH_FIRST, user);
+    for (; mpm_found(answer) && files < mpm_entries(kind); files++) {
+        print_listed(mpm_entry(dma, answer));
+        answer = call(MPM_FN_SEARCH_NEXT, user);
+    }
+    if (answer == MPM_NO_MATCH) return DONE;
+    printf("%s %s: %u/%u\n", command->word, operands[0], (unsigned)mpm_a(answer), (unsigned)mpm_h(answer));
+    return REFUSED;
+}
+
 static int write_records(const struct command *command, char **operands) {
     uint32_t user, first, count, answer = MPM_OK;
     uint8_t name[MPM_NAME_LEN];
@@ -246,6 +274,7 @@ static const struct command commands[] = {
     {"write", MPM_FN_WRITE, 5, write_records},
     {"fill", MPM_FN_WRITE_ZEROS, 5, write_records},
     {"size", MPM_FN_SIZE, 2, file_size},
+    {"list", MPM_FN_SEARCH_FIRST, 1, list_files},
     {"get", MPM_FN_READ, 3, get},
 };
 

@@ -2,8 +2,9 @@
 # Holds the engine against Debian's cpmtools, which know nothing of it, on drives of 64 and of 256 blocks, and on those
 # of 257, 300 and 1,027 larger blocks that the second kind has: each must read what the other wrote, and the desk's
 # program (host/book.c) must find the tools' images sound, pack them, know a book that the tools have moved, and mend
-# images that are damaged. Plays the page that shows how (docs/SALVAGE.md). Then does each case where they differ by intent. One line for each step; at the first other
-# difference one plain line and exit status 1. Installs cpmtools where they are missing. All files are temporary.
+# images that are damaged. Plays the page that shows how (docs/SALVAGE.md). Then does each case where they differ by
+# intent. One line for each step; at the first other difference one plain line and exit status 1. Installs cpmtools
+# where they are missing. All files are temporary.
 set -euo pipefail
 here=$(cd "$(dirname "${BASH_SOURCE[0]}")" && pwd -P)
 root=$(cd "$here/../.." && pwd -P)
@@ -157,8 +158,21 @@ same_sizes() { # FORMAT IMAGE
         commands+=(size "${base%%.*}" "${base#*.}")
     done
     expect "the sizes of the files of $2" \
-        "$(tool cpmls "$1" -u -l "$2" | awk '/:$/ { user = $1 + 0; next } NF { print user "." $NF, int(($2 + 127) / 128) }' | sort)" \
+        "$(tool cpmls "$1" -u -l "$2" |
+            awk '/:$/ { user = $1 + 0; next } NF { print user "." $NF, int(($2 + 127) / 128) }' | sort)" \
         "$(book "$2" "${commands[@]}" | sort)"
+}
+
+# cpmls and a clerk's listing by 17 and 18 of every user, and the desk's program, name the same files. Those of a user
+# stand in the order of the directory.
+same_names() { # FORMAT IMAGE
+    local user commands=() named
+    named=$(tool cpmls "$1" -u "$2" | awk '/:$/ { user = $1 + 0; next } NF { print user "." $0 }' | sort)
+    for user in {0..15}; do commands+=(list "$user"); done
+    expect "the names that 17 and 18 find on $2" "$named" "$(book "$2" "${commands[@]}" | sort)"
+    expect "the names that the desk's program lists on $2" "$named" \
+        "$(bash "$root/machine/run.sh" "$work/desk" list "$2" |
+            sed 's/^[^:]*: \(.*\) of user \([0-9]*\): .*/\2.\1/' | sort)"
 }
 
 desk_tells_size() { # IMAGE USER NAME RECORDS
@@ -198,6 +212,7 @@ agree() { # FORMAT IMAGE
     fsck_silent "$1" "$2"
     same_free "$1" "$2"
     same_sizes "$1" "$2"
+    same_names "$1" "$2"
 }
 
 # The same files for the tools and for the engine, and what they were packed from stays.
@@ -403,7 +418,8 @@ high_user() {
     expect "cpmls user" "16:" "$(tool cpmls mpm64 user | head -n 1)"
     fsck_says 'Error: Bad status' mpm64 user
     checked "2 of entry 0" user
-    differs "users 16 to 31: cpmcp writes and cpmls lists them, fsck.cpm calls them bad; unsound for us, users end at 15"
+    differs "users 16 to 31: cpmcp writes and cpmls lists them, fsck.cpm calls them bad; unsound for us, users end at" \
+        "15"
 }
 
 label() {
@@ -419,7 +435,8 @@ dates() {
     stored "21" dates 224
     fsck_silent mpm64p2 dates
     checked "2 of entry 3" dates
-    differs "dates: mkfs.cpm -t for P2DOS makes each fourth entry a date entry 21h; unsound for us, dates are not served"
+    differs "dates: mkfs.cpm -t for P2DOS makes each fourth entry a date entry 21h; unsound for us, dates are not" \
+        "served"
 }
 
 date_file() {
@@ -445,7 +462,8 @@ byte_13() {
     cp two last.in/0.LAST.TXT
     checked sound last
     engine_reads last
-    differs "byte 13: for cpmcp the bytes in the last record, for us unread and kept; of its 1-byte file grown to 2 records cpmcp copies 129 bytes"
+    differs "byte 13: for cpmcp the bytes in the last record, for us unread and kept; of its 1-byte file grown to 2" \
+        "records cpmcp copies 129 bytes"
     poke last 13 310
     checked sound last
     fsck_says 'Error: Bad last record byte count' mpm64 last
@@ -474,7 +492,8 @@ sparse() {
     fresh mpm64 filled
     tool cpmcp mpm64 filled copied 0:HOLE.DAT
     desk_compares 1 "HOLE.DAT of user 0: record 0 has a block in filled alone" sparse filled
-    differs "hole in an extent: fsck.cpm wants a block for each 8 records of the count; sound for us. cpmcp copies zeros, 33 answers 1/0, and a copy with zeros there is another book"
+    differs "hole in an extent: fsck.cpm wants a block for each 8 records of the count; sound for us. cpmcp copies" \
+        "zeros, 33 answers 1/0, and a copy with zeros there is another book"
     one_file holes HOLES.DAT 128
     book holes open 0 HOLES.DAT write 0 HOLES.DAT 256 8 hole
     checked sound holes
@@ -514,7 +533,8 @@ names_for_us_only() {
     fsck_says 'Error: Bad name' mpm64 lower
     not_to_be_copied lower lower.txt
     refused "open 0 LOWER.TXT: 255/0" lower open 0 LOWER.TXT
-    differs "lower case on the drive: an error for fsck.cpm, and cpmcp cannot find it; legal for us, and not the name in capitals"
+    differs "lower case on the drive: an error for fsck.cpm, and cpmcp cannot find it; legal for us, and not the name" \
+        "in capitals"
     one_file signs '<>,;:=*[.].' 1
     engine_reads signs
     fsck_says 'Error: Bad name' mpm64 signs
@@ -623,7 +643,8 @@ other_drives() {
     fresh mpm64t short
     expect "size of an image of several tracks" 2048 "$(stat -c %s short)"
     checked "wrong length" short
-    differs "short image: mkfs.cpm writes no more than the tracks of the directory; wrong length for us, an image has all its blocks"
+    differs "short image: mkfs.cpm writes no more than the tracks of the directory; wrong length for us, an image has" \
+        "all its blocks"
     fresh mpm257 long
     tool_puts mpm257 long 0 LONG.DAT 2048
     stored "02 00 03 00 00" long 16
@@ -636,7 +657,8 @@ other_drives() {
     stored "02 03 04 05 06 07 08 09 0a 0b 00" wide 16
     fsck_silent mpm2k wide
     checked "8 of entry 0" wide
-    differs "blocks of 2,048: one entry holds two extents and has the number of the second; unsound for us, extent 0 is missing"
+    differs "blocks of 2,048: one entry holds two extents and has the number of the second; unsound for us, extent 0" \
+        "is missing"
     checked sound made256
     fsck_says 'Error: Bad block number' mpm64 made256
     differs "number of blocks: the tools take it from the definition, whatever the image's length; we from the length"
@@ -691,14 +713,16 @@ for n in 64 256; do
     "tools_fill_$n"
     agree "mpm$n" "made$n"
     zeros_follow "made$n"
-    ok "$n blocks, made by mkfs.cpm and cpmcp: sound, and $(find "made$n.in" -type f | wc -l) files read by 33, sixteen records to a call, and by Look have their bytes; zeros fill up the last record"
+    ok "$n blocks, made by mkfs.cpm and cpmcp: sound, and $(find "made$n.in" -type f | wc -l) files read by 33," \
+        "sixteen records to a call, and by Look have their bytes; zeros fill up the last record"
 done
 
 engine_fills mpm64 ours64 140 130 60 16 150
 engine_fills mpm256 ours256 320 200 150 128 300
 for n in 64 256; do
     agree "mpm$n" "ours$n"
-    ok "$n blocks, made by the engine: cpmls lists $(find "ours$n.in" -type f | wc -l) files, cpmcp copies their bytes, fsck.cpm is silent, the free space and the sizes are the same"
+    ok "$n blocks, made by the engine: cpmls lists $(find "ours$n.in" -type f | wc -l) files, cpmcp copies their" \
+        "bytes, fsck.cpm is silent, the free space and the sizes are the same, and 17 and 18 list the same files"
 done
 both_change mpm64 ours64 4000
 both_change mpm256 ours256 20000
@@ -709,7 +733,8 @@ for n in 257 300; do
     tools_fill_large "large$n" "made$n" "$n" 0
     agree "large$n" "made$n"
     zeros_follow "made$n"
-    ok "$n blocks of 2,048 bytes, made by mkfs.cpm and cpmcp: sound, and $(find "made$n.in" -type f | wc -l) files read by 33 and by Look have their bytes; zeros fill up the last record"
+    ok "$n blocks of 2,048 bytes, made by mkfs.cpm and cpmcp: sound, and $(find "made$n.in" -type f | wc -l) files" \
+        "read by 33 and by Look have their bytes; zeros fill up the last record"
 done
 tools_fill_large large1027 made1027 1027 300
 agree large1027 made1027
@@ -728,7 +753,8 @@ done
 engine_fills large300 ours300 1200 400 2900 128 2600
 agree large300 ours300
 both_change large300 ours300 40000
-ok "257, 300 and 1,027 blocks of 2,048 bytes, made by the engine and changed by both: cpmls lists the files, cpmcp copies their bytes, fsck.cpm is silent, the free space is the same"
+ok "257, 300 and 1,027 blocks of 2,048 bytes, made by the engine and changed by both: cpmls lists the files, cpmcp" \
+    "copies their bytes, fsck.cpm is silent, the free space is the same"
 for n in 257 300 1027; do
     desk_packs "large$n" "made$n"
     desk_packs "large$n" "ours$n"
@@ -738,12 +764,14 @@ for n in 64 256; do
     desk_packs "mpm$n" "made$n"
     desk_packs "mpm$n" "ours$n"
 done
-ok "the desk's program packs ten images of cpmtools and of the engine: cpmls lists the same files and attributes, cpmcp copies the same bytes, fsck.cpm is silent, the free space and the sizes are the same"
+ok "the desk's program packs ten images of cpmtools and of the engine: cpmls lists the same files and attributes," \
+    "cpmcp copies the same bytes, fsck.cpm is silent, the free space and the sizes are the same"
 tools_move mpm64 made64 mpm256 moved256
 second_kind
 tools_move large257 made257 large300 moved300
 first_kind
-ok "books moved by cpmtools, file by file, to an image of another length: the same for the desk's program, and different with a byte changed, a file more or less, an attribute set"
+ok "books moved by cpmtools, file by file, to an image of another length: the same for the desk's program, and" \
+    "different with a byte changed, a file more or less, an attribute set"
 large_damages
 ok "9 damages to a directory with numbers of two bytes: the engine tells the entry and why, errors for fsck.cpm; mended"
 second_kind

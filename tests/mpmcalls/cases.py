@@ -5,9 +5,9 @@
     cases.py --stored FOLDER        write the stored run (stdin, stdout, data/DISK.IMG) of S0 to S6
     cases.py --list
 
-Each case runs in a fresh folder. The inputs are made here from their meaning; what is expected of each is written out here,
-from document 01. --document leaves out the cases that rest on a decision of ours (marked `ours`). It ends with 0 where
-every case passed, 1 where one failed, 2 for wrong use.
+Each case runs in a fresh folder. The inputs are made here from their meaning; what is expected of each is written out
+here, from document 01. --document leaves out the cases that rest on a decision of ours (marked `ours`). It ends with 0
+where every case passed, 1 where one failed, 2 for wrong use.
 """
 import argparse
 import os
@@ -24,7 +24,7 @@ HEADER = "call process function A H\n"
 EMPTY = 0xE5
 
 OPEN, CLOSE, DELETE, MAKE, READ, WRITE, SIZE, WRITE_ZEROS = 15, 16, 19, 22, 33, 34, 35, 40
-LOCK, FREE_SPACE, TERMINATE = 42, 46, 143
+FIRST, NEXT, LOCK, FREE_SPACE, TERMINATE = 17, 18, 42, 46, 143
 
 
 # ---- the records
@@ -56,6 +56,11 @@ def read_only(f):
     return f[:6] + bytes([f[6] | 0x80]) + f[7:]
 
 
+def pattern(name=b"???????????", extents=b"?", drive=0):
+    """An FCB to search with; `extents` is its byte 12."""
+    return bytes([drive]) + name + extents + bytes(23)
+
+
 def dma(file_id=0):
     """A DMA whose bytes 0 and 1 are the File ID, the rest zeros."""
     return bytes([file_id, 0]) + bytes(2046)
@@ -79,8 +84,8 @@ def blank(n):
 
 
 def entry(ex=0, module=0, count=0, blocks=()):
-    """A directory entry of ORDERS.DAT: user 0, the name with high bits clear, ex, 0, module, count, sixteen block numbers.
-    blocks: pairs of map byte and block."""
+    """A directory entry of ORDERS.DAT: user 0, the name with high bits clear, ex, 0, module, count, sixteen block
+    numbers. blocks: pairs of map byte and block."""
     e = bytearray(32)
     e[1:12] = b"ORDERS  DAT"
     e[12], e[14], e[15] = ex, module, count
@@ -150,10 +155,10 @@ call process function A H
 end 14
 """
 
-# S2: block 2 in map byte 0, its first record all zeros (the DMA of process 1). S5: block 3 in map byte 1, its first record
-# 01 and zeros (the File ID of process 2 in its DMA); record 8 is place 8 of its extent, so the count is 9. Function 34 leaves
-# the other seven records of a block as they were. No other call of the session changes the image but S13, which empties
-# the entry.
+# S2: block 2 in map byte 0, its first record all zeros (the DMA of process 1). S5: block 3 in map byte 1, its first
+# record 01 and zeros (the File ID of process 2 in its DMA); record 8 is place 8 of its extent, so the count is 9.
+# Function 34 leaves the other seven records of a block as they were. No other call of the session changes the image but
+# S13, which empties the entry.
 SESSION_OUT = written(
     blank(4),
     (0, entry(count=9, blocks=[(0, 2), (1, 3)])),
@@ -162,8 +167,8 @@ SESSION_OUT = written(
 )
 SESSION_13_OUT = written(SESSION_OUT, (0, b"\xe5"))
 
-# Record 262,143: extent 2,047, so ex 31 and module 63; place 127, so the last map byte and count 128. The extent is missing
-# and takes the lowest empty entry, 1; the block the lowest free one, 2; the record is the last of its eight.
+# Record 262,143: extent 2,047, so ex 31 and module 63; place 127, so the last map byte and count 128. The extent is
+# missing and takes the lowest empty entry, 1; the block the lowest free one, 2; the record is the last of its eight.
 LAST = 262143
 LAST_DMA = bytes(range(128)) + bytes(1920)
 LAST_OUT = written(
@@ -181,10 +186,12 @@ CASES = []
 
 
 class Case:
-    """One run. image: DISK.IMG's bytes, MISSING or FOLDER. old: DISK.OUT before the run, likewise. out: DISK.OUT after it,
-    None for as it was before. error: what is on standard error. ours: rests on a decision that document 01 leaves open."""
+    """One run. image: DISK.IMG's bytes, MISSING or FOLDER. old: DISK.OUT before the run, likewise. out: DISK.OUT after
+    it, None for as it was before. error: what is on standard error. ours: rests on a decision that document 01 leaves
+    open."""
 
-    def __init__(self, name, image, records, printed, out, old=MISSING, error="", ours=False, chunk=0, into=None, fails=False):
+    def __init__(self, name, image, records, printed, out, old=MISSING, error="", ours=False, chunk=0, into=None,
+                 fails=False):
         self.name, self.image, self.printed, self.out, self.old = name, image, printed, out, old
         self.records = records if callable(records) else b"".join(records)
         self.error, self.ours, self.chunk, self.into, self.fails = error, ours, chunk, into, fails
@@ -216,22 +223,54 @@ Case("DISK.OUT read back and used", SESSION_OUT,
      written(SESSION_OUT, (3 * 1024, bytes([7]) * 128)))
 
 # edges
-Case("record 262,143", blank(3), [start(), call(MAKE, 1, fcb()), call(WRITE, 1, fcb(LAST), LAST_DMA), call(READ, 1, fcb(LAST))],
+Case("record 262,143", blank(3), [start(), call(MAKE, 1, fcb()), call(WRITE, 1, fcb(LAST), LAST_DMA),
+                                  call(READ, 1, fcb(LAST))],
      lines("0 1 22 0 0", "1 1 34 0 0", "2 1 33 0 0", "end 3"), LAST_OUT)
 Case("function 35", blank(4),
-     [start(), call(SIZE, 1, fcb()), call(MAKE, 1, fcb()), call(SIZE, 2, fcb(7)), call(SIZE, 1, fcb()[:1] + b"ORDERS  DA?" + fcb()[12:]),
-      call(SIZE, 1, b"\2" + fcb()[1:])],
+     [start(), call(SIZE, 1, fcb()), call(MAKE, 1, fcb()), call(SIZE, 2, fcb(7)),
+      call(SIZE, 1, fcb()[:1] + b"ORDERS  DA?" + fcb()[12:]), call(SIZE, 1, b"\2" + fcb()[1:])],
      lines("0 1 35 255 0", "1 1 22 0 0", "2 2 35 0 0", "3 1 35 255 9", "4 1 35 255 4", "end 5"), MADE_4)
+# Entries 0, 1 and 5 are ORDERS.DAT's extents 0, 1 and 32, entry 6 is user 3's: places 0, 1, 1 and 2 of their records.
+SEARCHED = written(blank(4), (0, entry()), (32, entry(ex=1)), (5 * 32, entry(module=1)), (6 * 32, b"\3" + entry()[1:]))
+Case("functions 17 and 18", SEARCHED,
+     [start(users=bytes([0, 0, 3]) + bytes(13)),
+      call(NEXT, 1, pattern()), call(FIRST, 1, pattern()), call(NEXT, 1, pattern()), call(FIRST, 2, pattern()),
+      call(NEXT, 1, pattern()), call(NEXT, 1, pattern()), call(NEXT, 1, pattern()), call(NEXT, 2, pattern())],
+     lines("0 1 18 255 0", "1 1 17 0 0", "2 1 18 1 0", "3 2 17 2 0", "4 1 18 1 0", "5 1 18 255 0", "6 1 18 255 0",
+           "7 2 18 255 0", "end 8"), SEARCHED)
+Case("byte 12 of a search", SEARCHED,
+     [start(), call(FIRST, 1, pattern(extents=b"\0")), call(NEXT, 1, pattern(extents=b"\0")), call(NEXT, 1, pattern()),
+      call(FIRST, 1, pattern(extents=b"\1")), call(NEXT, 1, pattern(extents=b"\xbf")),
+      call(FIRST, 1, pattern(b"ORDERS  DAT")), call(NEXT, 1, pattern(b"ORDERS  DAT"))],
+     lines("0 1 17 0 0", "1 1 18 255 0", "2 1 18 255 0", "3 1 17 0 0", "4 1 18 255 0", "5 1 17 0 0", "6 1 18 1 0",
+           "end 7"), SEARCHED)
+Case("names of a search", SEARCHED,
+     [start(), call(FIRST, 1, pattern(b"?RDERS  DA?")), call(NEXT, 1, pattern(b"\xbfRD\xc5RS  DA\xbf")),
+      call(FIRST, 1, pattern(b"QRDERS  DA?")),
+      call(FIRST, 1, pattern(b" RDERS  DAT")), call(FIRST, 1, pattern(b"ORDERS  D*T")),
+      call(FIRST, 1, pattern(drive=1)),
+      call(FIRST, 1, pattern(drive=ord("?"))), call(NEXT, 1, pattern(drive=2)), call(NEXT, 1, pattern()),
+      call(NEXT, 16, pattern())],
+     lines("0 1 17 0 0", "1 1 18 1 0", "2 1 17 255 0", "3 1 17 255 0", "4 1 17 255 0", "5 1 17 0 0", "6 1 17 255 4",
+           "7 1 18 255 4", "8 1 18 1 0", "9 16 18 255 13", "end 10"), SEARCHED)
+Case("a search goes on after other calls", SEARCHED,
+     [start(), call(FIRST, 1, pattern()), call(FIRST, 2, pattern()), call(DELETE, 2, fcb()), call(NEXT, 1, pattern()),
+      call(MAKE, 2, fcb()), call(FIRST, 1, pattern()), call(FIRST, 2, pattern()), call(TERMINATE, 1, fcb()),
+      call(NEXT, 1, pattern()), call(NEXT, 2, pattern())],
+     lines("0 1 17 0 0", "1 2 17 0 0", "2 2 19 0 0", "3 1 18 255 0", "4 2 22 0 0", "5 1 17 0 0", "6 2 17 0 0",
+           "7 1 143 0 0", "8 1 18 255 0", "9 2 18 255 0", "end 10"),
+     written(SEARCHED, (32, b"\xe5"), (5 * 32, b"\xe5")))
 Case("byte 35 of 4", blank(4),
-     [start(), call(MAKE, 1, fcb()), call(READ, 1, fcb(0x40000)), call(WRITE, 1, fcb(0x40000)), call(WRITE_ZEROS, 1, fcb(0x40000)),
-      call(LOCK, 1, fcb(0x40000))],
+     [start(), call(MAKE, 1, fcb()), call(READ, 1, fcb(0x40000)), call(WRITE, 1, fcb(0x40000)),
+      call(WRITE_ZEROS, 1, fcb(0x40000)), call(LOCK, 1, fcb(0x40000))],
      lines("0 1 22 0 0", "1 1 33 6 0", "2 1 34 6 0", "3 1 40 6 0", "4 1 42 6 0", "end 5"), MADE_4)
 Case("counts 1, 16, 0, 17", blank(4),
      [start(), *[call(FREE_SPACE, 1, fcb(), count=c) for c in (1, 16, 0, 17)]],
      lines("0 1 46 0 0", "1 1 46 0 0", "2 1 46 255 13", "3 1 46 255 13", "end 4"), blank(4))
 # three limits that differ, and counts that do: each number has its own place in its record
 Case("unequal limits and counts", blank(4),
-     [start(6, 1, 4), call(MAKE, 1, fcb()), call(WRITE, 1, fcb(0), records(0x11), count=3), call(LOCK, 1, fcb(0), dma(0), count=4),
+     [start(6, 1, 4), call(MAKE, 1, fcb()), call(WRITE, 1, fcb(0), records(0x11), count=3),
+      call(LOCK, 1, fcb(0), dma(0), count=4),
       call(LOCK, 1, fcb(4), dma(0)), call(MAKE, 1, fcb()[:1] + b"LINES   DAT" + fcb()[12:])],
      lines("0 1 22 0 0", "1 1 34 0 0", "2 1 42 0 0", "3 1 42 12 0", "4 1 22 255 10", "end 5"),
      written(blank(4), (0, entry(count=3, blocks=[(0, 2)])), (2048, record(0x11) + record(0x12) + record(0x13))))
@@ -248,17 +287,19 @@ Case("users to 15", blank(4), [start(users=bytes(range(16)))], lines("end 0"), b
 Case("a user of 16", blank(4), [start(users=bytes(15) + bytes([16]))], lines("bad record 0"), None)
 Case("n of 3", blank(3), [start(), call(MAKE, 1, fcb())], lines("0 1 22 0 0", "end 1"), written(blank(3), (0, entry())))
 Case("n of 2", blank(2), [start(), call(MAKE, 1, fcb())], lines("0 1 22 255 1", "end 1"), blank(2))
-Case("a byte too many", blank(4) + b"\0", [start(), call(MAKE, 1, fcb())], lines("0 1 22 255 1", "end 1"), blank(4) + b"\0")
+Case("a byte too many", blank(4) + b"\0", [start(), call(MAKE, 1, fcb())], lines("0 1 22 255 1", "end 1"),
+     blank(4) + b"\0")
 
-# several records in one call: H tells sixteen times the records done where another was refused behind them, else nothing.
-# On n of 4 the blocks 2 and 3 are free: 2 goes to the records 0 to 7, 3 to 8 to 15, and the count of the extent is 16.
+# several records in one call: H tells sixteen times the records done where another was refused behind them, else
+# nothing. On n of 4 the blocks 2 and 3 are free: 2 goes to the records 0 to 7, 3 to 8 to 15, and the count of the
+# extent is 16.
 SIXTEEN_OUT = written(blank(4), (0, entry(count=16, blocks=[(0, 2), (1, 3)])), (2 * 1024, records(0x10)))
 Case("sixteen records written and read", blank(4),
      [start(), call(MAKE, 1, fcb()), call(WRITE, 1, fcb(), records(0x10), count=16), call(READ, 1, fcb(), count=16)],
      lines("0 1 22 0 0", "1 1 34 0 0", "2 1 33 0 0", "end 3"), SIXTEEN_OUT)
-# On n of 3 only block 2 is free. Records 5, 6 and 7 take it and are stored; record 8 finds none, 2/0 after three: H is 48.
-# The count is 8, by record 7. Function 34 leaves the five records before them as they were, 40 clears them: record 5 took
-# the block; 6 and 7 found it there and cleared nothing.
+# On n of 3 only block 2 is free. Records 5, 6 and 7 take it and are stored; record 8 finds none, 2/0 after three: H is
+# 48. The count is 8, by record 7. Function 34 leaves the five records before them as they were, 40 clears them: record
+# 5 took the block; 6 and 7 found it there and cleared nothing.
 THREE = b"".join(record(0x20 + i) for i in range(3))
 THREE_OUT = written(blank(3), (0, entry(count=8, blocks=[(0, 2)])), (2 * 1024 + 5 * 128, THREE))
 Case("a write that stops after three records", blank(3),
@@ -269,15 +310,17 @@ Case("a write with zeros that stops after three records", blank(3),
      lines("0 1 22 0 0", "1 1 40 2 48", "end 2"), written(THREE_OUT, (2 * 1024, bytes(5 * 128))))
 # Record 8 has no block there: 1/0 after three records, seven, one and none.
 Case("reads that stop after some records", THREE_OUT,
-     [start(), call(OPEN, 1, fcb()), call(READ, 1, fcb(5), count=16), call(READ, 1, fcb(1), count=8), call(READ, 1, fcb(7), count=2),
-      call(READ, 1, fcb(8), count=16), call(READ, 1, fcb(5), count=3)],
+     [start(), call(OPEN, 1, fcb()), call(READ, 1, fcb(5), count=16), call(READ, 1, fcb(1), count=8),
+      call(READ, 1, fcb(7), count=2), call(READ, 1, fcb(8), count=16), call(READ, 1, fcb(5), count=3)],
      lines("0 1 15 0 0", "1 1 33 1 48", "2 1 33 1 112", "3 1 33 1 16", "4 1 33 1 0", "5 1 33 0 0", "end 6"), THREE_OUT)
-# Process 1 holds record 0 (S3): its own run goes on, that of process 2 is refused at once, and one behind the lock is not.
+# Process 1 holds record 0 (S3): its own run goes on, that of process 2 is refused at once, and one behind the lock is
+# not.
 Case("runs beside a lock", blank(4),
-     [start(), *SESSION[:4], call(WRITE, 1, fcb(0), records(0x30), count=4), call(WRITE, 2, fcb(0), records(0x40), count=4),
-      call(WRITE, 2, fcb(1), records(0x50), count=2)],
+     [start(), *SESSION[:4], call(WRITE, 1, fcb(0), records(0x30), count=4),
+      call(WRITE, 2, fcb(0), records(0x40), count=4), call(WRITE, 2, fcb(1), records(0x50), count=2)],
      lines("0 1 22 0 0", "1 2 15 0 0", "2 1 34 0 0", "3 1 42 0 0", "4 1 34 0 0", "5 2 34 8 0", "6 2 34 0 0", "end 7"),
-     written(blank(4), (0, entry(count=4, blocks=[(0, 2)])), (2 * 1024, record(0x30) + record(0x50) + record(0x51) + record(0x33))))
+     written(blank(4), (0, entry(count=4, blocks=[(0, 2)])),
+             (2 * 1024, record(0x30) + record(0x50) + record(0x51) + record(0x33))))
 # The lock is on record 3: three records before it are stored, and none behind it.
 Case("a write that stops at a lock after three records", blank(4),
      [start(), *SESSION[:2], call(WRITE, 1, fcb(0), records(0x30), count=8), call(LOCK, 1, fcb(3), dma(0)),
@@ -287,16 +330,18 @@ Case("a write that stops at a lock after three records", blank(4),
              (2 * 1024, b"".join(record(b) for b in (0x40, 0x41, 0x42, 0x33, 0x34, 0x35, 0x36, 0x37)))))
 # The last two records there can be, and then byte 35 of 4: 6/0 after two. 42 refuses such a run whole.
 Case("runs over record 262,143", blank(3),
-     [start(), call(MAKE, 1, fcb()), call(WRITE, 1, fcb(LAST - 1), records(0x60), count=16), call(READ, 1, fcb(LAST - 1), count=16),
+     [start(), call(MAKE, 1, fcb()), call(WRITE, 1, fcb(LAST - 1), records(0x60), count=16),
+      call(READ, 1, fcb(LAST - 1), count=16),
       call(READ, 1, fcb(LAST - 1), count=2), call(LOCK, 1, fcb(LAST - 1), count=3)],
      lines("0 1 22 0 0", "1 1 34 6 32", "2 1 33 6 32", "3 1 33 0 0", "4 1 42 6 0", "end 5"),
      written(blank(3), (0, entry()), (32, entry(ex=31, module=63, count=128, blocks=[(15, 2)])),
              (2 * 1024 + 6 * 128, record(0x60) + record(0x61))))
-# Records 126 and 127 are of extent 0 and take block 2, 128 and 129 of extent 1, which takes entry 1 and block 3. Of sixteen from
-# 126 on ten can be read, to the end of block 3. Record 4,094 would need extent 31, for which there is an entry but no block.
+# Records 126 and 127 are of extent 0 and take block 2, 128 and 129 of extent 1, which takes entry 1 and block 3. Of
+# sixteen from 126 on ten can be read, to the end of block 3. Record 4,094 would need extent 31, for which there is an
+# entry but no block.
 Case("a run over the end of an extent", blank(4),
-     [start(), call(MAKE, 1, fcb()), call(WRITE, 1, fcb(126), records(0x70), count=4), call(READ, 1, fcb(126), count=16),
-      call(WRITE, 1, fcb(4094), records(0x70), count=4)],
+     [start(), call(MAKE, 1, fcb()), call(WRITE, 1, fcb(126), records(0x70), count=4),
+      call(READ, 1, fcb(126), count=16), call(WRITE, 1, fcb(4094), records(0x70), count=4)],
      lines("0 1 22 0 0", "1 1 34 0 0", "2 1 33 1 160", "3 1 34 2 0", "end 4"),
      written(blank(4), (0, entry(count=128, blocks=[(15, 2)])), (32, entry(ex=1, count=2, blocks=[(0, 3)])),
              (2 * 1024 + 6 * 128, record(0x70) + record(0x71) + record(0x72) + record(0x73))))
@@ -305,7 +350,8 @@ Case("runs refused before any record", SIXTEEN_OUT,
      [start(), call(READ, 1, fcb(), count=16), call(WRITE, 1, fcb(), count=16), call(OPEN, 1, read_only(fcb())),
       call(WRITE, 1, fcb(), count=16), call(WRITE_ZEROS, 1, fcb(), count=16), call(READ, 1, fcb(), count=16),
       call(READ, 1, fcb(), count=17)],
-     lines("0 1 33 10 0", "1 1 34 10 0", "2 1 15 0 0", "3 1 34 255 3", "4 1 40 255 3", "5 1 33 0 0", "6 1 33 255 13", "end 7"),
+     lines("0 1 33 10 0", "1 1 34 10 0", "2 1 15 0 0", "3 1 34 255 3", "4 1 40 255 3", "5 1 33 0 0", "6 1 33 255 13",
+           "end 7"),
      SIXTEEN_OUT)
 
 # refused calls are calls
@@ -318,32 +364,36 @@ Case("empty input", blank(4), [], lines("bad record 0"), None)
 Case("only a start record", blank(4), [start()], lines("end 0"), blank(4))
 Case("start record cut by a byte", blank(4), [start()[:-1]], lines("bad record 0"), None)
 Case("one byte of a start record", blank(4), [start()[:1]], lines("bad record 0"), None)
-Case("first mark of the start wrong", blank(4), [b"\x4E" + start()[1:], call(MAKE, 1, fcb())], lines("bad record 0"), None)
-Case("second mark of the start wrong", blank(4), [b"\x4D\x43" + start()[2:], call(MAKE, 1, fcb())], lines("bad record 0"), None)
+Case("first mark of the start wrong", blank(4), [b"\x4E" + start()[1:], call(MAKE, 1, fcb())], lines("bad record 0"),
+     None)
+Case("second mark of the start wrong", blank(4), [b"\x4D\x43" + start()[2:], call(MAKE, 1, fcb())],
+     lines("bad record 0"), None)
 Case("call record cut to 2,088 bytes", blank(4), [start(), call(MAKE, 1, fcb())[:2088]], lines("bad record 1"), None)
-# A DMA of 256 bytes, as it was when a call was for one record: seven such records are one that is cut, eight are a whole
-# one, an accepted 46 with the others in its DMA, and one that is cut.
+# A DMA of 256 bytes, as it was when a call was for one record: seven such records are one that is cut, eight are a
+# whole one, an accepted 46 with the others in its DMA, and one that is cut.
 OLD_46 = call(FREE_SPACE, 1, fcb())[:5 + 36 + 256]
 Case("a call record of the old length", blank(4), [start(), OLD_46], lines("bad record 1"), None, old=b"older")
 Case("seven call records of the old length", blank(4), [start(), OLD_46 * 7], lines("bad record 1"), None)
 Case("eight call records of the old length", blank(4), [start(), OLD_46 * 8], lines("0 1 46 0 0", "bad record 2"), None)
 Case("a call record of the old length after a whole one", blank(4), [start(), SESSION[0], OLD_46],
      lines("0 1 22 0 0", "bad record 2"), None)
-Case("one byte left over", blank(4), [start(), call(MAKE, 1, fcb()), b"\x4D"], lines("0 1 22 0 0", "bad record 2"), None)
+Case("one byte left over", blank(4), [start(), call(MAKE, 1, fcb()), b"\x4D"], lines("0 1 22 0 0", "bad record 2"),
+     None)
 Case("first mark wrong after two calls", blank(4),
      [start(), *SESSION[:2], b"\x00" + SESSION[2][1:], SESSION[3]],
      lines("0 1 22 0 0", "1 2 15 0 0", "bad record 3"), None, old=b"older")
 Case("second mark wrong after two calls", blank(4),
      [start(), *SESSION[:2], b"\x4D\x44" + SESSION[2][2:], SESSION[3]],
      lines("0 1 22 0 0", "1 2 15 0 0", "bad record 3"), None, old=b"older")
-Case("a second start record", blank(4), [start(), SESSION[0], start(), *SESSION[1:3]], lines("0 1 22 0 0", "bad record 2"), None,
-     old=b"older")
+Case("a second start record", blank(4), [start(), SESSION[0], start(), *SESSION[1:3]],
+     lines("0 1 22 0 0", "bad record 2"), None, old=b"older")
 Case("ten calls and a bad mark", blank(4), [start(), *[call(FREE_SPACE, 1, fcb())] * 10, bytes(2089)],
      lines(*["%d 1 46 0 0" % k for k in range(10)], "bad record 11"), None)
 Case("bad start over an older DISK.OUT", blank(4), [start(0)], lines("bad record 0"), None, old=b"older")
 
 # the image
-Case("image of 65,537 bytes", blank(64) + b"\0", [start(), call(MAKE, 1, fcb())], "image too long\n", None, old=b"older")
+Case("image of 65,537 bytes", blank(64) + b"\0", [start(), call(MAKE, 1, fcb())], "image too long\n", None,
+     old=b"older")
 Case("image of 200,000 bytes", bytes(200000), [], "image too long\n", None)
 Case("image of 65,536 bytes", blank(64), [start(), call(MAKE, 1, fcb())], lines("0 1 22 0 0", "end 1"),
      written(blank(64), (0, entry())))
@@ -363,8 +413,8 @@ Case("DISK.OUT cannot be written", blank(4), [start(), *SESSION[:7]], SESSION_6,
      error="DISK.OUT: Is a directory\n", ours=True)
 Case("standard output cannot be written", blank(4), [start(), *SESSION[:7]], "", None, into="/dev/full",
      error="standard output: No space left on device\n", ours=True)
-Case("a read of standard input fails", blank(4), [start(), SESSION[0]], lines("0 1 22 0 0", "bad record 2"), None, fails=True,
-     error="standard input: Input/output error\n", ours=True)
+Case("a read of standard input fails", blank(4), [start(), SESSION[0]], lines("0 1 22 0 0", "bad record 2"), None,
+     fails=True, error="standard input: Input/output error\n", ours=True)
 
 
 # ---- running
@@ -436,7 +486,8 @@ def run(case, command, folder):
         os.close(source)
     if case.into:
         target.close()
-    return got.get("out", b"").decode("latin-1"), got.get("err", b"").decode("latin-1"), found(os.path.join(folder, "DISK.OUT"))
+    printed, error = (got.get(name, b"").decode("latin-1") for name in ("out", "err"))
+    return printed, error, found(os.path.join(folder, "DISK.OUT"))
 
 
 def shown(text):
@@ -475,7 +526,8 @@ def check(case, command):
 def write_stored(folder):
     """The program crate's own run."""
     os.makedirs(os.path.join(folder, "data"), exist_ok=True)
-    for name, data in (("stdin", b"".join([start(), *SESSION[:7]])), ("stdout", SESSION_6.encode()), ("data/DISK.IMG", blank(4))):
+    for name, data in (("stdin", b"".join([start(), *SESSION[:7]])), ("stdout", SESSION_6.encode()),
+                       ("data/DISK.IMG", blank(4))):
         with open(os.path.join(folder, name), "wb") as f:
             f.write(data)
 

@@ -32,7 +32,8 @@ build_wrong() { # NUMBER FILE FUNCTIONS..
     shift 2
     for function in "$@"; do renamed+=("-Dmpm_$function=wrong_$function"); done
     "${CC:-cc}" "${flags[@]}" "${renamed[@]}" -c "$here/pipe.c" -o "$work/pipe.o"
-    "${CC:-cc}" "${flags[@]}" -DWRONG="$number" "$work/pipe.o" "$here/$file" "$archive" "${libraries[@]}" -o "$work/engine"
+    "${CC:-cc}" "${flags[@]}" -DWRONG="$number" "$work/pipe.o" "$here/$file" "$archive" "${libraries[@]}" \
+        -o "$work/engine"
 }
 
 cargo build --quiet --release --offline -j1 -p exports --manifest-path "$here/../Cargo.toml"
@@ -60,7 +61,7 @@ for wrong in 1 2 3 4 5 6 7 8 9; do
 done
 echo "pipe over nine wrong plain sides: all seen"
 
-for wrong in 1 2 3 4 5 6 7 8 9 10; do
+for wrong in {1..12}; do
     build_wrong "$wrong" wrong_kind.c call singly start check look
     must_differ "wrong about the kind $wrong" '^different'
     if grep -q 'mpm_singly has done otherwise' "$work/out"; then
@@ -68,7 +69,7 @@ for wrong in 1 2 3 4 5 6 7 8 9 10; do
         exit 1
     fi
 done
-echo "pipe over ten engines wrong about the kind: all seen"
+echo "pipe over twelve engines wrong about the kind: all seen"
 
 for wrong in 1 2 3 4 5; do
     build_wrong "$wrong" wrong_check.c check
@@ -112,8 +113,9 @@ compile_plain mpm.o mpm.c
 desk_is_same "the reference" "$archive"
 desk_is_same "plain C" "$work"/{small,large,call,mpm}.o
 
-"${CC:-cc}" "${flags[@]}" -Dmpm_salvage=wrong_salvage -Dmpm_pack=wrong_pack -Dmpm_same=wrong_same -c "$here/desk.c" -o "$work/desk.o"
-for wrong in 1 2 3 4 5 6 7 8 9 10 11 12 13 14 15 16 17 18 19; do
+"${CC:-cc}" "${flags[@]}" -Dmpm_salvage=wrong_salvage -Dmpm_pack=wrong_pack -Dmpm_same=wrong_same \
+    -c "$here/desk.c" -o "$work/desk.o"
+for wrong in {1..21}; do
     case $wrong in
         5) words='guards broken: 00000010' ;;
         6) words='guards broken: 00000001' ;;
@@ -121,7 +123,8 @@ for wrong in 1 2 3 4 5 6 7 8 9 10 11 12 13 14 15 16 17 18 19; do
         13) words='guards broken: 00000100' ;;
         *) words='^different' ;;
     esac
-    "${CC:-cc}" "${flags[@]}" -DWRONG="$wrong" "$work/desk.o" "$here/wrong_desk.c" "$archive" "${libraries[@]}" -o "$work/engine"
+    "${CC:-cc}" "${flags[@]}" -DWRONG="$wrong" "$work/desk.o" "$here/wrong_desk.c" "$archive" "${libraries[@]}" \
+        -o "$work/engine"
     desk_differs "wrong desk $wrong" "$words"
 done
-echo "desk over 19 wrong desks: all seen"
+echo "desk over 21 wrong desks: all seen"

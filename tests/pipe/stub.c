@@ -38,12 +38,13 @@ u32 mpm_start(u32 kind, u32 capacity, u32 open_limit, u32 lock_limit, const u8 *
     u32 numbers[3] = {capacity, open_limit, lock_limit};
     for (u32 i = 0; i < 3; i++)
         if (numbers[i] < 1 || numbers[i] > 64) return REFUSED;
-    if (kind > 1 || users_len != 16 || list_len != 1299) return REFUSED;
+    if (kind > 1 || users_len != 16 || list_len != 1315) return REFUSED;
     for (u32 i = 0; i < 16; i++)
         if (users[i] > 15) return REFUSED;
     for (size i = 0; i < list_len; i++) list[i] = 0;
     for (u32 i = 0; i < 3; i++) list[i] = (u8)numbers[i];
     for (u32 i = 0; i < 16; i++) list[3 + i] = users[i];
+    for (u32 i = 0; i < 16; i++) list[1299 + i] = kind == 1 ? 128 : 64;
     return 0;
 }
 

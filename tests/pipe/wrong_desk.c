@@ -20,12 +20,14 @@ typedef __SIZE_TYPE__ size;
 #define CHANGES_THE_IMAGE 12
 #define WRITES_BEHIND_THE_PACKED 13
 #define PACKS_WHILE_OPEN 14
+#define ENDS_SEARCHES 15
+#define POSITIONS_FREE 16
 /* Of two images: */
-#define ALL_THE_SAME 15
-#define LENGTHS_COUNT 16
-#define SECOND_FIRST 17
-#define FIRST_RECORD_FREE 18
-#define ATTRIBUTES_FREE 19
+#define ALL_THE_SAME 17
+#define LENGTHS_COUNT 18
+#define SECOND_FIRST 19
+#define FIRST_RECORD_FREE 20
+#define ATTRIBUTES_FREE 21
 
 #ifndef WRONG
 #define WRONG DOES_NOTHING
@@ -33,7 +35,8 @@ typedef __SIZE_TYPE__ size;
 
 enum { ENTRY = 32, EMPTIED = 255, EMPTY = 0xE5 };
 enum { BAD_FIRST = 1, BAD_SECOND = 2, DIFFERENT = 3 };
-enum { LIST = 1299, HEAD = 19, IN_USE = 255 + 256 * 5, REFUSED = 255 + 256 * 13 };
+enum { LIST = 1315, HEAD = 19, POSITIONS = 1299 };
+enum { IN_USE = 255 + 256 * 5, BAD_LIST = 255 + 256 * 12, REFUSED = 255 + 256 * 13 };
 
 u32 mpm_salvage(u32 kind, u8 *image, size image_len, u8 *report, size report_len);
 u32 wrong_salvage(u32 kind, u8 *image, size image_len, u8 *report, size report_len);
@@ -71,8 +74,8 @@ u32 wrong_salvage(u32 kind, u8 *image, size image_len, u8 *report, size report_l
     return answer;
 }
 
-static void spoil_packed(u8 *image, u8 *packed, size packed_len) {
-    (void)image, (void)packed, (void)packed_len;
+static void spoil_packed(u32 kind, u8 *image, u8 *list, u8 *packed, size packed_len) {
+    (void)kind, (void)image, (void)list, (void)packed, (void)packed_len;
 #if WRONG == LAST_BLOCK_LEFT
     packed[packed_len - 1] = 0x55;
 #elif WRONG == EMPTY_IN_BYTE_0
@@ -82,13 +85,15 @@ static void spoil_packed(u8 *image, u8 *packed, size packed_len) {
     for (size i = 0; i < 2048; i++) image[i] = packed[i];
 #elif WRONG == WRITES_BEHIND_THE_PACKED
     packed[packed_len] = 0;
+#elif WRONG == ENDS_SEARCHES
+    for (size i = POSITIONS; i < LIST; i++) list[i] = kind == 0 ? 64 : 128;
 #endif
 }
 
-/* The list without its items. */
-static const u8 *without_items(const u8 *list) {
+/* The list with zeros from one byte on to another: no items, or every search at its beginning. */
+static const u8 *cleared(const u8 *list, size from, size to) {
     static u8 copy[LIST];
-    for (size i = 0; i < LIST; i++) copy[i] = i < HEAD ? list[i] : 0;
+    for (size i = 0; i < LIST; i++) copy[i] = i >= from && i < to ? 0 : list[i];
     return copy;
 }
 
@@ -97,8 +102,10 @@ u32 wrong_pack(u32 kind, const u8 *image, size image_len, const u8 *list, size l
     if (WRONG == PACKS_NOTHING) return image_len == packed_len && list_len == LIST ? 0 : (u32)REFUSED;
     u32 answer = mpm_pack(kind, image, image_len, list, list_len, packed, packed_len);
     if (answer == IN_USE && WRONG == PACKS_WHILE_OPEN)
-        answer = mpm_pack(kind, image, image_len, without_items(list), list_len, packed, packed_len);
-    if (answer == 0) spoil_packed((u8 *)image, packed, packed_len);
+        answer = mpm_pack(kind, image, image_len, cleared(list, HEAD, POSITIONS), list_len, packed, packed_len);
+    if (answer == BAD_LIST && WRONG == POSITIONS_FREE)
+        answer = mpm_pack(kind, image, image_len, cleared(list, POSITIONS, LIST), list_len, packed, packed_len);
+    if (answer == 0) spoil_packed(kind, (u8 *)image, (u8 *)list, packed, packed_len);
     return answer;
 }
 
@@ -125,8 +132,8 @@ u32 wrong_same(u32 kind, const u8 *first, size first_len, const u8 *second, size
         return answer == BAD_FIRST && mpm_same(kind, second, second_len, second, second_len) != 0 ? BAD_SECOND : answer;
     case FIRST_RECORD_FREE: case ATTRIBUTES_FREE:
         if (answer != DIFFERENT) return answer;
-        return mpm_same(kind, blurred(one, first, first_len, block), first_len, blurred(other, second, second_len, block),
-                        second_len);
+        return mpm_same(kind, blurred(one, first, first_len, block), first_len,
+                        blurred(other, second, second_len, block), second_len);
     default: return answer;
     }
 }

@@ -16,11 +16,14 @@ typedef __SIZE_TYPE__ size;
 #define STARTS_FOR_AN_UNKNOWN_KIND 8
 #define CHECKS_AN_UNKNOWN_KIND 9
 #define SPOILS_A_FAR_BLOCK 10
+#define STARTS_SEARCHES_AT_64 11
+#define ENDS_SEARCHES_AT_64 12
 
 #ifndef WRONG
 #define WRONG TAKES_AN_UNKNOWN_KIND_AS_1
 #endif
 
+enum { SEARCH_FIRST = 17, SEARCH_NEXT = 18, NO_MATCH = 255, POSITIONS = 1299 };
 enum { WRITE_ZEROS = 40, FREE_SPACE = 46, BLOCK = 2048, RECORD = 128, LEAST = 257, MOST = 4096 };
 
 typedef u32 call(u32 kind, u32 function, u32 process, u32 count, u8 *fcb, size fcb_len, u8 *dma,
@@ -67,6 +70,14 @@ static void spoil_zeros(u8 *image, size image_len) {
 }
 #endif
 
+#if WRONG == ENDS_SEARCHES_AT_64
+static void end_search_at_64(u32 kind, u32 function, u32 process, u32 answer, u8 *list) {
+    if (kind != 1 || (function != SEARCH_FIRST && function != SEARCH_NEXT)) return;
+    if (answer == NO_MATCH) list[POSITIONS + process] = 64;
+}
+#endif
+
+/* Of 40 and 46, of which 0 is the only answer that is no refusal. */
 static void do_wrong(u32 kind, u32 function, u32 answer, u8 *dma, u8 *image, size image_len) {
     (void)dma, (void)image, (void)image_len;
     if (kind != 1 || answer != 0) return;
@@ -89,6 +100,9 @@ static u32 make(call *real, u32 kind, u32 function, u32 process, u32 count, u8 *
     u32 answer = real(taken_kind(kind, image_len), function, process, count, fcb, fcb_len, dma,
                       dma_len, list, list_len, image, length);
     do_wrong(kind, function, answer, dma, image, length);
+#if WRONG == ENDS_SEARCHES_AT_64
+    end_search_at_64(kind, function, process, answer, list);
+#endif
     return answer;
 }
 
@@ -107,7 +121,9 @@ u32 wrong_singly(u32 kind, u32 function, u32 process, u32 count, u8 *fcb, size f
 u32 wrong_start(u32 kind, u32 capacity, u32 open_limit, u32 lock_limit, const u8 *users,
                 size users_len, u8 *list, size list_len) {
 #if WRONG == STARTS_FOR_AN_UNKNOWN_KIND
-    kind = 0;
+    if (kind > 1) kind = 0;
+#elif WRONG == STARTS_SEARCHES_AT_64
+    if (kind == 1) kind = 0;
 #endif
     return mpm_start(kind, capacity, open_limit, lock_limit, users, users_len, list, list_len);
 }

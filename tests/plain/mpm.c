@@ -56,6 +56,7 @@ uint32_t mpm_start(uint32_t kind, uint32_t capacity, uint32_t open_limit, uint32
     list[MPM_LIST_OPEN_LIMIT] = (uint8_t)open_limit;
     list[MPM_LIST_LOCK_LIMIT] = (uint8_t)lock_limit;
     memcpy(list + MPM_LIST_USERS, users, users_len);
+    memset(list + MPM_LIST_POSITIONS, (int)mpm_entries(kind), MPM_PROCESSES);
     return MPM_OK;
 }
 

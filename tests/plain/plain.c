@@ -1,4 +1,4 @@
-/* The fourteen calls in plain C: the checks and the work of the engine, step by step the same, as one would write them
+/* The sixteen calls in plain C: the checks and the work of the engine, step by step the same, as one would write them
    by hand. Structs are passed by address. A run of records has its checks made once and each extent found once.
    It is compiled once for each kind of drive, KIND being SMALL or LARGE, so that the sizes are constants.
    plain_call.c has the choice. */
@@ -16,6 +16,7 @@ enum { ENTRIES = OF(KIND, ENTRIES), MAP = OF(KIND, NUMBERS), WIDTH = OF(KIND, NU
 enum { BLOCK = OF(KIND, BLOCK_LEN), BLOCK_RECORDS = OF(KIND, BLOCK_RECORDS) };
 enum { MIN_BLOCKS = OF(KIND, MIN_BLOCKS), MAX_BLOCKS = OF(KIND, MAX_BLOCKS) };
 enum { ENTRY = 32, MAP_AT = 16, PLACES = 64, PLACE = 20, HEAD = 19, NAME = 11, LAST_RECORD = 262143 };
+enum { POSITIONS = HEAD + PLACES * PLACE };
 enum { EMPTY, OPEN, LOCK, NO_MARK }; /* what a place holds */
 enum { LOCKED, UNLOCKED, READ_ONLY };
 
@@ -37,6 +38,7 @@ struct locks {
     uint8_t open_limit;
     uint8_t lock_limit;
     uint8_t users[MPM_PROCESSES];
+    uint8_t positions[MPM_PROCESSES]; /* the entry at which each process's search goes on */
     struct item items[PLACES];
 };
 
@@ -322,6 +324,7 @@ static void unpack(struct locks *l, const uint8_t *list) {
     l->open_limit = list[1];
     l->lock_limit = list[2];
     memcpy(l->users, list + 3, MPM_PROCESSES);
+    memcpy(l->positions, list + POSITIONS, MPM_PROCESSES);
     for (size_t i = 0; i < PLACES; i++) {
         const uint8_t *place = list + HEAD + PLACE * i;
         struct item *it = &l->items[i];
@@ -339,6 +342,7 @@ static void pack(const struct locks *l, uint8_t *list) {
     list[1] = l->open_limit;
     list[2] = l->lock_limit;
     memcpy(list + 3, l->users, MPM_PROCESSES);
+    memcpy(list + POSITIONS, l->positions, MPM_PROCESSES);
     for (size_t i = 0; i < PLACES; i++) {
         uint8_t *place = list + HEAD + PLACE * i;
         const struct item *it = &l->items[i];
@@ -451,7 +455,7 @@ static bool all_keep(const struct locks *l, uint8_t kind, uint8_t most) {
 static bool sound_locks(const struct drive *d, const struct locks *l) {
     if (!is_limit(l->capacity) || !is_limit(l->open_limit) || !is_limit(l->lock_limit)) return false;
     for (size_t p = 0; p < MPM_PROCESSES; p++)
-        if (l->users[p] > 15) return false;
+        if (l->users[p] > 15 || l->positions[p] > ENTRIES) return false;
     return all_good(d, l) && all_apart(l) && all_keep(l, OPEN, l->open_limit) && all_keep(l, LOCK, l->lock_limit);
 }
 
@@ -663,6 +667,29 @@ static uint32_t file_size(struct job *j) {
     return MPM_OK;
 }
 
+/* ---- Searching ---- */
+
+static bool is_asked(const uint8_t *fcb, const uint8_t *name) {
+    for (size_t k = 0; k < NAME; k++) {
+        uint8_t asked = fcb[1 + k] & 0x7F;
+        if (asked != '?' && asked != (name[k] & 0x7F)) return false;
+    }
+    return true;
+}
+
+static bool is_found(const struct job *j, const uint8_t *entry) {
+    if (entry[0] == MPM_EMPTY || entry[0] != j->file.user) return false;
+    return (j->fcb[12] == '?' || extent_at(entry) == 0) && is_asked(j->fcb, entry + 1);
+}
+
+static uint32_t search(struct job *j, size_t e) {
+    while (e < ENTRIES && !is_found(j, entry_at(&j->drive, e))) e++;
+    j->list[POSITIONS + j->process] = (uint8_t)(e < ENTRIES ? e + 1 : ENTRIES);
+    if (e == ENTRIES) return MPM_NO_MATCH;
+    memcpy(j->dma, entry_at(&j->drive, e - e % 4), 128);
+    return MPM_FOUND((uint32_t)e % 4);
+}
+
 static void rename_entry(uint8_t *entry, const uint8_t *name) {
     for (size_t k = 0; k < NAME; k++) entry[1 + k] = (uint8_t)((entry[1 + k] & 0x80) | name[k]);
 }
@@ -867,6 +894,7 @@ static uint32_t unlock_records(struct job *j) {
 static uint32_t terminate(struct job *j) {
     for (size_t i = 0; i < PLACES; i++)
         if (j->locks.items[i].process == j->process) take_away(&j->locks.items[i]);
+    j->locks.positions[j->process] = ENTRIES;
     pack(&j->locks, j->list);
     return MPM_OK;
 }
@@ -877,6 +905,8 @@ static bool is_known(uint32_t function) {
     switch (function) {
     case MPM_FN_OPEN:
     case MPM_FN_CLOSE:
+    case MPM_FN_SEARCH_FIRST:
+    case MPM_FN_SEARCH_NEXT:
     case MPM_FN_DELETE:
     case MPM_FN_MAKE:
     case MPM_FN_RENAME:
@@ -903,6 +933,10 @@ static uint32_t serve(uint32_t function, struct job *j) {
         return open_file(j);
     case MPM_FN_CLOSE:
         return close_file(j);
+    case MPM_FN_SEARCH_FIRST:
+        return search(j, 0);
+    case MPM_FN_SEARCH_NEXT:
+        return search(j, j->locks.positions[j->process]);
     case MPM_FN_DELETE:
         return delete_file(j);
     case MPM_FN_MAKE:

@@ -145,8 +145,8 @@ impl Pair {
         })
     }
 
-    /// Now / before. The two of a round share its moment, so the median of their ratios is steadier than the ratio of the
-    /// quickest, which may be of different moments.
+    /// Now / before. The two of a round share its moment, so the median of their ratios is steadier than the ratio of
+    /// the quickest, which may be of different moments.
     fn ratio(&self) -> f64 {
         let mut ratios: Vec<f64> = self.rounds.iter().map(|[before, now]| now / before).collect();
         ratios.sort_by(f64::total_cmp);

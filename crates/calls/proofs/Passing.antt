@@ -14,7 +14,7 @@ use Rattle.words.proofs.Tests.{either, equal?}
 use Rattle.words.proofs.Tables.{zero-none}
 use Rattle.words.proofs.Sets.{row-yes, row-no}
 use Rattle.rules.specs.declared.routine.Routine.{Routine}
-use Rattle.rules.specs.declared.routine.Routine.the-variants.{Open, Close, Delete, Make, Rename, Read, Write, Size, WriteZeros, TestWrite, Lock, Unlock, FreeSpace, Terminate}
+use Rattle.rules.specs.declared.routine.Routine.the-variants.{Open, Close, SearchFirst, SearchNext, Delete, Make, Rename, Read, Write, Size, WriteZeros, TestWrite, Lock, Unlock, FreeSpace, Terminate}
 use Rattle.rules.specs.declared.routine.Chosen.{Chosen}
 use Rattle.rules.specs.declared.routine.Chosen.the-variants.{Call, Unknown}
 use Rattle.rules.specs.Serves.{Buffers, Did, buffers, outcome, functionOf, chosen, isUnknown}
@@ -54,15 +54,18 @@ key n m j k rest g h next =
 pub chosen-number : (n : ℕ) (k : Routine) → chosen n ≡ Call k → n ≡ functionOf k
 unfolding chosen functionOf
 chosen-number n k h =
-    key n 15 Open k _ refl h (λ h. key n 16 Close k _ refl h (λ h. key n 19 Delete k _ refl h (λ h. key n 22 Make k _ refl h (λ h.
-    key n 23 Rename k _ refl h (λ h. key n 33 Read k _ refl h (λ h. key n 34 Write k _ refl h (λ h. key n 35 Size k _ refl h (λ h. key n 40 WriteZeros k _ refl h (λ h.
-    key n 41 TestWrite k _ refl h (λ h. key n 42 Lock k _ refl h (λ h. key n 43 Unlock k _ refl h (λ h. key n 46 FreeSpace k _ refl h (λ h.
-    key n 143 Terminate k _ refl h (λ (h : Unknown ≡ Call k). let z : _≡_ {A = ℕ} 0 1 = cc in absurd (omega arith)))))))))))))))
+    key n 15 Open k _ refl h (λ h. key n 16 Close k _ refl h (λ h. key n 17 SearchFirst k _ refl h (λ h.
+    key n 18 SearchNext k _ refl h (λ h. key n 19 Delete k _ refl h (λ h. key n 22 Make k _ refl h (λ h.
+    key n 23 Rename k _ refl h (λ h. key n 33 Read k _ refl h (λ h. key n 34 Write k _ refl h (λ h. key n 35 Size k _ refl h (λ h.
+    key n 40 WriteZeros k _ refl h (λ h. key n 41 TestWrite k _ refl h (λ h. key n 42 Lock k _ refl h (λ h. key n 43 Unlock k _ refl h (λ h. key n 46 FreeSpace k _ refl h (λ h.
+    key n 143 Terminate k _ refl h (λ (h : Unknown ≡ Call k). let z : _≡_ {A = ℕ} 0 1 = cc in absurd (omega arith)))))))))))))))))
 
 drive-by : (k : Routine) → readsDrive k ≡ (not (eqb (functionOf k) 46) and not (eqb (functionOf k) 143))
 unfolding readsDrive functionOf _and_
 drive-by Open = refl
 drive-by Close = refl
+drive-by SearchFirst = refl
+drive-by SearchNext = refl
 drive-by Delete = refl
 drive-by Make = refl
 drive-by Rename = refl
@@ -88,7 +91,7 @@ module _ (n p c : ℕ) (fcb dma list : List ℕ) (r : Bool) (e : r ≡ badNumber
   pub fcb-there : length fcb ≡ 36
   fcb-there = numbers .fcb-long
 
-  pub list-there : length list ≡ 1299
+  pub list-there : length list ≡ 1315
   list-there = numbers .list-long
 
   module _ (kind : Kind) (image : List ℕ) (code : ℕ) (h : code ≡ firstOf (rowsInside kind n fcb list image)) where

@@ -6,7 +6,7 @@ use mathlib.Core.List.{List}
 use borrow.Author.Tests.{ne-eqb, not-true, not-false}
 use Rattle.words.specs.Tests.{_or_, _if_else_}
 use Rattle.rules.specs.declared.routine.Routine.{Routine}
-use Rattle.rules.specs.declared.routine.Routine.the-variants.{Open, Close, Delete, Make, Rename, Read, Write, Size, WriteZeros, TestWrite, Lock, Unlock, FreeSpace, Terminate}
+use Rattle.rules.specs.declared.routine.Routine.the-variants.{Open, Close, SearchFirst, SearchNext, Delete, Make, Rename, Read, Write, Size, WriteZeros, TestWrite, Lock, Unlock, FreeSpace, Terminate}
 use Rattle.rules.specs.declared.routine.Chosen.the-variants.{Call}
 use Rattle.rules.specs.Serves.{Buffers, Did}
 use Rattle.rules.specs.Codes.{badDrive}
@@ -22,6 +22,8 @@ any-count : (kind : Kind) (k : Routine) (p c d : ℕ) (b : Buffers) → usesCoun
 unfolding served asked askedBy rowsOf effectOf usesCount
 any-count kind Open p c d b h = refl
 any-count kind Close p c d b h = refl
+any-count kind SearchFirst p c d b h = refl
+any-count kind SearchNext p c d b h = refl
 any-count kind Delete p c d b h = refl
 any-count kind Make p c d b h = refl
 any-count kind Rename p c d b h = refl

@@ -1,12 +1,14 @@
 -- Which calls look at FCB byte 0, and which use count. Assumes nothing.
 use mathlib.Core.Bool.{Bool, true, false}
 use Rattle.rules.specs.declared.routine.Routine.{Routine}
-use Rattle.rules.specs.declared.routine.Routine.the-variants.{Open, Close, Delete, Make, Rename, Read, Write, Size, WriteZeros, TestWrite, Lock, Unlock, FreeSpace, Terminate}
+use Rattle.rules.specs.declared.routine.Routine.the-variants.{Open, Close, SearchFirst, SearchNext, Delete, Make, Rename, Read, Write, Size, WriteZeros, TestWrite, Lock, Unlock, FreeSpace, Terminate}
 
 -- (not for 46, 143)
 unfoldable pub readsDrive : Routine → Bool
 readsDrive Open = true
 readsDrive Close = true
+readsDrive SearchFirst = true
+readsDrive SearchNext = true
 readsDrive Delete = true
 readsDrive Make = true
 readsDrive Rename = true
@@ -24,6 +26,8 @@ readsDrive Terminate = false
 unfoldable pub usesCount : Routine → Bool
 usesCount Open = false
 usesCount Close = false
+usesCount SearchFirst = false
+usesCount SearchNext = false
 usesCount Delete = false
 usesCount Make = false
 usesCount Rename = false

@@ -10,6 +10,8 @@ pub fn routine_of(function: u32) -> Chosen
     match function {
         15 => Chosen::Call(Routine::Open),
         16 => Chosen::Call(Routine::Close),
+        17 => Chosen::Call(Routine::SearchFirst),
+        18 => Chosen::Call(Routine::SearchNext),
         19 => Chosen::Call(Routine::Delete),
         22 => Chosen::Call(Routine::Make),
         23 => Chosen::Call(Routine::Rename),

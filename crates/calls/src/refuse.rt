@@ -44,7 +44,7 @@ pub fn bad_numbers(
     if dma.len() != 2048 {
         return true;
     }
-    list.len() != 1299
+    list.len() != 1315
 }
 
 // FCB byte 0 is looked at by all calls but 46 and 143.
@@ -56,6 +56,8 @@ fn reads_drive(routine: Routine) -> bool
         Routine::Terminate => false,
         Routine::Open => true,
         Routine::Close => true,
+        Routine::SearchFirst => true,
+        Routine::SearchNext => true,
         Routine::Delete => true,
         Routine::Make => true,
         Routine::Rename => true,
@@ -90,7 +92,7 @@ pub fn refusal(
     list: &[u8],
     image: &[u8],
 ) -> u32
-    requires { ⌜ (chosen function ≡ Call routine) × (l ≡ unpack (now list)) × (length (now fcb) ≡ 36) × (length (now list) ≡ 1299) ⌝ }
+    requires { ⌜ (chosen function ≡ Call routine) × (l ≡ unpack (now list)) × (length (now fcb) ≡ 36) × (length (now list) ≡ 1315) ⌝ }
     ensures { λ c. ⌜ c ≡ firstOf (rowsInside kind function (now (fcb .entry)) (now (list .entry)) (now (image .entry))) ⌝ }
 {
     let mut hints = [255u8; 256];

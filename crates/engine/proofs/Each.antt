@@ -13,7 +13,7 @@ use Rattle.words.proofs.Tests.{either}
 use Rattle.words.proofs.Bytes.{put-whole}
 use Rattle.words.proofs.Tables.{zero-none}
 use Rattle.words.proofs.Sets.{not-yes, not-no}
-use Rattle.rules.specs.Serves.{Buffers, Outcome, Did, buffers, outcome}
+use Rattle.rules.specs.Serves.{Buffers, Outcome, Did, buffers, outcome, chosen, isSearch}
 use Rattle.rules.specs.Asks.{recordOf}
 use Rattle.rules.specs.Codes.{rowsAll}
 use Rattle.rules.specs.Call.{rowsCall, call}
@@ -21,7 +21,7 @@ use Rattle.rules.specs.Several.{servesRun, threeOf, fcbAt, dmaAt, single, backA
 use Rattle.rules.proofs.Tables.{nonzero-all, refused, accepted-zero, answer-is}
 use Rattle.rules.proofs.Passed.{Passed, passed}
 use Rattle.rules.proofs.Ends.{did-as, did-left, did-none}
-use Rattle.rules.proofs.Singles.{run-chosen, done-within}
+use Rattle.rules.proofs.Singles.{runs-plain, run-chosen, done-within}
 use Rattle.rules.proofs.Several.{codeAt, several-none, several-more, several-stops, several-stays, singly-plain, singly-refused, singly-told}
 use Rattle.calls.specs.Calls.{callBy}
 use Rattle.engine.specs.Single.{DidSingle}
@@ -46,9 +46,13 @@ dma-made dma zero a own i n m ha h =
 
 -- ---- the single call
 
+-- one that takes a run is no search
+run-plain-call : (n : ℕ) → servesRun n ≡ true → isSearch (chosen n) ≡ false
+run-plain-call n s = runs-plain (chosen n) (run-chosen n s)
+
 module _ (kind : Kind) (n p i : ℕ) (b : Buffers) (fcb dma : List ℕ) (hf : fcb ≡ fcbAt i (b .fcb)) (hd : dma ≡ dmaAt i (b .dma)) (code : ℕ)
     (fcb′ dma′ list′ image′ : List ℕ)
-    (d : Did (callBy kind false n p 1 (buffers fcb dma (b .list) (b .image))) code (buffers fcb′ dma′ list′ image′)) where
+    (d : Did (callBy kind false n p 1 (buffers fcb dma (b .list) (b .image))) code (buffers fcb′ dma′ list′ image′)) (s : servesRun n ≡ true) where
   as-single : Did (call kind n p 1 (single i b)) code (buffers fcb′ dma′ list′ image′)
   unfolding callBy single
   as-single = did-as _ _ code _ (ap (λ (x : List ℕ). call kind n p 1 (buffers x dma (b .list) (b .image))) hf
@@ -57,7 +61,7 @@ module _ (kind : Kind) (n p i : ℕ) (b : Buffers) (fcb dma : List ℕ) (hf : fc
   still : (code ≡ 0 → ⊥) → call kind n p 1 (single i b) .left ≡ single i b
   still z =
       ⊎-elim (λ (h : anyRow (rowsCall kind n p 1 (single i b)) ≡ true). ap (λ (o : Outcome). o .left) (refused kind n p 1 (single i b) h))
-      (λ (h : anyRow (rowsCall kind n p 1 (single i b)) ≡ false). absurd (z (as-single .gives ∙ accepted-zero kind n p 1 (single i b) h)))
+      (λ (h : anyRow (rowsCall kind n p 1 (single i b)) ≡ false). absurd (z (as-single .gives ∙ accepted-zero kind n p 1 (single i b) (run-plain-call n s) h)))
       (either (anyRow (rowsCall kind n p 1 (single i b))))
 
   -- refused
@@ -97,16 +101,16 @@ module _ (kind : Kind) (n p c i : ℕ) (b : Buffers) (fcb₁ dma₁ list₁ imag
   abbrev b′ : Buffers
   b′ = buffers fcb₁ dma₁ list₁ image₁
 
-  module _ (code : ℕ) (dma list image : List ℕ) (d : DidSingle kind n p i (buffers fcb₁ dma₁ list₁ image₁) code dma list image) where
+  module _ (code : ℕ) (dma list image : List ℕ) (d : DidSingle kind n p i (buffers fcb₁ dma₁ list₁ image₁) code dma list image) (s : servesRun n ≡ true) where
     code-told : code ≡ codeAt kind n p i b′
-    code-told = d .gives ∙ answer-is kind n p 1 (single i b′)
+    code-told = d .gives ∙ answer-is kind n p 1 (single i b′) (run-plain-call n s)
 
     pub each-more : code ≡ 0 → several kind n p (i + 1) b ≡ run 0 (i + 1) (buffers fcb₁ dma list image)
     each-more z = rw add-one (several-more kind n p i b b′ h (sym code-told ∙ z) ∙ ap (λ (x : Buffers). run 0 (suc i) x) (sym (d .done z)))
 
     -- the next record's number still has three bytes
-    pub each-number : (r : ℕ) → servesRun n ≡ true → length fcb₁ ≡ 36 → r ≡ recordOf fcb₁ → code ≡ 0 → r + (i + 1) < 16777216
-    each-number r s long e z = let t = top-fits kind in let k = done-within kind n p i b′ (run-chosen n s) long (sym code-told ∙ z) in omega arith
+    pub each-number : (r : ℕ) → length fcb₁ ≡ 36 → r ≡ recordOf fcb₁ → code ≡ 0 → r + (i + 1) < 16777216
+    each-number r long e z = let t = top-fits kind in let k = done-within kind n p i b′ (run-chosen n s) long (sym code-told ∙ z) in omega arith
 
     pub each-stops : (code ≡ 0 → ⊥) → i < c → Did (singly (several kind n p c b)) code (buffers fcb₁ dma list image)
     unfolding singly

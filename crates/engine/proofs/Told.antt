@@ -44,11 +44,11 @@ module _ (n : ℕ) (t : Told) (is : t ≡ toldKind n) where
     unfolding singlyTold
     singly-known f p c b a left d = did-as _ _ a left (ap (λ (x : Told). singlyTold x f p c b) kind-is) d
 
-    pub start-known : (c o k : ℕ) (users list : List ℕ) (a : ℕ) (left : List ℕ) → DidStart (start c o k users list) a left
+    pub start-known : (c o k : ℕ) (users list : List ℕ) (a : ℕ) (left : List ℕ) → DidStart (start kind c o k users list) a left
         → DidStart (startTold (toldKind n) c o k users list) a left
     unfolding startTold
     start-known c o k users list a left d =
-        let e : start c o k users list ≡ startTold (toldKind n) c o k users list = ap (λ (x : Told). startTold x c o k users list) kind-is in
+        let e : start kind c o k users list ≡ startTold (toldKind n) c o k users list = ap (λ (x : Told). startTold x c o k users list) kind-is in
         rw e at d
 
     pub check-known : (i : ImageAnswer) (a : ℕ) (s : List ℕ) → i ≡ imageCheck kind s → a ≡ imageTold i → a ≡ checkTold (toldKind n) s

@@ -79,10 +79,10 @@ pub extern "C" fn mpm_start(
     ensures { λ r. ⌜ DidStart (startTold (toldKind kind) capacity opens locks (now (users .entry)) (now (list .entry))) r (now (list .exit)) ⌝ }
 {
     let told = told_kind(kind);
-    let Told::Known(_) = told else {
+    let Told::Known(known) = told else {
         return BAD_CALL;
     };
-    start(capacity, opens, locks, users, list)
+    start(known, capacity, opens, locks, users, list)
 }
 
 // The image check: 0 sound, 1 wrong length, 2 to 8 why the directory is unsound; and 256 times the entry that is bad.

@@ -74,7 +74,7 @@ fn call_one(
     list: &mut [u8],
     image: &mut [u8],
 ) -> u32
-    requires { ⌜ (length (now fcb) ≡ 36) × (length (now dma) ≡ 2048) × (i < 16) × (r ≡ recordOf (now fcb)) × (r + i < 16777216) ⌝ }
+    requires { ⌜ (servesRun function ≡ true) × (length (now fcb) ≡ 36) × (length (now dma) ≡ 2048) × (i < 16) × (r ≡ recordOf (now fcb)) × (r + i < 16777216) ⌝ }
     ensures { λ c. ⌜ DidSingle kind function process i (buffers (now (fcb .entry)) (now (dma .entry)) (now (list .entry)) (now (image .entry))) c (now (dma .exit)) (now (list .exit)) (now (image .exit)) ⌝ }
 {
     let mut own_fcb = fcb_at(fcb, r, i);

@@ -48,7 +48,7 @@ one-of p x m = is-one (λ (y : ℕ). y) p x m
 
 module _ (c o k : ℕ) (callers : List ℕ) (limits : (1 ≤ c) × (c ≤ 64)) (opening : (1 ≤ o) × (o ≤ 64)) (locking : (1 ≤ k) × (k ≤ 64)) where
   abbrev l : LockList
-  l = fresh c o k (replicate 16 0)
+  l = fresh Small c o k (replicate 16 0)
 
   good : Limits l
   unfolding isLimit isUser all _and_
@@ -60,7 +60,7 @@ module _ (c o k : ℕ) (callers : List ℕ) (limits : (1 ≤ c) × (c ≤ 64)) (
   }
 
   empty : (i : ℕ) → i < 64 → itemAt l i .kind ≡ 0
-  empty i m = ap (λ (it : Item). it .kind) (fresh-at i m c o k (replicate 16 0))
+  empty i m = ap (λ (it : Item). it .kind) (fresh-at i m Small c o k (replicate 16 0))
 
   none-kind : (n x : ℕ) → (n ≡ 0 → ⊥) → count (isKindByAt l n x) 64 ≡ 0
   unfolding isKindByAt isKindBy
@@ -87,16 +87,16 @@ module _ (c o k : ℕ) (callers : List ℕ) (limits : (1 ≤ c) × (c ≤ 64)) (
     free = all-free c (limits .1);
   }
 
-  list-is : freshList c o k (replicate 16 0) ≡ pack l
-  list-is = sym (fresh-packed c o k (replicate 16 0) refl)
+  list-is : freshList Small c o k (replicate 16 0) ≡ pack l
+  list-is = sym (fresh-packed Small c o k (replicate 16 0) refl)
 
   -- nothing is open and nothing locked at the start
   pub begin : At c o k callers (λ (x : ℕ). 0) (λ (x : ℕ). 0) 0 c
   begin =
-      let shape = fresh-shape c o k (replicate 16 0) refl in
+      let shape = fresh-shape Small c o k (replicate 16 0) refl in
       let sound = fresh-sound Small c o k (replicate 16 0) book good in
       record {
-        list = freshList c o k (replicate 16 0);
+        list = freshList Small c o k (replicate 16 0);
         calls = none;
         both = rw list-is (record {
           image-sound = book-sound;
@@ -174,7 +174,7 @@ module _ (p o k : ℕ) (few : suc p ≤ 16) (some : 1 ≤ o) (fits : suc p * (o 
       none-yet = unfold _if_else_ in rw (le-ltb p p (omega arith)) refl
 
   -- the last Lock
-  pub ends-14 : EndsIn Small callers book (freshList c o (suc k) (replicate 16 0)) (14 ∕ 0)
+  pub ends-14 : EndsIn Small callers book (freshList Small c o (suc k) (replicate 16 0)) (14 ∕ 0)
   ends-14 =
       let w = whole in
       let a = opens-grow in
@@ -259,7 +259,7 @@ module _ (p o k : ℕ) (few : suc p ≤ 16) (some : 1 ≤ o) (one : 1 ≤ k) (fi
       (subst (λ (x : ℕ). At size (suc o) k those nearly (λ (y : ℕ). 0) 0 x) z opened-most)
 
   -- the last Open
-  pub ends-11 : EndsIn Small those book (freshList size (suc o) k (replicate 16 0)) (255 ∕ 11)
+  pub ends-11 : EndsIn Small those book (freshList Small size (suc o) k (replicate 16 0)) (255 ∕ 11)
   ends-11 =
       let at = locked-all in
       let sound = list-sound-of Small (at .list) book (at .both .list-sound) in

@@ -37,7 +37,7 @@ use Rattle.filling.proofs.Placed.{oneMore, Facts, has-place, can-open, 
 -- the list after some calls, with what it holds
 pub record At (c o k : ℕ) (callers : List ℕ) (opens locks : ℕ → ℕ) (r n : ℕ) : Type 0 where
   pub list : List ℕ
-  pub calls : Calls Small callers book (freshList c o k (replicate 16 0)) list
+  pub calls : Calls Small callers book (freshList Small c o k (replicate 16 0)) list
   pub both : SoundBoth Small list book
   pub facts : Facts c o k opens locks r n (unpack list)
 

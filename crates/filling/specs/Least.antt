@@ -43,7 +43,7 @@ firstOnes p = tab (λ (x : ℕ). x) p
 
 -- with one place fewer than p times the sum of the limits
 unfoldable pub oneFewer : ℕ → ℕ → ℕ → List ℕ
-oneFewer p o k = freshList (p * (o + k) - 1) o k (replicate 16 0)
+oneFewer p o k = freshList Small (p * (o + k) - 1) o k (replicate 16 0)
 
 -- for all limits and numbers of processes for which a list can have one place fewer
 pub record Least : Type 0 where

@@ -7,6 +7,7 @@ use mathlib.Core.Logic.{_⊎_, inl, inr, ⊎-elim}
 use native.Mathlib.Omega.{arith}
 use lib.ListN.{length, set}
 use borrow.Author.Tests.{eqb-false, not-true}
+use Rattle.words.specs.Bytes.{byte}
 use Rattle.words.proofs.Tests.{either, equal?, and-fst, and-snd}
 use Rattle.rules.specs.declared.kind.Kind.{Kind}
 use Rattle.rules.specs.Kinds.{entries}
@@ -15,7 +16,7 @@ use Rattle.rules.specs.declared.item.Item.{Item}
 use Rattle.rules.specs.declared.list.LockList.{LockList}
 use Rattle.rules.specs.Serves.{Buffers}
 use Rattle.rules.specs.Drive.{isEmpty, userByte, fileFrom}
-use Rattle.rules.specs.Locks.{itemAt, userOf, unpack, withItems, freshOpen, freePlace}
+use Rattle.rules.specs.Locks.{itemAt, userOf, unpack, withItems, withPositions, freshOpen, freePlace}
 use Rattle.rules.specs.Asks.{recordOf, newFile}
 use Rattle.rules.specs.Effects.{placed, opened, lockedRun}
 use Rattle.rules.proofs.Sound.{SoundImage}
@@ -117,7 +118,7 @@ module _ (p : ℕ) (it : Item) (h : isAnothers p it ≡ true) where
   anothers-by = eqb-false _ _ (not-true _ (and-snd _ _ h))
 
 items-same : (p : ℕ) (l : LockList) → ItemsApart p l l
-items-same p l = record { item-same = λ i m c. refl }
+items-same p l = record { item-same = λ i m c. refl; position-same = λ q n. refl }
 
 -- one empty place set to an item of the caller
 items-set : (p : ℕ) (l : LockList) (j : ℕ) (it : Item) → Shape l → j < 64 → itemAt l j .kind ≡ 0 → it .process ≡ p
@@ -130,18 +131,20 @@ items-set p l j it h m e d = record {
       anothers-by p (itemAt (withItems l (set (l .items) j it)) i) z
       (ap (λ (x : ℕ). itemAt (withItems l (set (l .items) j it)) x .process) q ∙ ap (λ (x : Item). x .process) (at-here l j it h m) ∙ d)) c))
       (λ (q : i ≡ j → ⊥). at-other l j it h m i q) (equal? i j);
+  position-same = λ q n. refl;
 }
 
--- places of the caller's items emptied
+-- places of the caller's items emptied, its position set
 items-gone : (p : ℕ) (l : LockList) (away : Item → Bool) (turn : Item → Item) → Empties away turn → Shape l → ((it : Item) → away it ≡ true → it .process ≡ p)
-    → ItemsApart p l (withItems l (map turn (l .items)))
-items-gone p l away turn t h own = record {
+    → (xs : List ℕ) → ((q : ℕ) → (q ≡ p → ⊥) → byte xs q ≡ byte (l .positions) q) → ItemsApart p l (withPositions (withItems l (map turn (l .items))) xs)
+items-gone p l away turn t h own xs stay = record {
   item-same = λ i m c. ⊎-elim
       (λ (q : away (itemAt l i) ≡ true). absurd (⊎-elim
       (λ (z : isAnothers p (itemAt l i) ≡ true). anothers-by p (itemAt l i) z (own (itemAt l i) q))
       (λ (z : isAnothers p (itemAt (withItems l (map turn (l .items))) i) ≡ true). anothers-some p (itemAt (withItems l (map turn (l .items))) i) z
       (ap (λ (x : Item). x .kind) (at-gone l away turn t h i m q))) c))
       (λ (q : away (itemAt l i) ≡ false). at-kept l away turn t h i m q) (either (away (itemAt l i)));
+  position-same = stay;
 }
 
 module _ (kind : Kind) (p c : ℕ) (b : Buffers) where
@@ -165,6 +168,7 @@ module _ (kind : Kind) (p c : ℕ) (b : Buffers) where
             (λ (y : isAnothers p (itemAt (withItems (listOf b) (r .items)) i) ≡ true). anothers-by p (itemAt (withItems (listOf b) (r .items)) i) y
             (ap (λ (x : Item). x .process) (z .now))) d))
             (r .place i m);
+        position-same = λ q n. refl;
       })
 
   -- .. and the items of other processes
@@ -172,6 +176,6 @@ module _ (kind : Kind) (p c : ℕ) (b : Buffers) where
   items-left t list (list-same u follows) = items-same p (listOf b)
   items-left t list (one-set ok u mode room h) = packed (ItemsApart p (listOf b)) kind _ u h (opened-apart ok mode room)
   items-left t list (run-set ok w) = packed (ItemsApart p (listOf b)) kind _ (b .image) (locked-shape kind p c b ok w) (run-apart ok w)
-  items-left t list (emptied ok u away turn e own h) =
+  items-left t list (emptied ok u away turn e own xs stay h) =
       packed (ItemsApart p (listOf b)) kind _ u h
-      (items-gone p (listOf b) away turn e (shape-of kind p c b ok) own)
+      (items-gone p (listOf b) away turn e (shape-of kind p c b ok) own xs stay)

@@ -29,6 +29,8 @@ use Rattle.rules.proofs.Look.{look-inside, look-apart}
 use Rattle.rules.proofs.Answers.{one-told}
 use Rattle.rules.proofs.Checks.{check-tells}
 use Rattle.rules.proofs.Highest.{highest-most}
+use Rattle.listing.proofs.Searches.{searches}
+use Rattle.listing.proofs.Shown.{lists-matching}
 use Rattle.soundness.proofs.SizedCalls.{made-zero, size-written, size-rewritten, size-renamed}
 use Rattle.rules.proofs.Told.{other-call, other-check, other-look}
 use Rattle.session.specs.Open.{rules}
@@ -74,7 +76,7 @@ module _ (kind : Kind) (e : Engine) (serves : Demand2 kind e) where
       let o = so before q s may h in
       let w = leaves-no-trace kind q s in
       record {
-        unchanged = λ z d. ap (λ (x : Outcome). x .left) o ∙ w .unchanged (λ y. z (ap (λ (x : Outcome). x .answer) o ∙ y)) (rw o at d);
+        unchanged = λ z d. ap (λ (x : Outcome). x .left) o ∙ w .unchanged (rw o at z) (rw o at d);
         no-trace = λ z. rw o (so before (withCount (doneIn (outcomeOf (callRun kind) q s .answer)) q) s (fewer-possible kind q s may) h
             ∙ w .no-trace (rw o at z));
       }
@@ -159,7 +161,7 @@ module _ (e : ℕ → Engine) (keeps : KeepsContract e) where
 session-claims : TheSession
 session-claims = record { first-list = started; as-listed = the-session }
   where
-    started : (list : List ℕ) → length list ≡ 1299 → start 3 2 2 (replicate 16 0) list ≡ record { answer = 0 ∕ 0; list = firstList }
+    started : (list : List ℕ) → length list ≡ 1315 → start Small 3 2 2 (replicate 16 0) list ≡ record { answer = 0 ∕ 0; list = firstList }
     started list h = unfold rules firstList in rw h refl
 
 look-claims : LookClaims
@@ -260,6 +262,7 @@ all-claims = record {
   checks = check-claims;
   unlocks = record { unlocking = unlocking-told; wrong-fall = wrong-unlocks };
   sizes = size-claims;
+  searches = record { searched = searches; lists = lists-matching };
   salvages = salvage-claims;
   packs = pack-claims;
   sames = same-claims;

@@ -1,14 +1,14 @@
 -- What a leaf of the walk did, as the history tells it. Assumes nothing.
 use Prim.Native.Nat.{ℕ, _<_}
 use mathlib.Core.Path.{_≡_, refl, sym, ap, _∙_}
-use mathlib.Core.Bool.{Bool, true, false}
+use mathlib.Core.Bool.{Bool, true, false, true≢false}
 use mathlib.Core.List.{List}
 use mathlib.Core.Logic.{⊎-elim}
 use native.Mathlib.Omega.{arith}
 use borrow.Author.Tests.{ne-eqb}
 use Rattle.words.proofs.Tests.{equal?}
 use Rattle.rules.specs.declared.kind.Kind.{Kind}
-use Rattle.rules.specs.declared.routine.Routine.the-variants.{Open, Close, Delete, Make, Rename, Read, Write, Size, WriteZeros, TestWrite, Lock, Unlock, FreeSpace, Terminate}
+use Rattle.rules.specs.declared.routine.Routine.the-variants.{Open, Close, SearchFirst, SearchNext, Delete, Make, Rename, Read, Write, Size, WriteZeros, TestWrite, Lock, Unlock, FreeSpace, Terminate}
 use Rattle.rules.specs.declared.routine.Chosen.the-variants.{Call, Unknown}
 use Rattle.words.specs.Tests.{_if_else_}
 use Rattle.words.specs.Lists.{turns}
@@ -17,7 +17,7 @@ use Rattle.rules.specs.declared.file.File.{File}
 use Rattle.rules.specs.declared.item.Item.{Item}
 use Rattle.rules.specs.declared.list.LockList.{LockList}
 use Rattle.rules.specs.declared.routine.Chosen.{Chosen}
-use Rattle.rules.specs.Serves.{chosen}
+use Rattle.rules.specs.Serves.{chosen, isSearch}
 use Rattle.rules.specs.Asks.{callerFile, newFile, recordOf}
 use Rattle.rules.specs.Locks.{unpack}
 use Rattle.history.specs.History.{Ask, State, event}
@@ -60,6 +60,44 @@ count-refused kind users q code g z low =
     same true f r n e = unfold counting touchingRun turns _if_else_ in rw e refl
     same false f r n e = unfold counting _if_else_ in refl
 
+-- a search did nothing of what a history tells, ..
+searches-nothing : (k : Chosen) → isSearch k ≡ true → (users : List ℕ) (q : Ask) → deedBy k users q ≡ nothing
+unfolding isSearch deedBy
+searches-nothing (Call SearchFirst) h users q = refl
+searches-nothing (Call SearchNext) h users q = refl
+searches-nothing (Call Open) h users q = absurd (true≢false (sym h))
+searches-nothing (Call Close) h users q = absurd (true≢false (sym h))
+searches-nothing (Call Delete) h users q = absurd (true≢false (sym h))
+searches-nothing (Call Make) h users q = absurd (true≢false (sym h))
+searches-nothing (Call Rename) h users q = absurd (true≢false (sym h))
+searches-nothing (Call Read) h users q = absurd (true≢false (sym h))
+searches-nothing (Call Write) h users q = absurd (true≢false (sym h))
+searches-nothing (Call Size) h users q = absurd (true≢false (sym h))
+searches-nothing (Call WriteZeros) h users q = absurd (true≢false (sym h))
+searches-nothing (Call TestWrite) h users q = absurd (true≢false (sym h))
+searches-nothing (Call Lock) h users q = absurd (true≢false (sym h))
+searches-nothing (Call Unlock) h users q = absurd (true≢false (sym h))
+searches-nothing (Call FreeSpace) h users q = absurd (true≢false (sym h))
+searches-nothing (Call Terminate) h users q = absurd (true≢false (sym h))
+searches-nothing Unknown h users q = absurd (true≢false (sym h))
+
+module _ (users : List ℕ) (q : Ask) (answer : ℕ) (k : isSearch (chosen (q .function)) ≡ true) where
+  found-nothing : answer ≡ 0 → deed users (event q answer) ≡ nothing
+  found-nothing z = ap (λ (a : ℕ). deed users (event q a)) z ∙ deed-done users q _ refl ∙ searches-nothing (chosen (q .function)) k users q
+
+  -- .. so what is held stays, ..
+  pub held-searched : (g : List Item) → holding (deed users (event q answer)) g ≡ g
+  unfolding holding
+  held-searched g =
+      ⊎-elim (λ (z : answer ≡ 0). ap (λ (d : Deed). holding d g) (found-nothing z)) (λ (z : answer ≡ 0 → ⊥). held-refused users q answer g z) (equal? answer 0)
+
+  -- .. and what is counted
+  pub count-searched : (kind : Kind) (g : List Group) → answer < 4096 → counting kind (deed users (event q answer)) g ≡ g
+  unfolding counting
+  count-searched kind g low =
+      ⊎-elim (λ (z : answer ≡ 0). ap (λ (d : Deed). counting kind d g) (found-nothing z))
+      (λ (z : answer ≡ 0 → ⊥). count-refused kind users q answer g z low) (equal? answer 0)
+
 -- the file that the history names is the one that the call meant, ..
 pub file-meant : (q : Ask) (l : LockList) → fileBy (l .users) q ≡ callerFile (q .process) l (q .fcb)
 unfolding fileBy callerFile
@@ -75,6 +113,8 @@ tells-is : (k : Chosen) (users : List ℕ) (q : Ask) → deedBy k users q ≡ te
 unfolding deedBy
 tells-is (Call Open) users q h = let z : _≡_ {A = ℕ} 0 1 = cc in absurd (omega arith)
 tells-is (Call Close) users q h = let z : _≡_ {A = ℕ} 0 1 = cc in absurd (omega arith)
+tells-is (Call SearchFirst) users q h = let z : _≡_ {A = ℕ} 0 1 = cc in absurd (omega arith)
+tells-is (Call SearchNext) users q h = let z : _≡_ {A = ℕ} 0 1 = cc in absurd (omega arith)
 tells-is (Call Delete) users q h = let z : _≡_ {A = ℕ} 0 1 = cc in absurd (omega arith)
 tells-is (Call Make) users q h = let z : _≡_ {A = ℕ} 0 1 = cc in absurd (omega arith)
 tells-is (Call Rename) users q h = let z : _≡_ {A = ℕ} 0 1 = cc in absurd (omega arith)

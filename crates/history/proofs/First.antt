@@ -1,25 +1,27 @@
 -- Demand 1: a refusal changes nothing; of several records, nothing but what the records done alone would. Assumes nothing.
 use Prim.Native.Nat.{ℕ, _+_, _*_, _≤_, _<_}
 use mathlib.Core.Path.{_≡_, refl, sym, ap, _∙_}
-use mathlib.Core.Bool.{true, false}
+use mathlib.Core.Bool.{true, false, not}
 use mathlib.Core.Logic.{⊎-elim}
 use native.Mathlib.Omega.{arith}
-use Rattle.words.specs.Tests.{_if_else_}
+use Rattle.words.specs.Tests.{_and_, _if_else_}
 use Rattle.words.specs.Tables.{_∕_, firstOf, anyRow}
-use borrow.Author.Tests.{lt-ltb, ltb-true}
-use Rattle.words.proofs.Tests.{either, and-fst, and-snd}
+use lib.Dec.{leb, eqb}
+use borrow.Author.Tests.{eq-eqb, lt-leb, lt-ltb, ltb-true, not-true}
+use Rattle.words.proofs.Tests.{either, never, and-fst, and-snd}
 use Rattle.words.proofs.Tables.{row-off, row-rest}
 use Rattle.words.proofs.Sets.{row-no, and-both}
 use Rattle.rules.specs.declared.kind.Kind.{Kind}
-use Rattle.rules.specs.Serves.{Buffers, Outcome, outcome}
+use Rattle.rules.specs.Serves.{Buffers, Outcome, outcome, chosen, isSearch}
 use Rattle.rules.specs.Codes.{rowsAll}
-use Rattle.rules.specs.Call.{rowsCall}
+use Rattle.rules.specs.Call.{asked, effectOf, rowsCall}
 use Rattle.rules.specs.Several.{Run, several, told, callRun}
-use Rattle.rules.proofs.Tables.{refused, accepted-zero}
+use Rattle.rules.proofs.Tables.{accepted, refused, effect-zero, effect-answers}
+use Rattle.rules.proofs.Singles.{runs-plain, run-chosen}
 use Rattle.rules.proofs.Passed.{good-numbers, numbers-good}
 use Rattle.rules.proofs.Several.{several-none, run-told}
 use Rattle.history.specs.History.{Ask, State, withCount, isWord, isPossible, lent, outcomeOf}
-use Rattle.history.specs.Deeds.{doneIn}
+use Rattle.history.specs.Deeds.{doneIn, isRefused}
 use Rattle.history.specs.Demands.{NoTrace}
 use Rattle.history.proofs.Ways.{Way, answer-low, refuses-low, plain, barred, whole, partly, ways}
 
@@ -42,14 +44,35 @@ passes-fewer kind n p c i b h some few =
     sym (row-no 0 (255 ∕ 13) _ _ good (sym (row-rest (255 ∕ 13) _ _ z h)))
 
 module _ (kind : Kind) (n p c : ℕ) (b : Buffers) where
-  way-unchanged : (o : Outcome) → Way kind n p c b o → (o .answer ≡ 0 → ⊥) → doneIn (o .answer) ≡ 0 → o .left ≡ b
+  -- no effect has an answer that refuses
+  effect-accepts : isRefused n (effectOf (chosen n) (asked kind p c b) b .answer) ≡ true → ⊥
+  unfolding isRefused _if_else_
+  effect-accepts z =
+      let a = effectOf (chosen n) (asked kind p c b) b .answer in
+      ⊎-elim
+      (λ (h : isSearch (chosen n) ≡ true).
+      let y : (leb 4 a and not (eqb a 255)) ≡ true = rw h at z in
+      ⊎-elim (λ (m : a < 4). never (and-fst _ _ y) (lt-leb 4 a m)) (λ (m : a ≡ 255). never (eq-eqb a 255 m) (not-true _ (and-snd _ _ y)))
+      (effect-answers (chosen n) (asked kind p c b) b))
+      (λ (h : isSearch (chosen n) ≡ false).
+      let y : not (eqb a 0) ≡ true = rw h at z in
+      never (eq-eqb a 0 (effect-zero (chosen n) (asked kind p c b) b h)) (not-true _ y))
+      (either (isSearch (chosen n)))
+
+  -- nor is 0/0 one, of a call that is no search
+  zero-accepts : isSearch (chosen n) ≡ false → isRefused n 0 ≡ true → ⊥
+  unfolding isRefused _if_else_
+  zero-accepts h z = let y : false ≡ true = rw h at z in never y refl
+
+  way-unchanged : (o : Outcome) → Way kind n p c b o → isRefused n (o .answer) ≡ true → doneIn (o .answer) ≡ 0 → o .left ≡ b
   way-unchanged o (plain h) z d =
       ⊎-elim
       (λ (y : anyRow (rowsCall kind n p c b) ≡ true). ap (λ (x : Outcome). x .left) (refused kind n p c b y))
-      (λ (y : anyRow (rowsCall kind n p c b) ≡ false). absurd (z (accepted-zero kind n p c b y)))
+      (λ (y : anyRow (rowsCall kind n p c b) ≡ false). absurd (effect-accepts (rw (accepted kind n p c b y) at z)))
       (either (anyRow (rowsCall kind n p c b)))
   way-unchanged o (barred h code w) z d = refl
-  way-unchanged o (whole left w) z d = absurd (z refl)
+  way-unchanged o (whole left w) z d =
+      absurd (zero-accepts (runs-plain (chosen n) (run-chosen n (w .serves))) z)
   way-unchanged o (partly i m left w code r) z d =
       let e : i ≡ 0 = omega arith in
       ap (λ (x : Run). x .left) (sym (w .is) ∙ ap (λ (k : ℕ). several kind n p k b) e ∙ several-none kind n p b)

@@ -9,7 +9,7 @@ use Rattle.rules.specs.declared.kind.Kind.{Kind}
 use Rattle.rules.specs.declared.item.Item.{Item}
 use Rattle.rules.specs.declared.list.LockList.{LockList}
 use Rattle.rules.specs.Serves.{Buffers}
-use Rattle.rules.specs.Locks.{unpack, withItems}
+use Rattle.rules.specs.Locks.{unpack, withItems, withPositions}
 use Rattle.rules.specs.Asks.{recordOf}
 use Rattle.rules.specs.Effects.{placed, opened, lockedRun}
 use Rattle.rules.specs.declared.file.File.{File}
@@ -30,9 +30,9 @@ pub record Framed (l k : LockList) : Type 0 where
   pub locklimits : k .locklimit ≡ l .locklimit
   pub users : k .users ≡ l .users
 
--- a list with other items has the same, ..
-pub framed : (l : LockList) (xs : List Item) → Framed l (withItems l xs)
-framed l xs = record { capacities = refl; openlimits = refl; locklimits = refl; users = refl }
+-- a list with other items and positions has the same, ..
+pub framed : (l : LockList) (xs : List Item) (ys : List ℕ) → Framed l (withPositions (withItems l xs) ys)
+framed l xs ys = record { capacities = refl; openlimits = refl; locklimits = refl; users = refl }
 
 same : (l : LockList) → Framed l l
 same l = record { capacities = refl; openlimits = refl; locklimits = refl; users = refl }
@@ -41,13 +41,13 @@ same l = record { capacities = refl; openlimits = refl; locklimits = refl; users
 pub list-framed : (kind : Kind) (p c : ℕ) (b : Buffers) (t list : List ℕ) → ListLeft kind p c b t list → Framed (listOf b) (unpack list)
 unfolding opened placed lockedRun
 list-framed kind p c b t list (list-same u follows) = same (listOf b)
-list-framed kind p c b t list (one-set ok u mode room h) = packed (Framed (listOf b)) kind _ u h (framed (listOf b) _)
+list-framed kind p c b t list (one-set ok u mode room h) = packed (Framed (listOf b)) kind _ u h (framed (listOf b) _ _)
 list-framed kind p c b t list (run-set ok w) =
     packed (Framed (listOf b)) kind _ (b .image) (locked-shape kind p c b ok w)
     (let r = running kind (b .image) (listOf b) p (fileBy p b) (recordOf (b .fcb)) c (shape-of kind p c b ok) (list-of kind p c b ok)
     (takes-of kind p c b ok w) c (omega arith) in
-    rw (r .is) (framed (listOf b) (r .items)))
-list-framed kind p c b t list (emptied ok u away turn e own h) = packed (Framed (listOf b)) kind _ u h (framed (listOf b) _)
+    rw (r .is) (framed (listOf b) (r .items) _))
+list-framed kind p c b t list (emptied ok u away turn e own xs stay h) = packed (Framed (listOf b)) kind _ u h (framed (listOf b) _ _)
 
 written-long : (kind : Kind) (s t : List ℕ) (f : File) (r : ℕ) → Old kind s t f r ⊎ New kind s t f r → length t ≡ length s
 written-long kind s t f r w = ⊎-elim (λ (k : Old kind s t f r). k .wrote .change .touches .long) (λ (k : New kind s t f r). k .wrote .change .touches .long) w

@@ -24,14 +24,14 @@ use Rattle.soundness.proofs.Written.{Old, New}
 use Rattle.soundness.proofs.Taken.{caller-long}
 use Rattle.soundness.proofs.Ends.{image-of, made-of, renamed-file, written-of}
 use Rattle.rules.proofs.Passed.{Passed}
-use Rattle.soundness.proofs.Leaves.{Leaf, MayMake, MayWrite, imageWritten, refused, reopened, newlyOpened, newlyMade, nowClosed, nowErased, nowDropped, nowRenamed, nowRead, nowSized, nowWritten, nowRewritten, nowLocked, lockIdle, nowUnlocked, unlockIdle, nowTold, nowEnded}
+use Rattle.soundness.proofs.Leaves.{Leaf, MayMake, MayWrite, imageWritten, refused, reopened, newlyOpened, newlyMade, nowClosed, nowErased, nowDropped, nowRenamed, nowRead, nowSized, nowWritten, nowRewritten, nowLocked, lockIdle, nowUnlocked, unlockIdle, nowTold, nowEnded, nowSearched}
 use Rattle.history.specs.History.{Ask, State, event, lent}
 use Rattle.history.specs.Deeds.{deedBy, deed}
 use Rattle.history.specs.Groups.{Group, group, touching, touchingAt, touchingRun, counting}
 use Rattle.history.proofs.Positions.{Counted}
 use Rattle.history.proofs.Served.{writes-serve}
 use Rattle.history.proofs.Counting.{counted-grown, counted-old, touched-old, touched-new, new-none, dropped, carried-over}
-use Rattle.history.proofs.Done.{usersIn, deed-done, count-refused, file-meant, new-meant}
+use Rattle.history.proofs.Done.{usersIn, deed-done, count-refused, count-searched, file-meant, new-meant}
 
 -- a run of one record touches its group, ..
 touching-one : (kind : Kind) (f : File) (r : ℕ) (g : List Group) → touchingRun kind f r 1 g ≡ touching (group f (r / blockRecords kind)) g
@@ -118,3 +118,4 @@ module _ (kind : Kind) (q : Ask) (s : State) (g : List Group) (t : Counted kind 
   count-step one o low (nowSized k ok fcb) = rw (deed-done (usersIn s) q _ k) t
   count-step one o low (nowTold k ok dma) = rw (deed-done (usersIn s) q _ k) t
   count-step one o low (nowEnded k ok) = rw (deed-done (usersIn s) q _ k) t
+  count-step one o low (nowSearched k ok answer e fits dma) = rw (count-searched (usersIn s) q answer k kind g low) t

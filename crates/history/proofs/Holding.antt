@@ -1,8 +1,8 @@
 -- Each call leaves in the list just what the history holds. Assumes nothing.
 use Prim.Native.Nat.{ℕ, _≤_, _<_}
-use mathlib.Core.Path.{_≡_, refl, sym, ap, _∙_}
+use mathlib.Core.Path.{_≡_, refl, sym, ap, subst, _∙_}
 use mathlib.Core.Bool.{Bool, true, false}
-use mathlib.Core.List.{List, map}
+use mathlib.Core.List.{List, map, map-id}
 use mathlib.Core.Logic.{⊎-elim}
 use native.Mathlib.Omega.{arith}
 use borrow.Author.Tests.{eqb-true}
@@ -18,26 +18,26 @@ use Rattle.rules.specs.declared.routine.Routine.the-variants.{Write, WriteZeros
 use Rattle.rules.specs.declared.routine.Chosen.the-variants.{Call}
 use Rattle.rules.specs.Serves.{Buffers, Outcome, chosen}
 use Rattle.rules.specs.Drive.{entryOf}
-use Rattle.rules.specs.Locks.{withItems, itemAt, userOf, fileOf, freshOpen, unpack, pack, openOf, opensNameAt, freePlace}
+use Rattle.rules.specs.Locks.{withItems, withPositions, movedTo, itemAt, userOf, fileOf, freshOpen, unpack, pack, openOf, opensNameAt, freePlace}
 use Rattle.rules.specs.Asks.{callerFile, recordOf, openMode, makeMode}
-use Rattle.rules.specs.Effects.{placed, opened, closed, unlockedRun, terminated, lockedRun, isOfFile, isInRun, unlessBy}
+use Rattle.rules.specs.Effects.{placed, opened, closed, unlockedRun, withoutBy, terminated, lockedRun, isOfFile, isInRun, unlessBy}
 use Rattle.rules.proofs.Items.{IsOpen, open-is, open-so, name-sym, name-is, name-then}
 use Rattle.rules.proofs.SoundList.{GoodOpen, GoodLock, Used, Vacant, capacity-fits, one-open, unpacked}
 use Rattle.soundness.proofs.Placed.{free-room}
-use Rattle.soundness.proofs.Emptied.{Empties, Whole, close-empties, close-whole, unlock-empties, unlock-whole, end-empties, end-whole}
-use Rattle.soundness.proofs.Shapes.{SoundShape, opened-shape, made-shape, emptied-shape, dropped-shape, locked-shape}
+use Rattle.soundness.proofs.Emptied.{Empties, Whole, close-empties, close-whole, unlock-empties, unlock-whole, end-empties}
+use Rattle.soundness.proofs.Shapes.{SoundShape, opened-shape, made-shape, emptied-shape, ended-shape, searched-shape, dropped-shape, locked-shape}
 use Rattle.soundness.proofs.Taken.{caller-long, caller-user, own-open, own-good}
 use Rattle.soundness.proofs.Deleted.{unopened-none, none-of-file}
 use Rattle.soundness.proofs.Ends.{shape-of, list-of, takes-of}
 use Rattle.rules.proofs.Passed.{Passed}
-use Rattle.soundness.proofs.Leaves.{Leaf, openBy, modeBy, Idle, refused, reopened, newlyOpened, newlyMade, nowClosed, nowErased, nowDropped, nowRenamed, nowRead, nowSized, nowWritten, nowRewritten, nowLocked, lockIdle, nowUnlocked, unlockIdle, nowTold, nowEnded}
+use Rattle.soundness.proofs.Leaves.{Leaf, openBy, modeBy, Idle, refused, reopened, newlyOpened, newlyMade, nowClosed, nowErased, nowDropped, nowRenamed, nowRead, nowSized, nowWritten, nowRewritten, nowLocked, lockIdle, nowUnlocked, unlockIdle, nowTold, nowEnded, nowSearched}
 use Rattle.history.specs.History.{Ask, State, event, lent}
 use Rattle.history.specs.Deeds.{Deed, deedBy, deed}
 use Rattle.history.specs.Held.{sameItem, isAmong, granting, grantingRun, isBy, holding}
 use Rattle.history.proofs.Items.{alike-of, alike-so, granting-held, granting-new}
-use Rattle.history.proofs.Tallied.{Tally, held-listed, not-held, tally-set, tally-gone, tally-idle}
+use Rattle.history.proofs.Tallied.{Tally, tally-moved, held-listed, not-held, tally-set, tally-gone, tally-idle}
 use Rattle.history.proofs.Locking.{tally-run}
-use Rattle.history.proofs.Done.{usersIn, deed-done, held-refused, file-meant}
+use Rattle.history.proofs.Done.{usersIn, deed-done, held-refused, held-searched, file-meant}
 
 alike-open : (p : ℕ) (name : List ℕ) (mode : ℕ) (x : Item) → sameItem (freshOpen p name mode) x ≡ true → IsOpen p name x
 alike-open p name mode x h =
@@ -148,18 +148,20 @@ module _ (kind : Kind) (q : Ask) (s : State) (g : List Item) (t : Tally (unpack 
       let y = tally-set l (freePlace l) it (shape-of kind p c b ok) inside (free-room l room .empty) g t in
       rw (unpacked kind (opened p f mode l) image (w .sound) (w .shape), granting-new it g none) (unfold opened placed in y)
 
-  shaped-tally : (ok : Passed kind p c b) (away : Item → Bool) (turn : Item → Item) → Empties away turn → (image : List ℕ)
-      → SoundShape kind (withItems l (map turn (l .items))) image → Tally (unpack (pack (withItems l (map turn (l .items))))) (without away g)
-  shaped-tally ok away turn e image h =
-      rw (unpacked kind (withItems l (map turn (l .items))) image (h .sound) (h .shape)) (tally-gone l away turn e (shape-of kind p c b ok) g t)
+  shaped-tally : (ok : Passed kind p c b) (away : Item → Bool) (turn : Item → Item) → Empties away turn → (xs image : List ℕ)
+      → SoundShape kind (withPositions (withItems l (map turn (l .items))) xs) image
+      → Tally (unpack (pack (withPositions (withItems l (map turn (l .items))) xs))) (without away g)
+  shaped-tally ok away turn e xs image h =
+      rw (unpacked kind (withPositions (withItems l (map turn (l .items))) xs) image (h .sound) (h .shape))
+      (tally-moved _ xs _ (tally-gone l away turn e (shape-of kind p c b ok) g t))
 
   gone-tally : (ok : Passed kind p c b) (away : Item → Bool) (turn : Item → Item) → Empties away turn → Whole l away
       → Tally (unpack (pack (withItems l (map turn (l .items))))) (without away g)
-  gone-tally ok away turn e w = shaped-tally ok away turn e (s .image) (emptied-shape kind p c b ok away turn e w)
+  gone-tally ok away turn e w = shaped-tally ok away turn e (l .positions) (s .image) (emptied-shape kind p c b ok away turn e w)
 
   -- after a plain call the list has just the items that the history then holds
   pub held-step : (o : Outcome) → Leaf kind (q .function) p c b o → Tally (unpack (o .left .list)) (holding (deed (usersIn s) (event q (o .answer))) g)
-  unfolding holding deedBy grantingRun closed unlockedRun terminated isBy _if_else_
+  unfolding holding deedBy grantingRun closed unlockedRun terminated withoutBy movedTo isBy _if_else_
   held-step o (refused code z) = rw (held-refused (usersIn s) q code g z) t
   held-step o (reopened k ok w fcb) =
       rw (deed-done (usersIn s) q _ k, file-meant q l, ← (w .same-mode), granting-held _ g (open-held ok (w .is-open))) t
@@ -176,7 +178,7 @@ module _ (kind : Kind) (q : Ask) (s : State) (g : List Item) (t : Tally (unpack 
       (tally-idle l (isOfFile p f) _ (close-empties p f) (shape-of kind p c b ok) g t (none-of-file kind (s .image) p l f (shape-of kind p c b ok)
       (list-of kind p c b ok) (sym (caller-user p l (q .fcb))) (caller-long p l (q .fcb)) (unopened-none p l f (w .none-others) u)))
   held-step o (nowDropped k ok w m) =
-      rw (deed-done (usersIn s) q _ k, file-meant q l) (shaped-tally ok _ _ (close-empties p f) _ (dropped-shape kind p c b ok w))
+      rw (deed-done (usersIn s) q _ k, file-meant q l) (shaped-tally ok _ _ (close-empties p f) _ _ (dropped-shape kind p c b ok w))
   held-step o (nowRenamed k ok w) = rw (deed-done (usersIn s) q _ k) t
   held-step o (nowRead k ok dma) = rw (deed-done (usersIn s) q _ k) t
   held-step o (nowWritten k ok w zeros) =
@@ -197,4 +199,8 @@ module _ (kind : Kind) (q : Ask) (s : State) (g : List Item) (t : Tally (unpack 
       (tally-idle l (isInRun p f (recordOf (q .fcb)) c) _ (unlock-empties p f (recordOf (q .fcb)) c) (shape-of kind p c b ok) g t (no-locks ok w))
   held-step o (nowSized k ok fcb) = rw (deed-done (usersIn s) q _ k) t
   held-step o (nowTold k ok dma) = rw (deed-done (usersIn s) q _ k) t
-  held-step o (nowEnded k ok) = rw (deed-done (usersIn s) q _ k) (gone-tally ok _ (unlessBy p) (end-empties p) (end-whole l p))
+  held-step o (nowEnded k ok) = rw (deed-done (usersIn s) q _ k) (shaped-tally ok _ (unlessBy p) (end-empties p) _ _ (ended-shape kind p c b ok))
+  held-step o (nowSearched k ok answer e low dma) =
+      let h = searched-shape kind p c b ok e low in
+      rw (held-searched (usersIn s) q answer k g, unpacked kind (movedTo p e (withItems l (map (λ (it : Item). it) (l .items)))) (s .image) (h .sound) (h .shape))
+      (tally-moved _ _ g (subst (λ (xs : List Item). Tally (withItems l xs) g) (sym (map-id (l .items))) t))

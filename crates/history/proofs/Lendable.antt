@@ -67,7 +67,7 @@ list-as-long : (kind : Kind) (p c : ℕ) (b : Buffers) (t list : List ℕ) → L
 list-as-long kind p c b t list (list-same u follows) = refl
 list-as-long kind p c b t list (one-set ok u mode room h) = pack-long _ (h .shape .items-long) ∙ sym (ok .ready .list-long)
 list-as-long kind p c b t list (run-set ok w) = pack-long _ (locked-shape kind p c b ok w .shape .items-long) ∙ sym (ok .ready .list-long)
-list-as-long kind p c b t list (emptied ok u away turn e own h) = pack-long _ (h .shape .items-long) ∙ sym (ok .ready .list-long)
+list-as-long kind p c b t list (emptied ok u away turn e own xs stay h) = pack-long _ (h .shape .items-long) ∙ sym (ok .ready .list-long)
 
 call-long : (kind : Kind) (n p c : ℕ) (b : Buffers) → AsLong b (call kind n p c b .left)
 call-long kind n p c b =

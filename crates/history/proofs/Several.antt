@@ -20,7 +20,7 @@ use Rattle.rules.specs.Call.{call}
 use Rattle.rules.specs.Several.{servesRun, fcbAt, dmaAt, single, backAt, Run, run}
 use Rattle.rules.proofs.Tables.{nonzero-all, answer-is}
 use Rattle.rules.proofs.Passed.{passed}
-use Rattle.rules.proofs.Singles.{Runs, isRead, isWrite, isZeros, run-chosen, fcb-number, fcb-from}
+use Rattle.rules.proofs.Singles.{Runs, isRead, isWrite, isZeros, runs-plain, run-chosen, fcb-number, fcb-from}
 use Rattle.rules.proofs.Several.{Steps, begun, done, stopped, idle, steps}
 use Rattle.history.specs.History.{Ask, State, withCount, Begun, state, outcomeOf, kept, event, lent}
 use Rattle.history.specs.Deeds.{Deed, nothing, touches, deedBy, doneIn, writesRun, deed, fileBy}
@@ -119,7 +119,7 @@ module _ (kind : Kind) (g : Begun kind) (q : Ask) (s : State) (items : List Item
     inv-to c x begun = (refl, rw (count-none kind (chosen n) (run-chosen n h) (g .users) q groups) i₀)
     inv-to c x (done i b w z) =
         let k = inv-to i (run 0 i b) w in
-        (k .0, one-more i b (k .0) (answer-is kind n p 1 (single i b) ∙ z) (k .1))
+        (k .0, one-more i b (k .0) (answer-is kind n p 1 (single i b) (runs-plain (chosen n) (run-chosen n h)) ∙ z) (k .1))
     inv-to c x (stopped i b w z) = inv-to i (run 0 i b) w
     inv-to c x (idle i y w z) = inv-to i y w
 

@@ -74,6 +74,7 @@ items-then p l m k x y = record {
       (λ (h : isAnothers p (itemAt k i) ≡ true).
       let a = y .item-same i w (inr h) in
       a ∙ x .item-same i w (inr (ap (λ (z : Item). isAnothers p z) (sym a) ∙ h))) c;
+  position-same = λ q n. y .position-same q n ∙ x .position-same q n;
 }
 
 -- ---- every call
@@ -112,6 +113,6 @@ module _ (kind : Kind) (g : Begun kind) (s : State) (items : List Item) (groups 
   pub items-apart : ItemsApart (q .process) (unpack (s .list)) (unpack (outcomeOf (callRun kind) q s .left .list))
   items-apart =
       call-each kind g q s items groups i (λ (t v : State). ItemsApart (q .process) (unpack (t .list)) (unpack (v .list)))
-      (record { item-same = λ j m c. refl })
+      (record { item-same = λ j m c. refl; position-same = λ j n. refl })
       (λ t v. items-then (q .process) (unpack (s .list)) (unpack (t .list)) (unpack (v .list)))
       (λ a t gs e w. subst (λ (p : ℕ). ItemsApart p (unpack (t .list)) (unpack (outcomeOf (call kind) a t .left .list))) e (items-kept kind g t items gs w a))

@@ -13,7 +13,7 @@ use Rattle.words.proofs.Sets.{and-left, and-last}
 use Rattle.words.specs.Lists.{tally, without}
 use Rattle.rules.specs.declared.item.Item.{Item}
 use Rattle.rules.specs.declared.list.LockList.{LockList}
-use Rattle.rules.specs.Locks.{itemAt, withItems, emptyPlace}
+use Rattle.rules.specs.Locks.{itemAt, withItems, withPositions, emptyPlace}
 use Rattle.rules.proofs.SoundList.{Shape}
 use Rattle.soundness.proofs.Placed.{at-here, at-other}
 use Rattle.soundness.proofs.Emptied.{Empties, at-gone, at-kept}
@@ -32,6 +32,11 @@ passesAt test l i = test (itemAt l i)
 -- as many in the list pass as of those held
 pub record Tally (l : LockList) (g : List Item) : Type 0 where
   pub as-many : (test : Item → Bool) → OfItems test → count (passesAt test l) 64 ≡ tally test g
+
+-- a list with other positions has the same items
+pub tally-moved : (l : LockList) (xs : List ℕ) (g : List Item) → Tally l g → Tally (withPositions l xs) g
+unfolding passesAt
+tally-moved l xs g t = record { as-many = t .as-many }
 
 -- ---- the same item
 

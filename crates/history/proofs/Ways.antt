@@ -7,11 +7,12 @@ use native.Mathlib.Omega.{arith}
 use Rattle.words.specs.Tables.{_∕_, firstOf}
 use Rattle.words.proofs.Tests.{either, equal?}
 use Rattle.rules.specs.declared.kind.Kind.{Kind}
-use Rattle.rules.specs.Serves.{Buffers, Outcome, outcome}
+use Rattle.rules.specs.Serves.{Buffers, Outcome, outcome, chosen}
 use Rattle.rules.specs.Codes.{rowsAll}
 use Rattle.rules.specs.Call.{call}
 use Rattle.rules.specs.Several.{servesRun, single, Run, run, several, told, callRun}
-use Rattle.rules.proofs.Tables.{call-below, answer-is, call-refused}
+use Rattle.rules.proofs.Tables.{answer-is, answer-below, call-refused}
+use Rattle.rules.proofs.Singles.{runs-plain, run-chosen}
 use Rattle.rules.proofs.Several.{all-done, no-trace, refusal, fewer-done, told-left, told-zero, told-some, run-plain, run-refused, run-told}
 
 -- the plain call is refused with that code, which tells of no record done
@@ -21,7 +22,7 @@ pub record Refuses (kind : Kind) (n p c : ℕ) (b : Buffers) (code : ℕ) : Type
 
 -- the answer of a plain call tells of no record done, ..
 pub answer-low : (kind : Kind) (n p c : ℕ) (b : Buffers) → call kind n p c b .answer < 4096
-answer-low kind n p c b = rw (answer-is kind n p c b) (call-below kind n p c b)
+answer-low = answer-below
 
 -- .. nor does the code of its refusal
 pub refuses-low : (kind : Kind) (n p c : ℕ) (b : Buffers) (code : ℕ) → Refuses kind n p c b code → code < 4096
@@ -55,7 +56,7 @@ module _ (kind : Kind) (n p c : ℕ) (b : Buffers) where
       (λ (z : g .code ≡ 0 → ⊥).
       let e : told g ≡ outcome (g .code + 0 ∕ (16 * g .done)) (g .left) = λ j. record { answer = told-some g z j; left = told-left g j } in
       let w : Ran kind n p c b (g .done) (g .left) = record { serves = h; passes = y; is = no-trace kind n p b c } in
-      let r = answer-is kind n p 1 (single (g .done) (g .left)) ∙ sym (refusal kind n p b c z) in
+      let r = answer-is kind n p 1 (single (g .done) (g .left)) (runs-plain (chosen n) (run-chosen n h)) ∙ sym (refusal kind n p b c z) in
       rw e (partly (g .done) (fewer-done kind n p b c z) (g .left) w (g .code) (record { some = z; answers = r })))
       (equal? (g .code) 0)
 

@@ -13,11 +13,11 @@ use Rattle.rules.specs.declared.kind.Kind.{Kind}
 use Rattle.rules.specs.declared.kind.Kind.the-variants.{Small, Large}
 use Rattle.rules.specs.declared.kind.Told.{Told}
 use Rattle.rules.specs.declared.file.File.{File}
-use Rattle.rules.specs.declared.routine.Routine.the-variants.{Delete, Make, Rename, Write, Size, WriteZeros, TestWrite}
+use Rattle.rules.specs.declared.routine.Routine.the-variants.{SearchFirst, SearchNext, Delete, Make, Rename, Write, Size, WriteZeros, TestWrite}
 use Rattle.rules.specs.declared.routine.Chosen.the-variants.{Call}
 use Rattle.rules.specs.declared.kind.Told.the-variants.{Known, Other}
 use Rattle.rules.specs.Kinds.{toldKind, entries}
-use Rattle.rules.specs.Serves.{Buffers, outcome, Did, chosen, listSize}
+use Rattle.rules.specs.Serves.{Buffers, outcome, Did, chosen, isSearch, listSize}
 use Rattle.rules.specs.declared.answer.ImageAnswer.{ImageAnswer}
 use Rattle.rules.specs.Drive.{entrySize, recordSize, goodLength, fileFrom, entryByte, extentAt, isOf, noEntry, entryOf, lookUp, isFree, freeBlocks, blocksInUse, soundImage, imageCheck, imageTold}
 use Rattle.rules.specs.Checks.{CheckTells}
@@ -32,6 +32,7 @@ use Rattle.session.specs.Session.{AsListed, session, firstImage, firstList}
 use Rattle.unlocking.specs.Unlocks.{locksTold, unlocksTold, Unlocking}
 use Rattle.unlocking.specs.Wrong.{WrongUnlocks}
 use Rattle.filling.specs.Least.{Least}
+use Rattle.listing.specs.Listing.{Searched, ShowsMatching}
 use Rattle.repair.specs.Salvage.{salvaged, salvageTold, repaired, reportOf, compared}
 use Rattle.repair.specs.Mends.{Mends}
 use Rattle.packing.specs.Packed.{packed}
@@ -63,7 +64,7 @@ pub record Claims (kind : Kind) (e : Engine) : Type 0 where
   pub unlock-order : UnlockOrder e
   -- T-10: "from a fresh list that only the engine changes, if at most p processes ever call and the capacity is at least p times the sum of the
   -- open and lock limits, then 255/11 and 14/0 are never given"
-  pub nobody-turned-away : NobodyTurnedAway e
+  pub nobody-turned-away : NobodyTurnedAway kind e
 
 -- ---- Of an engine that is told the kind by a number
 
@@ -113,13 +114,14 @@ pub record WrongFall : Type 0 where
 -- "Calls S0 to S13 below are proved as one listed session over the written rules"; the list is the one that Start gives for 3, 2, 2
 -- and sixteen zeros, whatever stood in it.
 pub record TheSession : Type 0 where
-  pub first-list : (list : List ℕ) → length list ≡ listSize → start 3 2 2 (replicate 16 0) list ≡ record { answer = 0 ∕ 0; list = firstList }
+  pub first-list : (list : List ℕ) → length list ≡ listSize → start Small 3 2 2 (replicate 16 0) list ≡ record { answer = 0 ∕ 0; list = firstList }
   pub as-listed : AsListed firstList firstImage session
 
 -- "Codes, in the order tested": a call is one table and one effect.
 pub record Tables : Type 0 where
   pub accepted : (kind : Kind) (n p c : ℕ) (b : Buffers) → anyRow (rowsCall kind n p c b) ≡ false → call kind n p c b ≡ effectOf (chosen n) (asked kind p c b) b
-  pub accepted-zero : (kind : Kind) (n p c : ℕ) (b : Buffers) → anyRow (rowsCall kind n p c b) ≡ false → call kind n p c b .answer ≡ 0 ∕ 0
+  pub accepted-zero : (kind : Kind) (n p c : ℕ) (b : Buffers) → isSearch (chosen n) ≡ false → anyRow (rowsCall kind n p c b) ≡ false
+      → call kind n p c b .answer ≡ 0 ∕ 0
   pub refused : (kind : Kind) (n p c : ℕ) (b : Buffers) → anyRow (rowsCall kind n p c b) ≡ true → call kind n p c b ≡ outcome (firstOf (rowsCall kind n p c b)) b
   pub zero-accepted : (kind : Kind) (n p c : ℕ) (b : Buffers) → call kind n p c b .answer ≡ 0 ∕ 0 → anyRow (rowsCall kind n p c b) ≡ false
 
@@ -173,6 +175,14 @@ pub record SizeClaims : Type 0 where
       → fileSize kind (b .image) f ≤ fileSize kind (callRun kind n p c b .left .image) f
   pub renamed : (kind : Kind) (n p c : ℕ) (b : Buffers) → anyRow (rowsCall kind n p c b) ≡ false → chosen n ≡ Call Rename
       → fileSize kind (call kind n p c b .left .image) (newFile p (unpack (b .list)) (b .fcb)) ≡ fileSize kind (b .image) (fileIn p b)
+
+-- T-02, "Directory listing for the clerks", of every search that no row refuses; that no call moves another process's position is in demand 3.
+pub record SearchClaims : Type 0 where
+  -- "A is its place there, 0 to 3"; "no match answers 255/0, and this one answer does set the position"; + nothing else changes
+  pub searched : (kind : Kind) (n p c : ℕ) (b : Buffers) → (chosen n ≡ Call SearchFirst) ⊎ (chosen n ≡ Call SearchNext)
+      → anyRow (rowsCall kind n p c b) ≡ false → areBytes (b .list) ≡ true → Searched kind p b (call kind n p c b)
+  -- + one 17, then 18s until 255/0: the 32 bytes at DMA 32·A are the matching entries', each once, in rising order
+  pub lists : (kind : Kind) (p c : ℕ) (b : Buffers) → anyRow (rowsCall kind 17 p c b) ≡ false → ShowsMatching kind p c b
 
 -- T-08, "Salvage for damaged books", of what `mpm_salvage` promises, told whatever number; s is the image, r the report buffer as lent.
 pub record SalvageClaims : Type 0 where
@@ -247,6 +257,7 @@ pub record AllClaims : Type 0 where
   pub checks : CheckClaims
   pub unlocks : UnlockClaims
   pub sizes : SizeClaims
+  pub searches : SearchClaims
   pub salvages : SalvageClaims
   pub packs : PackClaims
   pub sames : SameClaims

@@ -1,16 +1,16 @@
 -- What a call did, told by the call and its answer alone. Assumes nothing.
 use Prim.Native.Nat.{ℕ, _/_}
-use mathlib.Core.Bool.{Bool}
+use mathlib.Core.Bool.{Bool, not}
 use mathlib.Core.List.{List}
-use lib.Dec.{eqb}
-use Rattle.words.specs.Tests.{_or_, _if_else_}
+use lib.Dec.{leb, eqb}
+use Rattle.words.specs.Tests.{_and_, _or_, _if_else_}
 use Rattle.words.specs.Bytes.{byte}
 use Rattle.words.specs.Tables.{_∕_}
 use Rattle.rules.specs.declared.file.File.{File}
-use Rattle.rules.specs.declared.routine.Routine.the-variants.{Open, Close, Delete, Make, Rename, Read, Write, Size, WriteZeros, TestWrite, Lock, Unlock, FreeSpace, Terminate}
+use Rattle.rules.specs.declared.routine.Routine.the-variants.{Open, Close, SearchFirst, SearchNext, Delete, Make, Rename, Read, Write, Size, WriteZeros, TestWrite, Lock, Unlock, FreeSpace, Terminate}
 use Rattle.rules.specs.declared.routine.Chosen.{Chosen}
 use Rattle.rules.specs.declared.routine.Chosen.the-variants.{Call, Unknown}
-use Rattle.rules.specs.Serves.{chosen}
+use Rattle.rules.specs.Serves.{chosen, isSearch}
 use Rattle.rules.specs.Drive.{fileFrom}
 use Rattle.rules.specs.Asks.{recordOf, openMode, makeMode}
 use Rattle.history.specs.History.{Ask, Event}
@@ -41,6 +41,8 @@ newBy users q = fileFrom (byte users (q .process)) (q .fcb) 17
 unfoldable pub deedBy : Chosen → List ℕ → Ask → Deed
 deedBy (Call Open) users q = opens (q .process) (fileBy users q) (openMode (q .fcb))
 deedBy (Call Close) users q = closes (q .process) (fileBy users q)
+deedBy (Call SearchFirst) users q = nothing
+deedBy (Call SearchNext) users q = nothing
 deedBy (Call Delete) users q = drops (q .process) (fileBy users q)
 deedBy (Call Make) users q = opens (q .process) (fileBy users q) (makeMode (q .fcb))
 deedBy (Call Rename) users q = carries (fileBy users q) (newBy users q)
@@ -58,6 +60,10 @@ deedBy Unknown users q = nothing
 -- how many records were done of a call that was refused: the high four bits of H tell it
 abbrev pub doneIn : ℕ → ℕ
 doneIn answer = answer / (0 ∕ 16)
+
+-- A call was refused where its answer is not 0/0. 17 and 18 (T-02) answer a place, 0 to 3, and no match is no refusal though it answers 255/0.
+unfoldable pub isRefused : ℕ → ℕ → Bool
+isRefused n answer = (leb 4 answer and not (eqb answer (255 ∕ 0))) if isSearch (chosen n) else not (eqb answer (0 ∕ 0))
 
 -- 34 and 40
 unfoldable pub writesRun : ℕ → Bool

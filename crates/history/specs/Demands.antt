@@ -17,12 +17,12 @@ use Rattle.rules.specs.declared.item.Item.{Item}
 use Rattle.rules.specs.declared.list.LockList.{LockList}
 use Rattle.rules.specs.Serves.{Outcome, outcome, processes, listSize}
 use Rattle.rules.specs.Drive.{entrySize, blocks, recordSize, recordAt, isEmpty, userByte, blockOf, blocksInUse, freeBlocks, soundImage}
-use Rattle.rules.specs.Locks.{anEmpty, anOpen, aLock, places, itemAt, unpack, freshLock, isKindBy, opensBy, locksBy, isEmptyAt, freePlaces, soundList}
+use Rattle.rules.specs.Locks.{anEmpty, anOpen, aLock, places, itemAt, positionOf, unpack, freshLock, isKindBy, opensBy, locksBy, isEmptyAt, freePlaces, soundList}
 use Rattle.rules.specs.Asks.{recordOf}
 use Rattle.rules.specs.Look.{look}
 use Rattle.rules.specs.Several.{callRun}
 use Rattle.history.specs.History.{Ask, State, Serving, Engine, Event, Begun, withCount, isPossible, arePossible, EachCall, lent, outcomeOf, kept, eventsOf, event, after, historyOf, outcomeAfter}
-use Rattle.history.specs.Deeds.{ends, tells, deed, doneIn, fileBy}
+use Rattle.history.specs.Deeds.{ends, tells, deed, doneIn, isRefused, fileBy}
 use Rattle.history.specs.Held.{sameItem, isAmong, isBy, heldAfter, anyOpenBy}
 use Rattle.history.specs.Groups.{Group, groupOf, hasBlock, isCounted, groupsOf, countedAfter}
 
@@ -30,7 +30,7 @@ use Rattle.history.specs.Groups.{Group, groupOf, hasBlock, isCounted, gr
 -- trace: what is left is what a call of just the records done leaves, and that call is accepted.
 
 pub record NoTrace (e : Serving) (q : Ask) (s : State) : Type 0 where
-  pub unchanged : (outcomeOf e q s .answer ≡ 0 ∕ 0 → ⊥) → doneIn (outcomeOf e q s .answer) ≡ 0 → outcomeOf e q s .left ≡ lent q s
+  pub unchanged : isRefused (q .function) (outcomeOf e q s .answer) ≡ true → doneIn (outcomeOf e q s .answer) ≡ 0 → outcomeOf e q s .left ≡ lent q s
   pub no-trace : (doneIn (outcomeOf e q s .answer) ≡ 0 → ⊥)
       → outcomeOf e (withCount (doneIn (outcomeOf e q s .answer)) q) s ≡ outcome (0 ∕ 0) (outcomeOf e q s .left)
 
@@ -131,7 +131,7 @@ pub record FilesApart (kind : Kind) (u : ℕ) (s t : List ℕ) : Type 0 where
   pub bytes-same : (f : File) (r : ℕ) → f .user ≡ u → length (f .name) ≡ 11 → hasBlock kind s f r ≡ true
       → part (recordAt kind (blockOf kind s f r) r) recordSize t ≡ part (recordAt kind (blockOf kind s f r) r) recordSize s
 
--- .. and no item of another process.
+-- .. and no item of another process, nor (T-02) its position.
 unfoldable pub isAnothers : ℕ → Item → Bool
 isAnothers p it = not (eqb (it .kind) anEmpty) and not (eqb (it .process) p)
 
@@ -139,6 +139,7 @@ isAnothers p it = not (eqb (it .kind) anEmpty) and not (eqb (it .process) p)
 pub record ItemsApart (p : ℕ) (l k : LockList) : Type 0 where
   pub item-same : (i : ℕ) → i < places
       → (isAnothers p (itemAt l i) ≡ true) ⊎ (isAnothers p (itemAt k i) ≡ true) → itemAt k i ≡ itemAt l i
+  pub position-same : (q : ℕ) → (q ≡ p → ⊥) → positionOf k q ≡ positionOf l q
 
 -- ---- 8. The dead hold nothing: after an accepted 143 of a process none of its items is left until it is granted one anew.
 

@@ -112,12 +112,12 @@ pub record Begun (kind : Kind) : Type 0 where
   pub users : List ℕ
   pub given : List ℕ
   pub image : List ℕ
-  pub accepted : start capacity openlimit locklimit users given .answer ≡ 0 ∕ 0
+  pub accepted : start kind capacity openlimit locklimit users given .answer ≡ 0 ∕ 0
   pub sound : soundImage kind image ≡ true
   pub lendable : isLendable image ≡ true
 
 abbrev pub firstState : (kind : Kind) → Begun kind → State
-firstState kind g = state (start (g .capacity) (g .openlimit) (g .locklimit) (g .users) (g .given) .list) (g .image)
+firstState kind g = state (start kind (g .capacity) (g .openlimit) (g .locklimit) (g .users) (g .given) .list) (g .image)
 
 unfoldable pub after : (kind : Kind) → Engine → Begun kind → List Ask → State
 after kind e g qs = stateAfter e [] qs (firstState kind g)

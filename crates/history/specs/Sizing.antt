@@ -6,6 +6,7 @@ use mathlib.Core.List.{List, [], _∷_, _++_}
 use lib.ListN.{length}
 use Rattle.words.specs.Tests.{_and_}
 use Rattle.words.specs.Tables.{_∕_}
+use Rattle.rules.specs.declared.kind.Kind.{Kind}
 use Rattle.rules.specs.Serves.{Outcome}
 use Rattle.rules.specs.Locks.{start}
 use Rattle.sizing.specs.Sizes.{isCaller, Suffices, NotTurnedAway}
@@ -36,6 +37,6 @@ NoneTurnedAway e before (x ∷ xs) list =
 
 -- "from a fresh list that only the engine changes, if at most p processes ever call and the capacity is at least p times the sum of the open and
 -- lock limits, then 255/11 and 14/0 are never given"
-unfoldable pub NobodyTurnedAway : Engine → Type 0
-NobodyTurnedAway e = (c o k : ℕ) (users given : List ℕ) → start c o k users given .answer ≡ 0 ∕ 0 → (p : ℕ) (callers : List ℕ) → length callers ≤ p
-    → Suffices p c o k → (xs : List Lent) → areMadeBy callers xs ≡ true → NoneTurnedAway e [] xs (start c o k users given .list)
+unfoldable pub NobodyTurnedAway : Kind → Engine → Type 0
+NobodyTurnedAway kind e = (c o k : ℕ) (users given : List ℕ) → start kind c o k users given .answer ≡ 0 ∕ 0 → (p : ℕ) (callers : List ℕ) → length callers ≤ p
+    → Suffices p c o k → (xs : List Lent) → areMadeBy callers xs ≡ true → NoneTurnedAway e [] xs (start kind c o k users given .list)

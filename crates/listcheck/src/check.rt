@@ -4,21 +4,23 @@ use crate::place::place_alone;
 use locklist::start::all_users;
 use locklist::start::is_limit;
 use rules::kind::Kind;
+use rules::kind::entries;
 use rules::list::LockList;
 ghost use mathlib.Core.Path.{_≡_};
 ghost use mathlib.Core.Bool.{true};
 ghost use lib.ListN.{length};
+ghost use lib.Dec.{leb};
 ghost use Rattle.words.specs.Tests.{all};
 ghost use Rattle.words.specs.Hints.{Hints};
 ghost use Rattle.rules.specs.Kinds.{entries};
 ghost use Rattle.rules.specs.Drive.{soundImage};
-ghost use Rattle.rules.specs.Locks.{unpack, zeroAt, soundList};
+ghost use Rattle.rules.specs.Locks.{unpack, zeroAt, isPosition, soundList};
 ghost use Rattle.index.specs.Slots.{slotAt, inUse};
 ghost use Rattle.listcheck.specs.Check.{placeAloneAt, lockOpenedAt, goodHead};
 
 // The zero in each place.
 fn all_zero(list: &[u8]) -> bool
-    requires { ⌜ length (now list) ≡ 1299 ⌝ }
+    requires { ⌜ length (now list) ≡ 1315 ⌝ }
     ensures { λ r. ⌜ r ≡ all (zeroAt (now (list .entry))) 64 ⌝ }
 {
     let mut i: usize = 0;
@@ -95,9 +97,30 @@ fn good_head(capacity: u8, openlimit: u8, locklimit: u8, users: [u8; 16]) -> boo
     all_users(&users)
 }
 
+// A position is an entry's number, or that of none.
+fn is_position(kind: Kind, position: u8) -> bool
+    ensures { λ r. ⌜ r ≡ leb position (entries kind) ⌝ }
+{
+    position as usize <= entries(kind)
+}
+
+// Each position is one.
+fn all_positions(kind: Kind, positions: [u8; 16]) -> bool
+    ensures { λ r. ⌜ r ≡ all (isPosition kind positions) 16 ⌝ }
+{
+    let mut p = 0;
+    while p < 16 {
+        if !is_position(kind, positions[p]) {
+            return false;
+        }
+        p += 1;
+    }
+    true
+}
+
 // The list check: the list, unpacked and as it stands in its bytes, is sound against a sound image, whose entries the hints know.
 pub fn sound_list(kind: Kind, l: LockList, list: &[u8], image: &[u8], hints: &[u8; 256]) -> bool
-    requires { ⌜ (l ≡ unpack (now list)) × (length (now list) ≡ 1299) × (soundImage kind (now image) ≡ true) × Hints (slotAt (now image)) (inUse (now image)) (entries kind) (now hints) ⌝ }
+    requires { ⌜ (l ≡ unpack (now list)) × (length (now list) ≡ 1315) × (soundImage kind (now image) ≡ true) × Hints (slotAt (now image)) (inUse (now image)) (entries kind) (now hints) ⌝ }
     ensures { λ r. ⌜ r ≡ soundList kind (now (list .entry)) (now (image .entry)) ⌝ }
 {
     if !all_zero(list) {
@@ -116,5 +139,9 @@ pub fn sound_list(kind: Kind, l: LockList, list: &[u8], image: &[u8], hints: &[u
     if !all_apart(l) {
         return false;
     }
-    all_keep(l)
+    if !all_keep(l) {
+        return false;
+    }
+    let positions = l.positions;
+    all_positions(kind, positions)
 }

@@ -16,10 +16,11 @@ use Rattle.rules.specs.declared.list.LockList.{LockList}
 use Rattle.rules.specs.declared.routine.Chosen.the-variants.{Call}
 use Rattle.rules.specs.declared.routine.Routine.the-variants.{Lock, Unlock, Terminate}
 use Rattle.rules.specs.Serves.{Buffers, Did, withList}
-use Rattle.rules.specs.Locks.{unpack, pack, openOf, itemAt, isLimit, zeroAt, soundLocks, soundList}
+use Rattle.rules.specs.Kinds.{entries}
+use Rattle.rules.specs.Locks.{movedTo, unpack, pack, openOf, itemAt, isLimit, zeroAt, soundLocks, soundList}
 use Rattle.rules.specs.Asks.{callerFile, recordOf}
 use Rattle.rules.specs.Codes.{rowsLacking, rows42, rows43}
-use Rattle.rules.specs.Effects.{lockedRun, unlockedRun, terminated, does42, does43, does143}
+use Rattle.rules.specs.Effects.{lockedRun, unlockedRun, withoutBy, terminated, does42, does43, does143}
 use Rattle.rules.specs.Call.{askedBy, asked, rowsOf, effectOf, served}
 use Rattle.rules.proofs.Ends.{did-as, did-none, did-refuse, did-pass, served-as, did-left}
 use Rattle.locking.specs.By.{by42, by43}
@@ -91,9 +92,11 @@ module _ (kind : Kind) (p c : ℕ) (b : Buffers) (l : LockList) (f : File) (o r 
   unfolding by43 rowsOf effectOf askedBy
   unlock-called d = did-as _ _ a left (served-as kind (Call Unlock) p c b l f r hl hf hr) (rw ho at d)
 
-pub terminate-done : (kind : Kind) (p c : ℕ) (b : Buffers) (l m : LockList) (list : List ℕ) → l ≡ unpack (b .list) → m ≡ terminated p l → list ≡ pack m
-    → Did (served kind (Call Terminate) p c b) 0 (withList b list)
-unfolding served rowsOf effectOf does143 asked askedBy
-terminate-done kind p c b l m list hl hm hp =
+pub terminate-done : (kind : Kind) (p c e : ℕ) (b : Buffers) (l m k : LockList) (list : List ℕ) → l ≡ unpack (b .list) → e ≡ entries kind → m ≡ withoutBy p l
+    → k ≡ movedTo p e m → list ≡ pack k → Did (served kind (Call Terminate) p c b) 0 (withList b list)
+unfolding served rowsOf effectOf does143 terminated asked askedBy
+terminate-done kind p c e b l m k list hl he hm hk hp =
     did-pass [] b _ 0 (row-none 0 refl) 0 _ refl
-    (did-left refl refl refl (hp ∙ ap pack hm ∙ ap (λ (k : LockList). pack (terminated p k)) hl) refl)
+    (did-left refl refl refl
+    (hp ∙ ap pack hk ∙ ap (λ (n : ℕ). pack (movedTo p n m)) he ∙ ap (λ (x : LockList). pack (movedTo p (entries kind) x)) hm
+    ∙ ap (λ (x : LockList). pack (movedTo p (entries kind) (withoutBy p x))) hl) refl)

@@ -1,5 +1,6 @@
 use locklist::pack::pack;
 use rules::kind::Kind;
+use rules::kind::entries;
 use rules::list::LockList;
 ghost use mathlib.Core.Path.{_≡_};
 ghost use Rattle.rules.specs.Serves.{Did, buffers};
@@ -8,7 +9,7 @@ ghost use Rattle.rules.specs.Call.{Ready, served};
 ghost use Rattle.rules.specs.declared.routine.Chosen.the-variants.{Call};
 ghost use Rattle.rules.specs.declared.routine.Routine.the-variants.{Terminate};
 
-// 143 on the buffers: whatever the process holds is taken back.
+// 143 on the buffers: whatever the process holds is taken back, and its search ends.
 pub fn terminate(
     kind: Kind,
     p: u8,
@@ -21,6 +22,8 @@ pub fn terminate(
     requires { ⌜ (l ≡ unpack (now list)) × Ready kind (buffers (now fcb) (now dma) (now list) (now image)) ⌝ }
     ensures { λ c. ⌜ Did (served kind (Call Terminate) p 1 (buffers (now (fcb .entry)) (now (dma .entry)) (now (list .entry)) (now (image .entry)))) c (buffers (now (fcb .entry)) (now (dma .entry)) (now (list .exit)) (now (image .entry))) ⌝ }
 {
-    pack(l.terminate(p), list);
+    let none = entries(kind) as u8;
+    let gone = l.terminate(p);
+    pack(gone.move_to(p, none), list);
     0
 }

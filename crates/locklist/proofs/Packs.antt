@@ -1,32 +1,27 @@
 -- Laws of a list that is written place by place. Assumes nothing.
 use Prim.Native.Nat.{ℕ, _+_, _-_, _*_, _≤_, _<_}
-use mathlib.Core.Path.{_≡_, refl, sym, ap, _∙_}
-use mathlib.Core.List.{List, _++_, append-nil, append-assoc}
+use mathlib.Core.Path.{_≡_, refl, sym, ap, subst, _∙_}
+use mathlib.Core.List.{List, [], _++_, append-nil, append-assoc}
 use native.Mathlib.Omega.{arith}
-use lib.ListN.{length, take, drop, set}
+use lib.ListN.{length, take, drop, set, drop-of-length-le}
 use lib.Seq.{take-all}
 use borrow.Author.Needs.{needs}
 use Rattle.words.specs.Lists.{tab, flat}
 use Rattle.words.specs.Bytes.{byte, byteFrom, put}
-use Rattle.words.proofs.Lists.{length-mapped, filled, filled-turn, filled-all}
+use Rattle.words.proofs.Lists.{length-mapped, filled, filled-turn, filled-all, tab-getD}
 use Rattle.words.proofs.Bytes.{length-put}
 use Rattle.words.proofs.Items.{take-put, flat-more}
 use Rattle.rules.specs.declared.item.Item.{Item}
 use Rattle.rules.specs.declared.list.LockList.{LockList}
 use Rattle.rules.specs.Locks.{blank, itemAt, withItems, itemFrom, itemIn, packItem, pack, unpack}
 use Rattle.rules.proofs.Packing.{packed-long}
-use Rattle.locklist.specs.Heads.{heads}
-
--- the head and the first i places of s are those of the list
-pub record Packed (l : LockList) (s : List ℕ) (i : ℕ) : Type 0 where
-  pub long : length s ≡ 1299
-  pub so : take (19 + 20 * i) s ≡ heads l ++ flat packItem (take i (l .items))
+use Rattle.locklist.specs.Heads.{heads, Packed}
 
 heads-long : (l : LockList) → length (heads l) ≡ 19
 unfolding heads tab
 heads-long l = refl
 
-pub packed-none : (l : LockList) (s t h : List ℕ) → length s ≡ 1299 → h ≡ heads l → t ≡ put 0 h s → Packed l t 0
+pub packed-none : (l : LockList) (s t h : List ℕ) → length s ≡ 1315 → h ≡ heads l → t ≡ put 0 h s → Packed l t 0
 unfolding flat
 packed-none l s t h n e p =
     let k : length h ≡ 19 = ap length e ∙ heads-long l in
@@ -54,15 +49,34 @@ packed-more l s t b i m h g e p =
           ∙ sym (flat-more packItem i (l .items) blank (omega arith))));
     }
 
-pub packed-ends : (l : LockList) (s : List ℕ) (i : ℕ) → length (l .items) ≡ 64 → Packed l s i → 64 ≤ i → i ≤ 64 → s ≡ pack l
-unfolding pack heads tab
-packed-ends l s i m g h k =
-    let q : i ≡ 64 = omega arith in
-    let a : length s ≤ 19 + 20 * i = omega (arith, g .long) in
-    let b : length (l .items) ≤ i = omega arith in
-    sym (take-all (19 + 20 * i) s a) ∙ g .so ∙ ap (λ (xs : List Item). heads l ++ flat packItem xs) (take-all i (l .items) b)
+-- sixteen bytes read one by one
+pub sixteen : (xs : List ℕ) → length xs ≡ 16 → tab (byteFrom xs 0) 16 ≡ xs
+unfolding tab
+sixteen xs n = tab-getD xs 0 16 n
 
-pub ruleset packs = (needs, length-mapped, packed-none, packed-more, packed-ends)
+-- all places are written, ..
+pub packed-ends : (l : LockList) (s : List ℕ) (i : ℕ) → Packed l s i → 64 ≤ i → i ≤ 64 → Packed l s 64
+packed-ends l s i g h k = let q : i ≡ 64 = omega arith in subst (λ (n : ℕ). Packed l s n) q g
+
+-- .. the positions fit behind them, ..
+pub positions-fit : (l : LockList) (s : List ℕ) → length (l .positions) ≡ 16 → Packed l s 64 → 1299 + length (l .positions) ≤ length s
+positions-fit l s n g = omega (arith, g .long)
+
+-- .. and stand there
+pub packed-whole : (l : LockList) (s t : List ℕ) → length (l .items) ≡ 64 → length (l .positions) ≡ 16 → Packed l s 64 → t ≡ put 1299 (l .positions) s
+    → t ≡ pack l
+unfolding pack heads put
+packed-whole l s t m n g h =
+    let b : length (l .items) ≤ 64 = omega arith in
+    let c : length s ≤ 1299 + length (l .positions) = omega (arith, g .long) in
+    h ∙ ap (λ (x : List ℕ). (take 1299 s ++ l .positions) ++ x) (drop-of-length-le s c)
+    ∙ append-nil (take 1299 s ++ l .positions)
+    ∙ ap (λ (x : List ℕ). x ++ l .positions) (g .so)
+    ∙ ap (λ (xs : List Item). (heads l ++ flat packItem xs) ++ l .positions) (take-all 64 (l .items) b)
+    ∙ append-assoc (heads l) (flat packItem (l .items)) (l .positions)
+    ∙ ap (λ (x : List ℕ). heads l ++ (flat packItem (l .items) ++ x)) (sym (sixteen (l .positions) n))
+
+pub ruleset packs = (needs, length-mapped, packed-none, packed-more, packed-ends, positions-fit, packed-whole)
 
 -- the item that a place's part of the list says
 pub place-as : (s : List ℕ) (i : ℕ) (r : Item) → r ≡ itemFrom (take (19 + 20 * i + 20 - (19 + 20 * i)) (drop (19 + 20 * i) s)) → r ≡ itemIn s i
@@ -92,13 +106,15 @@ module _ (s : List ℕ) (l₀ : LockList) where
               ∙ ap (withItems l₀) (filled-turn (itemIn s) i (l₀ .items) _ x k refl e);
         }
 
--- it began with the limits and the users
-pub placed-ends : (s users : List ℕ) (items : List Item) (l : LockList) (i : ℕ) → users ≡ tab (byteFrom s 3) 16
-    → Placed s (record { capacity = byte s 0; openlimit = byte s 1; locklimit = byte s 2; users = users; items = items }) l i → 64 ≤ i → i ≤ 64 → l ≡ unpack s
+-- it began with the limits, the users and the positions
+pub placed-ends : (s users positions : List ℕ) (items : List Item) (l : LockList) (i : ℕ) → users ≡ tab (byteFrom s 3) 16
+    → positions ≡ tab (byteFrom s 1299) 16
+    → Placed s (record { capacity = byte s 0; openlimit = byte s 1; locklimit = byte s 2; users = users; items = items; positions = positions }) l i
+    → 64 ≤ i → i ≤ 64 → l ≡ unpack s
 unfolding unpack
-placed-ends s users items l i u p g h =
+placed-ends s users positions items l i u v p g h =
     let q : i ≡ 64 = omega arith in
     let e : filled (itemIn s) i items ≡ tab (itemIn s) 64 = ap (λ (n : ℕ). filled (itemIn s) n items) q ∙ filled-all (itemIn s) 64 items (p .long) in
-    p .so ∙ rw (e, u)
+    p .so ∙ rw (e, u, v)
 
 pub ruleset placing = (needs, place-as, placed-none, placed-more, placed-ends)

@@ -11,8 +11,10 @@ use Rattle.words.specs.Lists.{tab, flat}
 use Rattle.words.specs.Bytes.{byteFrom, le}
 use Rattle.words.specs.Tables.{firstOf}
 use Rattle.words.proofs.Tests.{and-snd, or-fst, or-snd}
-use Rattle.words.proofs.Lists.{tab-getD}
+use Rattle.locklist.proofs.Packs.{sixteen}
 use Rattle.words.proofs.Sets.{answers, or-first, or-then, not-of-false, not-of-true}
+use Rattle.rules.specs.declared.kind.Kind.{Kind}
+use Rattle.rules.specs.Kinds.{entries}
 use Rattle.rules.specs.Locks.{emptyPlace, firstMark, secondMark, packItem, pack, isLimit, badStart, rowsStart, freshList, Started, startEnds, start}
 use Rattle.locklist.specs.Start.{DidStart, MayStart}
 
@@ -20,7 +22,7 @@ limit-fits : (n : ℕ) → isLimit n ≡ true → n ≤ 64
 unfolding isLimit
 limit-fits n h = leb-true n 64 (and-snd (leb 1 n) (leb n 64) h)
 
-module _ (c o k : ℕ) (users list : List ℕ) where
+module _ (kind : Kind) (c o k : ℕ) (users list : List ℕ) where
   pub may-start : badStart c o k users list ≡ false → MayStart c o k users list
   unfolding badStart
   may-start h =
@@ -35,11 +37,11 @@ module _ (c o k : ℕ) (users list : List ℕ) where
         list-long = eqb-true _ _ (not-false _ (or-snd _ _ (or-snd _ _ h₃)));
       }
 
-  pub start-refused : badStart c o k users list ≡ true → DidStart (start c o k users list) 3583 list
+  pub start-refused : badStart c o k users list ≡ true → DidStart (start kind c o k users list) 3583 list
   unfolding start startEnds rowsStart firstOf _if_else_
   start-refused h = rw h (record { gives = refl; leaves = refl })
 
-  pub start-begun : (t : List ℕ) → badStart c o k users list ≡ false → t ≡ freshList c o k users → DidStart (start c o k users list) 0 t
+  pub start-begun : (t : List ℕ) → badStart c o k users list ≡ false → t ≡ freshList kind c o k users → DidStart (start kind c o k users list) 0 t
   unfolding start startEnds rowsStart firstOf _if_else_
   start-begun t h e = rw h (record { gives = refl; leaves = e })
 
@@ -48,20 +50,20 @@ empty-places : flat packItem (replicate 64 emptyPlace) ≡ replicate 1280 0
 unfolding flat packItem firstMark secondMark tab le _if_else_
 empty-places = refl
 
-sixteen : (users : List ℕ) → length users ≡ 16 → tab (byteFrom users 0) 16 ≡ users
-unfolding tab
-sixteen users n = tab-getD users 0 16 n
-
--- a list with no item, packed
-pub fresh-packed : (c o k : ℕ) (users u t : List ℕ) → length users ≡ 16 → u ≡ tab (byteFrom users 0) 16
-    → t ≡ pack (record { capacity = c; openlimit = o; locklimit = k; users = u; items = replicate 64 emptyPlace }) → t ≡ freshList c o k users
+-- a list with no item and all positions at the end, packed
+pub fresh-packed : (kind : Kind) (c o k n : ℕ) (users u t : List ℕ) → length users ≡ 16 → u ≡ tab (byteFrom users 0) 16 → n ≡ entries kind
+    → t ≡ pack (record { capacity = c; openlimit = o; locklimit = k; users = u; items = replicate 64 emptyPlace; positions = replicate 16 n })
+    → t ≡ freshList kind c o k users
 unfolding pack freshList
-fresh-packed c o k users u t n e h =
-    let q : u ≡ users = e ∙ sixteen users n in
+fresh-packed kind c o k n users u t long e d h =
+    let q : u ≡ users = e ∙ sixteen users long in
     let places : List ℕ = flat packItem (replicate 64 emptyPlace) in
-    h ∙ ap (λ (v : List ℕ). c ∷ o ∷ k ∷ (tab (byteFrom v 0) 16 ++ places)) q
-    ∙ ap (λ (v : List ℕ). c ∷ o ∷ k ∷ (v ++ places)) (sixteen users n)
-    ∙ ap (λ (v : List ℕ). c ∷ o ∷ k ∷ (users ++ v)) empty-places
+    let next : List ℕ = tab (byteFrom (replicate 16 n) 0) 16 in
+    h ∙ ap (λ (v : List ℕ). c ∷ o ∷ k ∷ (tab (byteFrom v 0) 16 ++ (places ++ next))) q
+    ∙ ap (λ (v : List ℕ). c ∷ o ∷ k ∷ (v ++ (places ++ next))) (sixteen users long)
+    ∙ ap (λ (v : List ℕ). c ∷ o ∷ k ∷ (users ++ (v ++ next))) empty-places
+    ∙ ap (λ (v : List ℕ). c ∷ o ∷ k ∷ (users ++ (replicate 1280 0 ++ v))) (sixteen (replicate 16 n) refl)
+    ∙ ap (λ (m : ℕ). c ∷ o ∷ k ∷ (users ++ (replicate 1280 0 ++ replicate 16 m))) d
 
 -- two outcomes of one start are equal
 pub start-one : (o : Started) (a b : ℕ) (s t : List ℕ) → DidStart o a s → DidStart o b t → (a ≡ b) × (s ≡ t)

@@ -18,4 +18,4 @@ pub record MayStart (c o k : ℕ) (users list : List ℕ) : Type 0 where
   pub opens-fit : o ≤ 64
   pub locks-fit : k ≤ 64
   pub users-long : length users ≡ 16
-  pub list-long : length list ≡ 1299
+  pub list-long : length list ≡ 1315

@@ -6,7 +6,7 @@ use rules::list::LockList;
 ghost use mathlib.Core.Path.{_≡_};
 ghost use lib.ListN.{length};
 ghost use Rattle.rules.specs.Locks.{packItem, pack};
-ghost use Rattle.locklist.specs.Heads.{heads};
+ghost use Rattle.locklist.specs.Heads.{heads, Packed};
 
 // The twenty bytes of an item.
 pub fn item_bytes(it: Item) -> [u8; 20]
@@ -68,10 +68,10 @@ fn head_bytes(l: LockList) -> [u8; 19]
     ]
 }
 
-// Writes the list's bytes.
-pub fn pack(l: LockList, list: &mut [u8])
-    requires { ⌜ length (now list) ≡ 1299 ⌝ }
-    ensures { λ _. ⌜ now (list .exit) ≡ pack l ⌝ }
+// Writes the list's head and its places.
+fn pack_places(l: LockList, list: &mut [u8])
+    requires { ⌜ length (now list) ≡ 1315 ⌝ }
+    ensures { λ _. ⌜ Packed l (now (list .exit)) 64 ⌝ }
 {
     let head = head_bytes(l);
     put_bytes(&mut *list, 0, &head);
@@ -82,4 +82,14 @@ pub fn pack(l: LockList, list: &mut [u8])
         put_bytes(&mut *list, 19 + 20 * i, &b);
         i += 1;
     }
+}
+
+// Writes the list's bytes.
+pub fn pack(l: LockList, list: &mut [u8])
+    requires { ⌜ length (now list) ≡ 1315 ⌝ }
+    ensures { λ _. ⌜ now (list .exit) ≡ pack l ⌝ }
+{
+    pack_places(l, &mut *list);
+    let positions = l.positions;
+    put_bytes(list, 1299, &positions);
 }

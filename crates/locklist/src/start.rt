@@ -1,7 +1,9 @@
 use crate::pack::pack;
-use crate::unpack::users_from;
+use crate::unpack::sixteen_from;
 use rules::code::BAD_CALL;
 use rules::item::Item;
+use rules::kind::Kind;
+use rules::kind::entries;
 use rules::list::LockList;
 ghost use mathlib.Core.Path.{_≡_};
 ghost use lib.ListN.{length};
@@ -38,7 +40,7 @@ pub fn all_users(users: &[u8]) -> bool
 
 // A buffer's length is wrong, or a user out of range.
 fn bad_buffers(users: &[u8], list: &[u8]) -> bool
-    ensures { λ r. ⌜ r ≡ (not (eqb (length (now (users .entry))) 16) or not (all (isUser (now (users .entry))) 16) or not (eqb (length (now (list .entry))) 1299)) ⌝ }
+    ensures { λ r. ⌜ r ≡ (not (eqb (length (now (users .entry))) 16) or not (all (isUser (now (users .entry))) 16) or not (eqb (length (now (list .entry))) 1315)) ⌝ }
 {
     if users.len() != 16 {
         return true;
@@ -46,7 +48,7 @@ fn bad_buffers(users: &[u8], list: &[u8]) -> bool
     if !all_users(users) {
         return true;
     }
-    list.len() != 1299
+    list.len() != 1315
 }
 
 // A value is out of range, or a buffer's length is wrong.
@@ -65,29 +67,38 @@ fn bad_start(capacity: u32, opens: u32, locks: u32, users: &[u8], list: &[u8]) -
     bad_buffers(users, list)
 }
 
-// Writes a fresh list, its 64 places empty.
-fn begin(capacity: u32, opens: u32, locks: u32, users: &[u8], list: &mut [u8])
+// Writes a fresh list, its 64 places empty and no search begun.
+fn begin(kind: Kind, capacity: u32, opens: u32, locks: u32, users: &[u8], list: &mut [u8])
     requires { ⌜ MayStart capacity opens locks (now users) (now list) ⌝ }
-    ensures { λ _. ⌜ now (list .exit) ≡ freshList capacity opens locks (now (users .entry)) ⌝ }
+    ensures { λ _. ⌜ now (list .exit) ≡ freshList kind capacity opens locks (now (users .entry)) ⌝ }
 {
-    let sixteen = users_from(users, 0);
+    let sixteen = sixteen_from(users, 0);
+    let none = entries(kind) as u8;
     let l = LockList {
         capacity: capacity as u8,
         openlimit: opens as u8,
         locklimit: locks as u8,
         users: sixteen,
         items: [Item::EMPTY; 64],
+        positions: [none; 16],
     };
     pack(l, list);
 }
 
 // Starts a list from three numbers and sixteen users: 0/0, or 255/13 and the list unchanged.
-pub fn start(capacity: u32, opens: u32, locks: u32, users: &[u8], list: &mut [u8]) -> u32
-    ensures { λ r. ⌜ DidStart (start capacity opens locks (now (users .entry)) (now (list .entry))) r (now (list .exit)) ⌝ }
+pub fn start(
+    kind: Kind,
+    capacity: u32,
+    opens: u32,
+    locks: u32,
+    users: &[u8],
+    list: &mut [u8],
+) -> u32
+    ensures { λ r. ⌜ DidStart (start kind capacity opens locks (now (users .entry)) (now (list .entry))) r (now (list .exit)) ⌝ }
 {
     if bad_start(capacity, opens, locks, users, &*list) {
         return BAD_CALL;
     }
-    begin(capacity, opens, locks, users, list);
+    begin(kind, capacity, opens, locks, users, list);
     0
 }

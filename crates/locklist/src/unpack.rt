@@ -16,18 +16,18 @@ fn word_of(a: u8, b: u8, c: u8, d: u8) -> u32
     (a as u32) + 256 * ((b as u32) + 256 * ((c as u32) + 256 * (d as u32)))
 }
 
-// Sixteen bytes from a place on: each process's user.
-pub fn users_from(s: &[u8], at: usize) -> [u8; 16]
+// Sixteen bytes from a place on: each process's user, or its next entry.
+pub fn sixteen_from(s: &[u8], at: usize) -> [u8; 16]
     requires { ⌜ at + 16 ≤ length (now s) ⌝ }
     ensures { λ r. ⌜ r ≡ tab (byteFrom (now (s .entry)) at) 16 ⌝ }
 {
-    let mut users = [0u8; 16];
+    let mut bytes = [0u8; 16];
     let mut i = 0;
     while i < 16 {
-        users[i] = s[at + i];
+        bytes[i] = s[at + i];
         i += 1;
     }
-    users
+    bytes
 }
 
 // The item that twenty bytes say.
@@ -47,18 +47,20 @@ pub fn item_from(b: &[u8]) -> Item
     }
 }
 
-// The list that 1,299 bytes say: its limits and users, then its places one by one.
+// The list that 1,315 bytes say: its limits, users and positions, then its places one by one.
 pub fn unpack(list: &[u8]) -> LockList
-    requires { ⌜ length (now list) ≡ 1299 ⌝ }
+    requires { ⌜ length (now list) ≡ 1315 ⌝ }
     ensures { λ r. ⌜ r ≡ unpack (now (list .entry)) ⌝ }
 {
-    let users = users_from(list, 3);
+    let users = sixteen_from(list, 3);
+    let positions = sixteen_from(list, 1299);
     let mut l = LockList {
         capacity: list[0],
         openlimit: list[1],
         locklimit: list[2],
         users: users,
         items: [Item::EMPTY; 64],
+        positions: positions,
     };
     let mut i: usize = 0;
     while i < 64 {

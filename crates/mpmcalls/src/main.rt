@@ -147,7 +147,7 @@ fn run(image: &mut [u8]) {
     if !print_header() {
         return;
     }
-    let mut list = [0u8; 1299];
+    let mut list = [0u8; 1315];
     if !start(&mut list) {
         print_bad_start();
         return;

@@ -11,7 +11,7 @@ use Rattle.rules.specs.declared.kind.Kind.the-variants.{Small, Large}
 use Rattle.rules.specs.declared.answer.ImageAnswer.{ImageAnswer}
 use Rattle.rules.specs.declared.answer.ImageAnswer.the-variants.{Sound, WrongLength, BadUser, BadName, BadNumbers, BlockOutside, BlockBefore, ExtentBefore, NoFirst}
 use Rattle.rules.specs.declared.routine.Routine.{Routine}
-use Rattle.rules.specs.declared.routine.Routine.the-variants.{Open, Close, Delete, Make, Rename, Read, Write, Size, WriteZeros, TestWrite, Lock, Unlock, FreeSpace, Terminate}
+use Rattle.rules.specs.declared.routine.Routine.the-variants.{Open, Close, SearchFirst, SearchNext, Delete, Make, Rename, Read, Write, Size, WriteZeros, TestWrite, Lock, Unlock, FreeSpace, Terminate}
 use Rattle.rules.specs.declared.routine.Chosen.the-variants.{Call}
 use Rattle.rules.specs.Serves.{functionOf, chosen}
 use Rattle.rules.specs.Drive.{badFor, imageNumber, imageEntry, imageTold}
@@ -78,6 +78,8 @@ pub chosen-back : (k : Routine) → chosen (functionOf k) ≡ Call k
 unfolding chosen functionOf _if_else_
 chosen-back Open = refl
 chosen-back Close = refl
+chosen-back SearchFirst = refl
+chosen-back SearchNext = refl
 chosen-back Delete = refl
 chosen-back Make = refl
 chosen-back Rename = refl

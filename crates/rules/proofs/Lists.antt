@@ -19,8 +19,8 @@ use Rattle.words.proofs.Sets.{choices, lowests, any-goes, is-no, lowest-stops, 
 use Rattle.rules.specs.declared.file.File.{File}
 use Rattle.rules.specs.declared.item.Item.{Item}
 use Rattle.rules.specs.declared.list.LockList.{LockList}
-use Rattle.rules.specs.Locks.{blank, emptyPlace, itemAt, withItems, freshLock, isOwnLock, held, isEmptyAt, isKindBy, isKindByAt, opensBy, locksBy, freePlace, goodItem, goodPlace, isLimit, soundLocks}
-use Rattle.rules.specs.Effects.{placed, isOfFile, unlessOfFile, closed, isInRun, unlessInRun, unlockedRun, unlessBy, terminated, lockedAt}
+use Rattle.rules.specs.Locks.{blank, emptyPlace, itemAt, withItems, withPositions, movedTo, freshLock, isOwnLock, held, isEmptyAt, isKindBy, isKindByAt, opensBy, locksBy, freePlace, goodItem, goodPlace, isLimit, soundLocks}
+use Rattle.rules.specs.Effects.{placed, isOfFile, unlessOfFile, closed, isInRun, unlessInRun, unlockedRun, unlessBy, withoutBy, lockedAt}
 use Rattle.rules.specs.declared.kind.Kind.{Kind}
 
 -- ---- a number in a run of n from r on, told without adding
@@ -99,6 +99,20 @@ placed-none it l at h n k =
 
 pub ruleset placings = (needs, length-mapped, placed-at, placed-none)
 
+-- ---- a position set
+
+pub moved-at : (l : LockList) (p e at : ℕ) → at ≡ p → withPositions l (set (l .positions) at e) ≡ movedTo p e l
+unfolding movedTo
+moved-at l p e at h = ap (λ (i : ℕ). withPositions l (set (l .positions) i e)) h
+
+-- a process over 15 has none
+pub moved-none : (l : LockList) (p e at : ℕ) → at ≡ p → length (l .positions) ≡ 16 → 16 ≤ at → l ≡ movedTo p e l
+moved-none l p e at h n k =
+    let m : length (l .positions) ≤ at = omega arith in
+    ap (withPositions l) (sym (set-out (l .positions) at e m)) ∙ moved-at l p e at h
+
+pub ruleset movings = (needs, moved-at, moved-none)
+
 -- ---- a run's records one after the other: number is that of record k, whose lock is looked for up to place i
 
 module _ (l : LockList) (p : ℕ) (f : File) (r k i number : ℕ) (e : number ≡ r + k) where
@@ -144,8 +158,8 @@ pub unlocked-is : (p : ℕ) (f : File) (r n : ℕ) (l : LockList) → unlockedRu
 unfolding unlockedRun unlessInRun withoutAll goneIf
 unlocked-is p f r n l = refl
 
-pub terminated-is : (p : ℕ) (l : LockList) → terminated p l ≡ withoutAll (λ (it : Item). eqb (it .process) p) l
-unfolding terminated unlessBy withoutAll goneIf
+pub terminated-is : (p : ℕ) (l : LockList) → withoutBy p l ≡ withoutAll (λ (it : Item). eqb (it .process) p) l
+unfolding withoutBy unlessBy withoutAll goneIf
 terminated-is p l = refl
 
 gone-empty : (t : Item → Bool) → goneIf t emptyPlace ≡ emptyPlace

@@ -24,7 +24,7 @@ use Rattle.rules.specs.Several.{servesRun, dmaAt, single, backAt, Run, s
 use Rattle.rules.proofs.Tables.{nonzero-all, accepts, refuses, call-refused, call-served, effect-zero}
 use Rattle.rules.proofs.Room.{read-room, contents-long}
 use Rattle.rules.proofs.Passed.{passed, known, drive-good}
-use Rattle.rules.proofs.Singles.{Runs, isRead, isWrite, isZeros, run-chosen, dma-back, askedAt, code-single, effect-single}
+use Rattle.rules.proofs.Singles.{Runs, isRead, isWrite, isZeros, runs-plain, run-chosen, dma-back, askedAt, code-single, effect-single}
 use Rattle.rules.proofs.Several.{codeAt, leftAt, several-none, several-more, several-stops, told-left, told-zero, told-some, run-plain, run-refused, run-told}
 use Rattle.rules.specs.declared.kind.Kind.{Kind}
 
@@ -98,7 +98,7 @@ module _ (kind : Kind) (n p : ℕ) (b : Buffers) (h : servesRun n ≡ true) (z :
   done-one y =
       let g = several-more kind n p 0 b b (several-none kind n p b) (code-is ∙ y) in
       let a : told (several kind n p 1 b) .answer ≡ effectOf (chosen n) (asked kind p 1 b) b .answer = told-zero (several kind n p 1 b)
-      (ap (λ (r : Run). r .code) g) ∙ sym (effect-zero (chosen n) (asked kind p 1 b) b) in
+      (ap (λ (r : Run). r .code) g) ∙ sym (effect-zero (chosen n) (asked kind p 1 b) b (runs-plain (chosen n) (run-chosen n h))) in
       let l : told (several kind n p 1 b) .left ≡ effectOf (chosen n) (asked kind p 1 b) b .left = told-left (several kind n p 1 b)
       ∙ ap (λ (r : Run). r .left) g ∙ left-is y in
       (λ j. record { answer = a j; left = l j }) ∙ sym (accepts _ b _ y)

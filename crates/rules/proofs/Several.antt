@@ -15,7 +15,7 @@ use Rattle.rules.specs.Serves.{Buffers, outcome}
 use Rattle.rules.specs.Codes.{rowsAll}
 use Rattle.rules.specs.Call.{rowsCall, call}
 use Rattle.rules.specs.Several.{servesRun, single, backAt, Run, run, goesOn, turnAt, several, singly, told, callRun, callSingly}
-use Rattle.rules.proofs.Tables.{accepts, refuses, call-below, all-below, answer-is}
+use Rattle.rules.proofs.Tables.{accepts, refuses, call-below, all-below, answer-below}
 use Rattle.rules.specs.declared.kind.Kind.{Kind}
 
 -- ---- turns
@@ -234,5 +234,5 @@ module _ (kind : Kind) (n p c : ℕ) (b : Buffers) where
       (let k = all-below kind n p c b in omega arith))
       (equal? (firstOf (rowsAll kind n p c b)) 0))
       (λ (h : servesRun n ≡ false). rw (run-plain kind n p c b h, singly-plain kind n p c b h)
-      (let k = call-below kind n p c b in let e = answer-is kind n p c b in omega arith))
+      (let k = answer-below kind n p c b in omega arith))
       (either (servesRun n))

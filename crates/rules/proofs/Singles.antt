@@ -22,7 +22,7 @@ use Rattle.rules.specs.declared.list.LockList.{LockList}
 use Rattle.rules.specs.declared.routine.Routine.the-variants.{Read, Write, WriteZeros}
 use Rattle.rules.specs.declared.routine.Chosen.{Chosen}
 use Rattle.rules.specs.declared.routine.Chosen.the-variants.{Call}
-use Rattle.rules.specs.Serves.{Buffers, chosen, isUnknown}
+use Rattle.rules.specs.Serves.{Buffers, chosen, isUnknown, isSearch}
 use Rattle.rules.specs.Drive.{fileFrom}
 use Rattle.rules.specs.Locks.{unpack, userOf}
 use Rattle.rules.specs.Asks.{callerFile, recordOf}
@@ -50,6 +50,13 @@ run-chosen n h =
     (λ (d : eqb n 34 ≡ false). let q : 40 ≡ n = sym (eqb-true n 40 (or-so _ _ (or-so _ _ h e) d)) in subst (λ (m : ℕ). Runs (chosen m)) q isZeros)
     (either (eqb n 34)))
     (either (eqb n 33))
+
+-- a call that takes a run is no search
+pub runs-plain : (k : Chosen) → Runs k → isSearch k ≡ false
+unfolding isSearch
+runs-plain k isRead = refl
+runs-plain k isWrite = refl
+runs-plain k isZeros = refl
 
 -- their tables look neither into the FCB nor into the DMA
 rows-single : (k : Chosen) → Runs k → (a : Asked) (i : ℕ) (b : Buffers) → rowsOf k a (single i b) ≡ rowsOf k a b

@@ -87,6 +87,15 @@ unfolding entries
 entries-some Small = omega arith
 entries-some Large = omega arith
 
+pub entries-few : (kind : Kind) → entries kind < 256
+unfolding entries
+entries-few Small = omega arith
+entries-few Large = omega arith
+
+-- (as a cast asks)
+pub entries-cast : (kind : Kind) (n : ℕ) → n ≡ entries kind → n < 256
+entries-cast kind n h = let k = entries-few kind in omega arith
+
 pub entries-byte : (kind : Kind) → entries kind ≤ 256
 unfolding entries
 entries-byte Small = omega arith
@@ -339,3 +348,9 @@ pub over-byte : (kind : Kind) (x k i b : ℕ) → i < blockSize kind → recordA
 unfolding recordAt blockRecords blockSize
 over-byte Small x k i b m = omega arith
 over-byte Large x k i b m = omega arith
+
+-- the directory record with an entry lies in the directory
+pub record-in : (kind : Kind) (e : ℕ) → e < entries kind → 128 * (e / 4) + 128 ≤ 32 * entries kind
+unfolding entries
+record-in Small e l = omega arith
+record-in Large e l = omega arith

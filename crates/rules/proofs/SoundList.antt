@@ -18,7 +18,7 @@ use Rattle.rules.specs.declared.file.File.{File}
 use Rattle.rules.specs.declared.item.Item.{Item}
 use Rattle.rules.specs.declared.list.LockList.{LockList}
 use Rattle.rules.specs.Drive.{legalName, entryOf, lookUp, missing, blockOf}
-use Rattle.rules.specs.Locks.{itemAt, userOf, fileOf, sameFile, opensName, opensNameAt, openOf, isOpened, isLimit, isUser, isLow, goodEmpty, goodOpen, opensUnlocked, goodLock, goodItem, goodPlace, clashAt, isApart, keepsLimits, soundLocks, soundList, itemIn, itemFrom, pack, unpack}
+use Rattle.rules.specs.Locks.{itemAt, userOf, positionOf, isPosition, fileOf, sameFile, opensName, opensNameAt, openOf, isOpened, isLimit, isUser, isLow, goodEmpty, goodOpen, opensUnlocked, goodLock, goodItem, goodPlace, clashAt, isApart, keepsLimits, soundLocks, soundList, itemIn, itemFrom, pack, unpack}
 use Rattle.rules.proofs.Items.{name-sym, name-then, clash-at-sym, clash-opens, open-is}
 use Rattle.rules.proofs.Packing.{ListInRange, unpack-pack, unpack-at, zero-packed}
 use Rattle.rules.proofs.Sizes.{top-fits}
@@ -27,12 +27,14 @@ use Rattle.rules.proofs.Sizes.{top-fits}
 pub record Shape (l : LockList) : Type 0 where
   pub users-long : length (l .users) ≡ 16
   pub items-long : length (l .items) ≡ 64
+  pub positions-long : length (l .positions) ≡ 16
   pub names-long : (i : ℕ) → i < 64 → length (itemAt l i .name) ≡ 11
 
 pub unpack-shape : (list : List ℕ) → Shape (unpack list)
 unfolding unpack
 unpack-shape list = record {
   users-long = length-tab _ 16;
+  positions-long = length-tab _ 16;
   items-long = length-tab _ 64;
   names-long = λ i l. ap (λ (it : Item). length (it .name)) (unpack-at list i l) ∙ from-name list i;
 }
@@ -83,6 +85,7 @@ pub record SoundLocks (kind : Kind) (l : LockList) (s : List ℕ) : Type 0 where
   pub place : (i : ℕ) → i < 64 → Vacant l i ⊎ Used kind s l i
   pub apart : (i j : ℕ) → i < 64 → j < 64 → (i ≡ j → ⊥) → clashAt l i j ≡ false
   pub keeps : (p : ℕ) → p < 16 → keepsLimits l p ≡ true
+  pub next : (p : ℕ) → p < 16 → positionOf l p ≤ entries kind
 
 pub capacity-fits : (l : LockList) → Limits l → l .capacity ≤ 64
 unfolding isLimit
@@ -104,7 +107,7 @@ module _ (kind : Kind) (l : LockList) (s : List ℕ) (h : soundLocks kind l s �
     users-good = and-fst _ _ (and-snd _ _ (and-snd _ _ (and-snd _ _ h)));
   }
 
-  places-of : (all (goodPlace kind s l) 64 and all (isApart l) 64 and all (keepsLimits l) 16) ≡ true
+  places-of : (all (goodPlace kind s l) 64 and all (isApart l) 64 and all (keepsLimits l) 16 and all (isPosition kind (l .positions)) 16) ≡ true
   unfolding soundLocks
   places-of = and-snd _ _ (and-snd _ _ (and-snd _ _ (and-snd _ _ h)))
 
@@ -189,7 +192,8 @@ module _ (kind : Kind) (l : LockList) (s : List ℕ) (h : soundLocks kind l s �
     limits = limits-of;
     place = place-of;
     apart = apart-of;
-    keeps = λ p k. all-at (keepsLimits l) 16 p (and-snd _ _ (and-snd _ _ places-of)) k;
+    keeps = λ p k. all-at (keepsLimits l) 16 p (and-fst _ _ (and-snd _ _ (and-snd _ _ places-of))) k;
+    next = λ p k. unfold isPosition in leb-true _ _ (all-at (isPosition kind (l .positions)) 16 p (and-snd _ _ (and-snd _ _ (and-snd _ _ places-of))) k);
   }
 
 -- ---- and back
@@ -258,7 +262,8 @@ module _ (kind : Kind) (l : LockList) (s : List ℕ) (g : SoundLocks kind l s) w
       (and-both _ _ (all-make (goodPlace kind s l) 64 place-so)
       (and-both _ _
       (all-make (isApart l) 64 (λ i m. not-of-false _ (any-never (clashAt l i) i (λ j k. g .apart i j m (omega arith) (λ (q : i ≡ j). absurd (omega arith))))))
-      (all-make (keepsLimits l) 16 (λ p k. g .keeps p k)))))))
+      (and-both _ _ (all-make (keepsLimits l) 16 (λ p k. g .keeps p k))
+      (all-make (isPosition kind (l .positions)) 16 (λ p k. unfold isPosition in le-leb _ _ (g .next p k)))))))))
 
   -- its parts are in range
   number-fits : (i : ℕ) → i < 64 → (itemAt l i .kind < 3) × (itemAt l i .number < 4294967296)
@@ -282,6 +287,7 @@ module _ (kind : Kind) (l : LockList) (s : List ℕ) (g : SoundLocks kind l s) w
   in-range h = record {
     users-long = h .users-long;
     items-long = h .items-long;
+    positions-long = h .positions-long;
     each = λ i m. record { kind-fits = number-fits i m .0; name-long = h .names-long i m; number-fits = number-fits i m .1 };
   }
 

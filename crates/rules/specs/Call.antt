@@ -12,7 +12,7 @@ use Rattle.rules.specs.Kinds.{entries, most}
 use Rattle.rules.specs.declared.file.File.{File}
 use Rattle.rules.specs.declared.file.Found.{Found}
 use Rattle.rules.specs.declared.list.LockList.{LockList}
-use Rattle.rules.specs.declared.routine.Routine.the-variants.{Open, Close, Delete, Make, Rename, Read, Write, Size, WriteZeros, TestWrite, Lock, Unlock, FreeSpace, Terminate}
+use Rattle.rules.specs.declared.routine.Routine.the-variants.{Open, Close, SearchFirst, SearchNext, Delete, Make, Rename, Read, Write, Size, WriteZeros, TestWrite, Lock, Unlock, FreeSpace, Terminate}
 use Rattle.rules.specs.declared.routine.Chosen.{Chosen}
 use Rattle.rules.specs.declared.routine.Chosen.the-variants.{Call, Unknown}
 use Rattle.rules.specs.Serves.{Buffers, Outcome, outcome, chosen, fcbSize, dmaSize, listSize}
@@ -20,7 +20,7 @@ use Rattle.rules.specs.Drive.{extentRecords, entrySize, blocks, entryOf,
 use Rattle.rules.specs.Locks.{openOf, unpack, soundList}
 use Rattle.rules.specs.Asks.{callerFile, newFile, recordOf}
 use Rattle.rules.specs.Codes.{rowsAll, rows15, rows16, rows19, rows22, rows23, rows33, rows34, rows35, rows41, rows42, rows43}
-use Rattle.rules.specs.Effects.{accept, does15, does16, does19, does22, does23, does33, does34, does35, does41, does42, does43, does46, does143}
+use Rattle.rules.specs.Effects.{accept, does15, does16, does17, does18, does19, does22, does23, does33, does34, does35, does41, does42, does43, does46, does143}
 
 -- a refusal leaves all four buffers unchanged; code 0 is no refusal
 unfoldable pub decided : ℕ → Buffers → Outcome → Outcome
@@ -63,6 +63,8 @@ asked kind p c b =
 unfoldable pub rowsOf : Chosen → Asked → Buffers → List Row
 rowsOf (Call Open) a b = rows15 (a .kind) (a .process) (a .list) (a .place) (a .file) (a .found) (b .fcb)
 rowsOf (Call Close) a b = rows16 (a .place)
+rowsOf (Call SearchFirst) a b = []
+rowsOf (Call SearchNext) a b = []
 rowsOf (Call Delete) a b = rows19 (a .kind) (a .process) (a .list) (a .file) (a .found) (b .fcb) (b .image)
 rowsOf (Call Make) a b = rows22 (a .kind) (a .process) (a .list) (a .found) (b .fcb) (b .image)
 rowsOf (Call Rename) a b = rows23 (a .kind) (a .list) (a .file) (a .found) (lookUp (a .kind) (b .image) (newFile (a .process) (a .list) (b .fcb))) (b .fcb) (b .image)
@@ -81,6 +83,8 @@ rowsOf Unknown a b = []
 unfoldable pub effectOf : Chosen → Asked → Buffers → Outcome
 effectOf (Call Open) a b = does15 (a .process) (a .list) (a .place) (a .file) (a .found) b
 effectOf (Call Close) a b = does16 (a .process) (a .list) (a .file) b
+effectOf (Call SearchFirst) a b = does17 (a .kind) (a .process) (a .list) b
+effectOf (Call SearchNext) a b = does18 (a .kind) (a .process) (a .list) b
 effectOf (Call Delete) a b = does19 (a .kind) (a .process) (a .list) (a .place) (a .file) b
 effectOf (Call Make) a b = does22 (a .kind) (a .process) (a .list) (a .file) b
 effectOf (Call Rename) a b = does23 (a .kind) (a .file) (newFile (a .process) (a .list) (b .fcb)) b
@@ -92,7 +96,7 @@ effectOf (Call TestWrite) a b = does41 (a .kind) (a .file) (a .found .entry) (a 
 effectOf (Call Lock) a b = does42 (a .process) (a .list) (a .place) (a .file) (a .recordNumber) (a .count) b
 effectOf (Call Unlock) a b = does43 (a .process) (a .list) (a .place) (a .file) (a .recordNumber) (a .count) b
 effectOf (Call FreeSpace) a b = does46 (a .kind) b
-effectOf (Call Terminate) a b = does143 (a .process) (a .list) b
+effectOf (Call Terminate) a b = does143 (a .kind) (a .process) (a .list) b
 effectOf Unknown a b = accept b
 
 -- A call is one table and one effect.

@@ -4,9 +4,9 @@ use mathlib.Core.Bool.{Bool, true, false, not}
 use mathlib.Core.List.{List, [], _∷_, _++_, map}
 use lib.ListN.{set, take, replicate}
 use lib.Dec.{leb, ltb, eqb}
-use Rattle.words.specs.Tests.{_and_, _if_else_}
+use Rattle.words.specs.Tests.{_and_, _or_, _if_else_, all, lowest}
 use Rattle.words.specs.Lists.{tab, turns}
-use Rattle.words.specs.Bytes.{byte, byteFrom, part, put, le}
+use Rattle.words.specs.Bytes.{byte, byteFrom, lowFrom, part, put, le}
 use Rattle.words.specs.Tables.{_∕_}
 use Rattle.rules.specs.declared.kind.Kind.{Kind}
 use Rattle.rules.specs.Kinds.{entries, blockSize, blockRecords, width}
@@ -16,13 +16,58 @@ use Rattle.rules.specs.declared.item.Item.{Item}
 use Rattle.rules.specs.declared.list.LockList.{LockList}
 use Rattle.rules.specs.declared.spot.Spot.{Spot}
 use Rattle.rules.specs.Serves.{Buffers, Outcome, buffers, outcome, withFcb, withDma, withList, withImage}
-use Rattle.rules.specs.Drive.{noEntry, entrySize, recordSize, extentRecords, mapPlace, nameAt, entryByte, isOf, lookUp, missing, freeEntry, freeBlock, freeBlocks, blockIn, recordAt, mapAt}
-use Rattle.rules.specs.Locks.{anEmpty, aLock, itemAt, withItems, modeUnlocked, emptyPlace, freshOpen, freshLock, isOpened, sameName, held, freePlace, pack}
+use Rattle.rules.specs.Drive.{noEntry, entrySize, recordSize, extentRecords, mapPlace, nameAt, entryByte, userByte, extentAt, isEmpty, isOf, lookUp, missing, freeEntry, freeBlock, freeBlocks, blockIn, recordAt, mapAt}
+use Rattle.rules.specs.Locks.{anEmpty, aLock, itemAt, userOf, positionOf, movedTo, withItems, modeUnlocked, emptyPlace, freshOpen, freshLock, isOpened, sameName, held, freePlace, pack}
 use Rattle.rules.specs.Asks.{openMode, makeMode}
 
 -- Success is 0/0.
 abbrev pub accept : Buffers → Outcome
 accept b = outcome (0 ∕ 0) b
+
+-- ---- Search First and Search Next (T-02)
+
+-- "?" standing for any character (high bits take no part in it)
+unfoldable pub isAny : ℕ → Bool
+isAny b = eqb (b % 128) 63
+
+-- byte k of the FCB's name admits that of entry e
+unfoldable pub admitsByte : List ℕ → List ℕ → ℕ → ℕ → Bool
+admitsByte fcb s e k = isAny (byte fcb (1 + k)) or eqb (lowFrom s (nameAt e) k) (lowFrom fcb 1 k)
+
+-- byte 12 "?" admits all extents, else only extent 0
+unfoldable pub admitsExtent : List ℕ → List ℕ → ℕ → Bool
+admitsExtent fcb s e = eqb (byte fcb 12) 63 or eqb (extentAt s e) 0
+
+-- Each matches entries of the caller's user against the FCB name.
+unfoldable pub isMatch : ℕ → List ℕ → List ℕ → ℕ → Bool
+isMatch user fcb s e = not (isEmpty s e) and eqb (userByte s e) user and all (admitsByte fcb s e) 11 and admitsExtent fcb s e
+
+-- the first match from an entry on, the number of entries where there is none
+unfoldable pub isMatchFrom : ℕ → ℕ → List ℕ → List ℕ → ℕ → Bool
+isMatchFrom from user fcb s e = leb from e and isMatch user fcb s e
+
+unfoldable pub matchFrom : Kind → ℕ → ℕ → List ℕ → List ℕ → ℕ
+matchFrom kind from user fcb s = lowest (isMatchFrom from user fcb s) (entries kind)
+
+-- On success DMA bytes 0 to 127 hold the directory record with the entry and A is its place there, 0 to 3; a find leaves the entry after it.
+unfoldable pub finds : ℕ → LockList → ℕ → Buffers → Outcome
+finds p l e b =
+    outcome (e % 4 ∕ 0) (buffers (b .fcb) (put 0 (part (recordSize * (e / 4)) recordSize (b .image)) (b .dma)) (pack (movedTo p (e + 1) l)) (b .image))
+
+-- No match answers 255/0, and this one answer does set the position: no find leaves 64 (128).
+unfoldable pub findsNone : Kind → ℕ → LockList → Buffers → Outcome
+findsNone kind p l b = outcome (255 ∕ 0) (withList b (pack (movedTo p (entries kind) l)))
+
+unfoldable pub searched : Kind → ℕ → LockList → ℕ → Buffers → Outcome
+searched kind p l e b = findsNone kind p l b if noEntry kind e else finds p l e b
+
+-- First begins at 0; ..
+unfoldable pub does17 : Kind → ℕ → LockList → Buffers → Outcome
+does17 kind p l b = searched kind p l (matchFrom kind 0 (userOf l p) (b .fcb) (b .image)) b
+
+-- .. Next at the position, and reads the directory as it then stands.
+unfoldable pub does18 : Kind → ℕ → LockList → Buffers → Outcome
+does18 kind p l b = searched kind p l (matchFrom kind (positionOf l p) (userOf l p) (b .fcb) (b .image)) b
 
 -- ---- Open and Make
 
@@ -193,8 +238,12 @@ unlockedRun p f r n l = withItems l (map (unlessInRun p f r n) (l .items))
 unfoldable pub unlessBy : ℕ → Item → Item
 unlessBy p it = emptyPlace if eqb (it .process) p else it
 
-unfoldable pub terminated : ℕ → LockList → LockList
-terminated p l = withItems l (map (unlessBy p) (l .items))
+unfoldable pub withoutBy : ℕ → LockList → LockList
+withoutBy p l = withItems l (map (unlessBy p) (l .items))
+
+-- and its position becomes 64 (128)
+unfoldable pub terminated : Kind → ℕ → LockList → LockList
+terminated kind p l = movedTo p (entries kind) (withoutBy p l)
 
 unfoldable pub does16 : ℕ → LockList → File → Buffers → Outcome
 does16 p l f b = accept (withList b (pack (closed p f l)))
@@ -207,8 +256,8 @@ closedWhere p l o f list = pack (closed p f l) if isOpened o else list
 unfoldable pub does19 : Kind → ℕ → LockList → ℕ → File → Buffers → Outcome
 does19 kind p l o f b = accept (withImage (withList b (closedWhere p l o f (b .list))) (erased kind f (b .image)))
 
-unfoldable pub does143 : ℕ → LockList → Buffers → Outcome
-does143 p l b = accept (withList b (pack (terminated p l)))
+unfoldable pub does143 : Kind → ℕ → LockList → Buffers → Outcome
+does143 kind p l b = accept (withList b (pack (terminated kind p l)))
 
 -- ---- 42 and 43
 

@@ -2,7 +2,7 @@
 use Prim.Native.Nat.{ℕ, _+_, _*_}
 use mathlib.Core.Bool.{Bool, not}
 use mathlib.Core.List.{List, [], _∷_, _++_}
-use lib.ListN.{length, getD, replicate}
+use lib.ListN.{length, getD, set, replicate}
 use lib.Dec.{leb, ltb, eqb}
 use Rattle.words.specs.Tests.{_and_, _or_, _if_else_, all, any, lowest, count}
 use Rattle.words.specs.Lists.{tab, flat}
@@ -14,7 +14,7 @@ use Rattle.rules.specs.declared.item.Item.{Item}
 use Rattle.rules.specs.declared.list.LockList.{LockList}
 use Rattle.rules.specs.Serves.{processes, listSize}
 use Rattle.rules.specs.Drive.{legalName, lookUp, missing, blockOf}
-use Rattle.rules.specs.Kinds.{top}
+use Rattle.rules.specs.Kinds.{entries, top}
 
 -- ---- Places and items
 
@@ -85,7 +85,18 @@ abbrev pub userOf : LockList → ℕ → ℕ
 userOf l p = getD (l .users) p 0
 
 abbrev pub withItems : LockList → List Item → LockList
-withItems l xs = record { capacity = l .capacity; openlimit = l .openlimit; locklimit = l .locklimit; users = l .users; items = xs }
+withItems l xs = record { capacity = l .capacity; openlimit = l .openlimit; locklimit = l .locklimit; users = l .users; items = xs; positions = l .positions }
+
+-- one next entry per process (T-02)
+abbrev pub positionOf : LockList → ℕ → ℕ
+positionOf l p = byte (l .positions) p
+
+abbrev pub withPositions : LockList → List ℕ → LockList
+withPositions l xs = record { capacity = l .capacity; openlimit = l .openlimit; locklimit = l .locklimit; users = l .users; items = l .items; positions = xs }
+
+-- the process's next entry is e
+unfoldable pub movedTo : ℕ → ℕ → LockList → LockList
+movedTo p e l = withPositions l (set (l .positions) p e)
 
 -- ---- The bytes
 
@@ -107,7 +118,8 @@ packItem it =
 unfoldable pub itemIn : List ℕ → ℕ → Item
 itemIn s i = itemFrom (part (placeAt i) placeSize s)
 
--- Bytes 0 to 2: capacity, open limit and lock limit. Bytes 3 to 18: each process's user. Then 64 places.
+-- Bytes 0 to 2: capacity, open limit and lock limit. Bytes 3 to 18: each process's user. Then 64 places. Sixteen bytes join the
+-- end (1,315 in all), one next entry per process (T-02).
 unfoldable pub unpack : List ℕ → LockList
 unpack s = record {
   capacity = byte s 0;
@@ -115,10 +127,13 @@ unpack s = record {
   locklimit = byte s 2;
   users = tab (byteFrom s 3) processes;
   items = tab (itemIn s) places;
+  positions = tab (byteFrom s (placeAt places)) processes;
 }
 
 unfoldable pub pack : LockList → List ℕ
-pack l = l .capacity ∷ l .openlimit ∷ l .locklimit ∷ (tab (byteFrom (l .users) 0) processes ++ flat packItem (l .items))
+pack l =
+    l .capacity ∷ l .openlimit ∷ l .locklimit
+    ∷ (tab (byteFrom (l .users) 0) processes ++ (flat packItem (l .items) ++ tab (byteFrom (l .positions) 0) processes))
 
 -- ---- Whose an item is
 
@@ -275,10 +290,15 @@ isApart l i = not (any (clashAt l i) i)
 unfoldable pub keepsLimits : LockList → ℕ → Bool
 keepsLimits l p = leb (opensBy l p) (l .openlimit) and leb (locksBy l p) (l .locklimit)
 
+-- one next entry, 0 to 64, per process (to 128 on the second kind of drive): a position above makes the list unsound
+unfoldable pub isPosition : Kind → List ℕ → ℕ → Bool
+isPosition kind positions p = leb (byte positions p) (entries kind)
+
 unfoldable pub soundLocks : Kind → LockList → List ℕ → Bool
 soundLocks kind l s =
     isLimit (l .capacity) and isLimit (l .openlimit) and isLimit (l .locklimit) and all (isUser (l .users)) processes
     and all (goodPlace kind s l) places and all (isApart l) places and all (keepsLimits l) processes
+    and all (isPosition kind (l .positions)) processes
 
 -- the zero in each place
 unfoldable pub zeroAt : List ℕ → ℕ → Bool
@@ -298,9 +318,9 @@ badStart c o k users list =
 unfoldable pub rowsStart : ℕ → ℕ → ℕ → List ℕ → List ℕ → List Row
 rowsStart c o k users list = 255 ∕ 13 when badStart c o k users list ∷ []
 
--- a fresh list from three numbers and sixteen users: its 64 places empty
-unfoldable pub freshList : ℕ → ℕ → ℕ → List ℕ → List ℕ
-freshList c o k users = c ∷ o ∷ k ∷ (users ++ replicate (placeSize * places) 0)
+-- a fresh list from three numbers and sixteen users: its 64 places empty; Start sets the positions to 64 (to 128)
+unfoldable pub freshList : Kind → ℕ → ℕ → ℕ → List ℕ → List ℕ
+freshList kind c o k users = c ∷ o ∷ k ∷ (users ++ (replicate (placeSize * places) 0 ++ replicate processes (entries kind)))
 
 -- what Start answers, and the list that it leaves
 pub record Started : Type 0 where
@@ -311,5 +331,5 @@ unfoldable pub startEnds : ℕ → List ℕ → List ℕ → Started
 startEnds code fresh list =
     record { answer = 0 ∕ 0; list = fresh } if eqb code 0 else record { answer = code; list = list }
 
-unfoldable pub start : ℕ → ℕ → ℕ → List ℕ → List ℕ → Started
-start c o k users list = startEnds (firstOf (rowsStart c o k users list)) (freshList c o k users) list
+unfoldable pub start : Kind → ℕ → ℕ → ℕ → List ℕ → List ℕ → Started
+start kind c o k users list = startEnds (firstOf (rowsStart c o k users list)) (freshList kind c o k users) list

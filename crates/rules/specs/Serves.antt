@@ -6,7 +6,7 @@ use mathlib.Core.List.{List}
 use lib.Dec.{eqb}
 use Rattle.words.specs.Tests.{_if_else_}
 use Rattle.rules.specs.declared.routine.Routine.{Routine}
-use Rattle.rules.specs.declared.routine.Routine.the-variants.{Open, Close, Delete, Make, Rename, Read, Write, Size, WriteZeros, TestWrite, Lock, Unlock, FreeSpace, Terminate}
+use Rattle.rules.specs.declared.routine.Routine.the-variants.{Open, Close, SearchFirst, SearchNext, Delete, Make, Rename, Read, Write, Size, WriteZeros, TestWrite, Lock, Unlock, FreeSpace, Terminate}
 use Rattle.rules.specs.declared.routine.Chosen.{Chosen}
 use Rattle.rules.specs.declared.routine.Chosen.the-variants.{Call, Unknown}
 
@@ -15,10 +15,13 @@ abbrev pub processes : ℕ
 processes = 16
 
 -- Calls: 15 Open, 16 Close, 19 Delete, 22 Make, 23 Rename, 33 Read Random, 34 Write Random, 40 Write Random with Zero
--- Fill, 41 Test and Write, 42 Lock Record, 43 Unlock Record, 46 Get Disk Free Space, 143 Terminate; 35 Compute File Size (T-05).
+-- Fill, 41 Test and Write, 42 Lock Record, 43 Unlock Record, 46 Get Disk Free Space, 143 Terminate; 35 Compute File Size (T-05); 17 Search
+-- First, 18 Search Next (T-02).
 unfoldable pub functionOf : Routine → ℕ
 functionOf Open = 15
 functionOf Close = 16
+functionOf SearchFirst = 17
+functionOf SearchNext = 18
 functionOf Delete = 19
 functionOf Make = 22
 functionOf Rename = 23
@@ -37,6 +40,8 @@ unfoldable pub chosen : ℕ → Chosen
 chosen n =
     Call Open if eqb n 15 else
     Call Close if eqb n 16 else
+    Call SearchFirst if eqb n 17 else
+    Call SearchNext if eqb n 18 else
     Call Delete if eqb n 19 else
     Call Make if eqb n 22 else
     Call Rename if eqb n 23 else
@@ -55,7 +60,27 @@ unfoldable pub isUnknown : Chosen → Bool
 isUnknown (Call k) = false
 isUnknown Unknown = true
 
--- A call has four separate lent buffers: FCB (36 bytes), DMA (2,048 since T-07), list (1,299), image.
+-- 17 and 18, whose answer is no 0/0 where they are accepted (T-02)
+unfoldable pub isSearch : Chosen → Bool
+isSearch (Call SearchFirst) = true
+isSearch (Call SearchNext) = true
+isSearch (Call Open) = false
+isSearch (Call Close) = false
+isSearch (Call Delete) = false
+isSearch (Call Make) = false
+isSearch (Call Rename) = false
+isSearch (Call Read) = false
+isSearch (Call Write) = false
+isSearch (Call Size) = false
+isSearch (Call WriteZeros) = false
+isSearch (Call TestWrite) = false
+isSearch (Call Lock) = false
+isSearch (Call Unlock) = false
+isSearch (Call FreeSpace) = false
+isSearch (Call Terminate) = false
+isSearch Unknown = false
+
+-- A call has four separate lent buffers: FCB (36 bytes), DMA (2,048 since T-07), list (1,315 since T-02), image.
 abbrev pub fcbSize : ℕ
 fcbSize = 36
 
@@ -63,7 +88,7 @@ abbrev pub dmaSize : ℕ
 dmaSize = 2048
 
 abbrev pub listSize : ℕ
-listSize = 1299
+listSize = 1315
 
 pub record Buffers : Type 0 where
   pub fcb : List ℕ

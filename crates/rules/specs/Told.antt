@@ -20,9 +20,8 @@ unfoldable pub singlyTold : Told → ℕ → ℕ → ℕ → Buffers → Outcome
 singlyTold (Known kind) n p c b = callSingly kind n p c b
 singlyTold Other n p c b = outcome (255 ∕ 13) b
 
--- (a fresh list is the same for both kinds)
 unfoldable pub startTold : Told → ℕ → ℕ → ℕ → List ℕ → List ℕ → Started
-startTold (Known kind) c o k users list = start c o k users list
+startTold (Known kind) c o k users list = start kind c o k users list
 startTold Other c o k users list = record { answer = 255 ∕ 13; list = list }
 
 -- .. 1 from the image check.

@@ -16,6 +16,8 @@ pub const NOT_FOUND: u32 = 255;
 
 pub const NO_EMPTY_ENTRY: u32 = 255;
 
+pub const NO_MATCH: u32 = 255;
+
 pub const READ_ONLY: u32 = 255 + 256 * 3;
 
 pub const IN_USE: u32 = 255 + 256 * 5;

@@ -5,17 +5,18 @@ use crate::tests::user_in;
 ghost use mathlib.Core.Path.{_≡_};
 ghost use Prim.Native.Nat.{_+_, _<_, _≤_};
 ghost use Rattle.words.specs.Tests.{any, lowest, count};
-ghost use Rattle.rules.specs.Locks.{itemAt, userOf, openOf, anyOpen, lockedByOther, opensBy, locksBy, freePlace, freePlaces, isKindByAt};
+ghost use Rattle.rules.specs.Locks.{itemAt, userOf, positionOf, movedTo, openOf, anyOpen, lockedByOther, opensBy, locksBy, freePlace, freePlaces, isKindByAt};
 ghost use Rattle.rules.specs.Codes.{standsAgainstAt, isOthers, isNew};
-ghost use Rattle.rules.specs.Effects.{placed, opened, closed, unlockedRun, terminated, lockedRun};
+ghost use Rattle.rules.specs.Effects.{placed, opened, closed, unlockedRun, withoutBy, lockedRun};
 
-// The lock list, unpacked: its limits, each process's user, and 64 places.
+// The lock list, unpacked: its limits, each process's user, 64 places, and each process's next entry.
 pub struct LockList {
     pub capacity: u8,
     pub openlimit: u8,
     pub locklimit: u8,
     pub users: [u8; 16],
     pub items: [Item; 64],
+    pub positions: [u8; 16],
 }
 
 impl LockList {
@@ -47,7 +48,7 @@ impl LockList {
 
     // The list with all items of the process gone.
     pub fn terminate(mut self, p: u8) -> LockList
-        ensures { λ r. ⌜ r ≡ terminated p self ⌝ }
+        ensures { λ r. ⌜ r ≡ withoutBy p self ⌝ }
     {
         let mut i = 0;
         while i < 64 {
@@ -56,6 +57,26 @@ impl LockList {
             i += 1;
         }
         self
+    }
+
+    // The list with the process's next entry at e.
+    pub fn move_to(mut self, p: u8, e: u8) -> LockList
+        ensures { λ r. ⌜ r ≡ movedTo p e self ⌝ }
+    {
+        let at = p as usize;
+        if at < 16 {
+            self.positions[at] = e;
+            return self;
+        }
+        self
+    }
+
+    // The process's next entry, 0 for one over 15.
+    pub fn position_of(self, p: u8) -> u8
+        ensures { λ r. ⌜ r ≡ positionOf self p ⌝ }
+    {
+        let positions = self.positions;
+        user_in(positions, p)
     }
 
     // The lowest empty place below the capacity, the capacity where there is none.

@@ -1,7 +1,9 @@
-// The fourteen calls.
+// The sixteen calls.
 pub enum Routine {
     Open,
     Close,
+    SearchFirst,
+    SearchNext,
     Delete,
     Make,
     Rename,

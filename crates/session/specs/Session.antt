@@ -41,7 +41,7 @@ firstImage = replicate 4096 0xE5
 
 -- capacity 3, open limit 2, lock limit 2, all users 0
 unfoldable pub firstList : List ℕ
-firstList = 3 ∷ 2 ∷ 2 ∷ replicate 1296 0
+firstList = 3 ∷ 2 ∷ 2 ∷ (replicate 1296 0 ++ replicate 16 64)
 
 -- entry 0 with its first byte, its count and its first two map bytes, the rest of the directory empty, then blocks 2 and 3
 unfoldable pub imageWith : ℕ → ℕ → ℕ → ℕ → List ℕ → List ℕ → List ℕ
@@ -58,7 +58,7 @@ writtenWith id = id ∷ (replicate 127 0 ++ replicate 896 0xE5)
 
 -- the list with places 0, 1 and 2
 unfoldable pub listWith : List ℕ → List ℕ → List ℕ → List ℕ
-listWith place₀ place₁ place₂ = 3 ∷ 2 ∷ 2 ∷ (replicate 16 0 ++ (place₀ ++ (place₁ ++ (place₂ ++ replicate 1220 0))))
+listWith place₀ place₁ place₂ = 3 ∷ 2 ∷ 2 ∷ (replicate 16 0 ++ (place₀ ++ (place₁ ++ (place₂ ++ (replicate 1220 0 ++ replicate 16 64)))))
 
 unfoldable pub openBy : ℕ → List ℕ
 openBy p = 0x4F ∷ 0x46 ∷ p ∷ (orders ++ (1 ∷ 0 ∷ 0 ∷ 0 ∷ 0 ∷ 0 ∷ []))

@@ -53,7 +53,7 @@ module _ (kind : Kind) (callers : List ℕ) (p c : ℕ) (b : Buffers) (on : isCa
             ap (λ (x : Item). isCaller callers (x .process)) (e .now) ∙ on)
             (r .place i m);
       }))
-  left-only t list (emptied ok u away turn e own h) =
+  left-only t list (emptied ok u away turn e own xs stay h) =
       let shape = shape-of kind p c b ok in
       packed (OnlyBy callers) kind _ u h (record {
         each = λ i m z. ⊎-elim

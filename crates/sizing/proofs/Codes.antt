@@ -14,7 +14,7 @@ use Rattle.words.proofs.Sets.{or-none}
 use Rattle.rules.specs.declared.kind.Kind.{Kind}
 use Rattle.rules.specs.declared.file.File.{File}
 use Rattle.rules.specs.declared.list.LockList.{LockList}
-use Rattle.rules.specs.declared.routine.Routine.the-variants.{Open, Close, Delete, Make, Rename, Read, Write, Size, WriteZeros, TestWrite, Lock, Unlock, FreeSpace, Terminate}
+use Rattle.rules.specs.declared.routine.Routine.the-variants.{Open, Close, SearchFirst, SearchNext, Delete, Make, Rename, Read, Write, Size, WriteZeros, TestWrite, Lock, Unlock, FreeSpace, Terminate}
 use Rattle.rules.specs.declared.routine.Chosen.{Chosen}
 use Rattle.rules.specs.declared.routine.Chosen.the-variants.{Call, Unknown}
 use Rattle.rules.specs.Serves.{Buffers, chosen}
@@ -24,7 +24,7 @@ use Rattle.rules.specs.Codes.{rowsInside, rowsAll, rowsNew, rows15, rows16, row
 use Rattle.rules.specs.Call.{asked, askedBy, rowsOf, rowsCall, call}
 use Rattle.rules.specs.Several.{servesRun}
 use Rattle.rules.proofs.Singles.{Runs, isRead, isWrite, isZeros, run-chosen}
-use Rattle.rules.proofs.Tables.{answer-is}
+use Rattle.rules.proofs.Tables.{answer-first}
 use Rattle.rules.proofs.Passed.{Passed, passed}
 
 -- ---- tables by code
@@ -116,6 +116,8 @@ module _ (kind : Kind) (p c : ℕ) (b : Buffers) where
       let h₁ = row-past (10 ∕ 0) (255 ∕ 11) _ _ (λ z. omega arith) h .1 in
       absurd (absent (255 ∕ 11) _ not-11 refl (only-gives (255 ∕ 11) _ _ not-11 h₁))
   own-11 (Call Close) h = absurd (absent (255 ∕ 11) _ not-11 refl h)
+  own-11 (Call SearchFirst) h = absurd (absent (255 ∕ 11) _ not-11 refl h)
+  own-11 (Call SearchNext) h = absurd (absent (255 ∕ 11) _ not-11 refl h)
   own-11 (Call Delete) h = absurd (absent (255 ∕ 11) _ not-11 refl h)
   own-11 (Call Rename) h = absurd (absent (255 ∕ 11) _ not-11 refl h)
   own-11 (Call Read) h = absurd (absent (255 ∕ 11) _ not-11 refl h)
@@ -147,6 +149,8 @@ module _ (kind : Kind) (p c : ℕ) (b : Buffers) where
   own-14 (Call Make) h = absurd (absent (14 ∕ 0) _ not-14 refl h)
   own-14 (Call Unlock) h = absurd (absent (14 ∕ 0) _ not-14 refl (only-gives (14 ∕ 0) _ _ not-14 (row-past (10 ∕ 0) (14 ∕ 0) _ _ (λ z. omega arith) h .1)))
   own-14 (Call Close) h = absurd (absent (14 ∕ 0) _ not-14 refl h)
+  own-14 (Call SearchFirst) h = absurd (absent (14 ∕ 0) _ not-14 refl h)
+  own-14 (Call SearchNext) h = absurd (absent (14 ∕ 0) _ not-14 refl h)
   own-14 (Call Delete) h = absurd (absent (14 ∕ 0) _ not-14 refl h)
   own-14 (Call Rename) h = absurd (absent (14 ∕ 0) _ not-14 refl h)
   own-14 (Call Read) h = absurd (absent (14 ∕ 0) _ not-14 refl h)
@@ -161,12 +165,12 @@ module _ (kind : Kind) (p c : ℕ) (b : Buffers) where
 -- ---- a call
 
 module _ (kind : Kind) (n p c : ℕ) (b : Buffers) where
-  -- a code that is none of the general table's: the call passed that, and its own table gave it
-  own-gives : (code : ℕ) → (255 ∕ 13 ≡ code → ⊥) → (255 ∕ 1 ≡ code → ⊥) → (255 ∕ 12 ≡ code → ⊥) → (255 ∕ 4 ≡ code → ⊥) → call kind n p c b .answer ≡ code
+  -- a code that is no effect's and none of the general table's: the call passed that, and its own table gave it
+  own-gives : (code : ℕ) → 4 ≤ code → (255 ∕ 0 ≡ code → ⊥) → (255 ∕ 13 ≡ code → ⊥) → (255 ∕ 1 ≡ code → ⊥) → (255 ∕ 12 ≡ code → ⊥) → (255 ∕ 4 ≡ code → ⊥) → call kind n p c b .answer ≡ code
       → Passed kind p c b × (firstOf (rowsOf (chosen n) (asked kind p c b) b) ≡ code)
   unfolding rowsCall rowsAll rowsInside
-  own-gives code a₁ a₂ a₃ a₄ h =
-      let w₁ = row-past (255 ∕ 13) code _ _ a₁ (sym (answer-is kind n p c b) ∙ h) in
+  own-gives code low none a₁ a₂ a₃ a₄ h =
+      let w₁ = row-past (255 ∕ 13) code _ _ a₁ (answer-first kind n p c b code low none h) in
       let w₂ = row-past (255 ∕ 1) code _ _ a₂ (w₁ .1) in
       let w₃ = row-past (255 ∕ 12) code _ _ a₃ (w₂ .1) in
       let w₄ = row-past (255 ∕ 4) code _ _ a₄ (w₃ .1) in
@@ -179,14 +183,14 @@ module _ (kind : Kind) (n p c : ℕ) (b : Buffers) where
   -- a call answered 255/11: its caller is below its open limit, and no place is empty; ..
   pub gives-11 : call kind n p c b .answer ≡ 255 ∕ 11 → Passed kind p c b × NoPlace p (unpack (b .list))
   gives-11 h =
-      let w = own-gives (255 ∕ 11) (λ z. omega arith) (λ z. omega arith) (λ z. omega arith) (λ z. omega arith) h in
+      let w = own-gives (255 ∕ 11) (omega arith) (λ z. omega arith) (λ z. omega arith) (λ z. omega arith) (λ z. omega arith) (λ z. omega arith) h in
       (w .0, own-11 kind p c b (chosen n) (w .1))
 
   -- .. answered 14/0: its caller stays within its lock limit, and too few are
   pub gives-14 : call kind n p c b .answer ≡ 14 ∕ 0
       → Passed kind p c b × TooFew p c (unpack (b .list)) (callerFile p (unpack (b .list)) (b .fcb)) (recordOf (b .fcb))
   gives-14 h =
-      let w = own-gives (14 ∕ 0) (λ z. omega arith) (λ z. omega arith) (λ z. omega arith) (λ z. omega arith) h in
+      let w = own-gives (14 ∕ 0) (omega arith) (λ z. omega arith) (λ z. omega arith) (λ z. omega arith) (λ z. omega arith) (λ z. omega arith) h in
       (w .0, own-14 kind p c b (chosen n) (w .1))
 
 -- ---- 33, 34 and 40 give neither, whatever they are lent
@@ -208,9 +212,9 @@ module _ (kind : Kind) (n p c : ℕ) (b : Buffers) (h : servesRun n ≡ true) wh
   -- a call that takes runs never answers 255/11, ..
   pub never-11 : call kind n p c b .answer ≡ 255 ∕ 11 → ⊥
   never-11 e = absent (255 ∕ 11) _ (not-11 kind p c b) (run-11 kind p c b (chosen n) (run-chosen n h))
-      (own-gives kind n p c b (255 ∕ 11) (λ z. omega arith) (λ z. omega arith) (λ z. omega arith) (λ z. omega arith) e .1)
+      (own-gives kind n p c b (255 ∕ 11) (omega arith) (λ z. omega arith) (λ z. omega arith) (λ z. omega arith) (λ z. omega arith) (λ z. omega arith) e .1)
 
   -- .. nor 14/0
   pub never-14 : call kind n p c b .answer ≡ 14 ∕ 0 → ⊥
   never-14 e = absent (14 ∕ 0) _ (not-14 kind p c b) (run-14 kind p c b (chosen n) (run-chosen n h))
-      (own-gives kind n p c b (14 ∕ 0) (λ z. omega arith) (λ z. omega arith) (λ z. omega arith) (λ z. omega arith) e .1)
+      (own-gives kind n p c b (14 ∕ 0) (omega arith) (λ z. omega arith) (λ z. omega arith) (λ z. omega arith) (λ z. omega arith) (λ z. omega arith) e .1)

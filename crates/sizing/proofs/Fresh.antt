@@ -20,64 +20,67 @@ use Rattle.words.proofs.Counts.{count-zero}
 use Rattle.rules.specs.declared.kind.Kind.{Kind}
 use Rattle.rules.specs.declared.item.Item.{Item}
 use Rattle.rules.specs.declared.list.LockList.{LockList}
+use Rattle.rules.specs.Kinds.{entries}
 use Rattle.rules.specs.Locks.{places, placeSize, blank, emptyPlace, itemAt, firstMark, secondMark, packItem, pack, isKindBy, isKindByAt, opensBy, locksBy, isZero, goodEmpty, clashAt, keepsLimits, badStart, rowsStart, freshList, startEnds, start}
 use Rattle.rules.proofs.Items.{clash-none}
 use Rattle.rules.proofs.SoundList.{Shape, Limits, SoundLocks}
 
--- as it reads: the limits and users given, and its places, all empty
-abbrev pub fresh : ℕ → ℕ → ℕ → List ℕ → LockList
-fresh c o k users = record { capacity = c; openlimit = o; locklimit = k; users = users; items = replicate 64 emptyPlace }
+-- as it reads: the limits and users given, its places, all empty, and no search begun
+abbrev pub fresh : Kind → ℕ → ℕ → ℕ → List ℕ → LockList
+fresh kind c o k users = record { capacity = c; openlimit = o; locklimit = k; users = users; items = replicate 64 emptyPlace; positions = replicate 16 (entries kind) }
 
 fresh-bytes : flat packItem (replicate 64 emptyPlace) ≡ replicate (placeSize * places) 0
 unfolding flat packItem tab le firstMark secondMark _if_else_
 fresh-bytes = refl
 
 -- packed it is the one that Start writes, ..
-pub fresh-packed : (c o k : ℕ) (users : List ℕ) → length users ≡ 16 → pack (fresh c o k users) ≡ freshList c o k users
+pub fresh-packed : (kind : Kind) (c o k : ℕ) (users : List ℕ) → length users ≡ 16 → pack (fresh kind c o k users) ≡ freshList kind c o k users
 unfolding pack freshList tab
-fresh-packed c o k users h =
-    rw fresh-bytes (ap (λ (u : List ℕ). c ∷ o ∷ k ∷ (u ++ replicate (placeSize * places) 0)) (tab-getD users 0 16 h))
+fresh-packed kind c o k users h =
+    rw fresh-bytes (ap (λ (u : List ℕ). c ∷ o ∷ k ∷ (u ++ (replicate (placeSize * places) 0 ++ replicate 16 (entries kind)))) (tab-getD users 0 16 h))
 
 -- .. its places are empty, ..
-pub fresh-at : (i : ℕ) → i < 64 → (c o k : ℕ) (users : List ℕ) → itemAt (fresh c o k users) i ≡ emptyPlace
-fresh-at i m c o k users = getD-replicate 64 i emptyPlace blank m
+pub fresh-at : (i : ℕ) → i < 64 → (kind : Kind) (c o k : ℕ) (users : List ℕ) → itemAt (fresh kind c o k users) i ≡ emptyPlace
+fresh-at i m kind c o k users = getD-replicate 64 i emptyPlace blank m
 
 -- .. it has the shape of a list, ..
-pub fresh-shape : (c o k : ℕ) (users : List ℕ) → length users ≡ 16 → Shape (fresh c o k users)
-fresh-shape c o k users h = record {
+pub fresh-shape : (kind : Kind) (c o k : ℕ) (users : List ℕ) → length users ≡ 16 → Shape (fresh kind c o k users)
+fresh-shape kind c o k users h = record {
   users-long = h;
   items-long = length-replicate 64 emptyPlace;
-  names-long = λ i m. ap (λ (it : Item). length (it .name)) (fresh-at i m c o k users);
+  positions-long = length-replicate 16 (entries kind);
+  names-long = λ i m. ap (λ (it : Item). length (it .name)) (fresh-at i m kind c o k users);
 }
 
-module _ (kind : Kind) (c o k : ℕ) (users s : List ℕ) (g : Limits (fresh c o k users)) where
-  none-kind : (n p : ℕ) → (n ≡ 0 → ⊥) → count (isKindByAt (fresh c o k users) n p) 64 ≡ 0
+module _ (kind : Kind) (c o k : ℕ) (users s : List ℕ) (g : Limits (fresh kind c o k users)) where
+  none-kind : (n p : ℕ) → (n ≡ 0 → ⊥) → count (isKindByAt (fresh kind c o k users) n p) 64 ≡ 0
   unfolding isKindByAt isKindBy
   none-kind n p z =
-      count-zero (isKindByAt (fresh c o k users) n p) 64 (any-never (isKindByAt (fresh c o k users) n p) 64 (λ i m.
-      rw (fresh-at i m c o k users) (and-left _ _ (ne-eqb 0 n (λ q. z (sym q))))))
+      count-zero (isKindByAt (fresh kind c o k users) n p) 64 (any-never (isKindByAt (fresh kind c o k users) n p) 64 (λ i m.
+      rw (fresh-at i m kind c o k users) (and-left _ _ (ne-eqb 0 n (λ q. z (sym q))))))
 
   -- .. and is sound against any image
-  pub fresh-sound : SoundLocks kind (fresh c o k users) s
+  pub fresh-sound : SoundLocks kind (fresh kind c o k users) s
   unfolding clashAt keepsLimits opensBy locksBy goodEmpty isZero all _and_
   fresh-sound = record {
     limits = g;
-    place = λ i m. inl (record { kind-zero = ap (λ (it : Item). it .kind) (fresh-at i m c o k users); zeros = ap goodEmpty (fresh-at i m c o k users) });
-    apart = λ i j m n q. and-left _ _ (clash-none (itemAt (fresh c o k users) i) (itemAt (fresh c o k users) j)
-        (ap (λ (it : Item). it .kind) (fresh-at i m c o k users)));
+    place = λ i m. inl (record { kind-zero = ap (λ (it : Item). it .kind) (fresh-at i m kind c o k users); zeros = ap goodEmpty (fresh-at i m kind c o k users) });
+    apart = λ i j m n q. and-left _ _ (clash-none (itemAt (fresh kind c o k users) i) (itemAt (fresh kind c o k users) j)
+        (ap (λ (it : Item). it .kind) (fresh-at i m kind c o k users)));
     keeps = λ p m.
-        and-both _ _ (le-leb (count (isKindByAt (fresh c o k users) 1 p) 64) o (rw (none-kind 1 p (λ (z : 1 ≡ 0). absurd (omega arith))) (omega arith)))
-        (le-leb (count (isKindByAt (fresh c o k users) 2 p) 64) k (rw (none-kind 2 p (λ (z : 2 ≡ 0). absurd (omega arith))) (omega arith)));
+        and-both _ _ (le-leb (count (isKindByAt (fresh kind c o k users) 1 p) 64) o (rw (none-kind 1 p (λ (z : 1 ≡ 0). absurd (omega arith))) (omega arith)))
+        (le-leb (count (isKindByAt (fresh kind c o k users) 2 p) 64) k (rw (none-kind 2 p (λ (z : 2 ≡ 0). absurd (omega arith))) (omega arith)));
+    next = λ p m. let z = getD-replicate 16 p (entries kind) 0 m in omega arith;
   }
 
 -- what an accepted Start has tested
-pub record Started (c o k : ℕ) (users list : List ℕ) : Type 0 where
-  pub written : start c o k users list .list ≡ freshList c o k users
-  pub limits : Limits (fresh c o k users)
+pub record Started (kind : Kind) (c o k : ℕ) (users list : List ℕ) : Type 0 where
+  pub written : start kind c o k users list .list ≡ freshList kind c o k users
+  pub limits : Limits (fresh kind c o k users)
   pub users-long : length users ≡ 16
 
-module _ (c o k : ℕ) (users list : List ℕ) where
-  good-start : badStart c o k users list ≡ false → Limits (fresh c o k users) × (length users ≡ 16)
+module _ (kind : Kind) (c o k : ℕ) (users list : List ℕ) where
+  good-start : badStart c o k users list ≡ false → Limits (fresh kind c o k users) × (length users ≡ 16)
   unfolding badStart
   good-start n =
       let n₁ = or-snd _ _ n in
@@ -97,7 +100,7 @@ module _ (c o k : ℕ) (users list : List ℕ) where
   none-bad z = row-off (255 ∕ 13) (badStart c o k users list) [] (λ y. omega arith) (eqb-true _ _ z)
 
   -- a Start that was accepted has tested all of it
-  pub started : start c o k users list .answer ≡ 0 ∕ 0 → Started c o k users list
+  pub started : start kind c o k users list .answer ≡ 0 ∕ 0 → Started kind c o k users list
   unfolding start startEnds _if_else_
   started h =
       ⊎-elim

@@ -58,6 +58,7 @@ module _ (l : LockList) (away : Item → Bool) (turn : Item → Item) (t : Empti
   gone-shape = record {
     users-long = h .users-long;
     items-long = length-map (l .items) turn ∙ h .items-long;
+    positions-long = h .positions-long;
     names-long = λ i m. ⊎-elim (λ (q : away (itemAt l i) ≡ true). rw (at-gone i m q) refl)
         (λ (q : away (itemAt l i) ≡ false). rw (at-kept i m q) (h .names-long i m)) (either (away (itemAt l i)));
   }
@@ -115,6 +116,7 @@ module _ (l : LockList) (away : Item → Bool) (turn : Item → Item) (t : Empti
       place = place-after;
       apart = apart-after;
       keeps = keeps-after;
+      next = g .next;
     }
 
 -- ---- the three that empty
@@ -137,6 +139,14 @@ byProcess p it = eqb (it .process) p
 pub end-empties : (p : ℕ) → Empties (byProcess p) (unlessBy p)
 unfolding unlessBy
 end-empties p = record { turned = λ it. refl }
+
+-- (a search empties none)
+pub none-empties : Empties (λ (it : Item). false) (λ (it : Item). it)
+unfolding _if_else_
+none-empties = record { turned = λ it. refl }
+
+pub none-whole : (l : LockList) → Whole l (λ (it : Item). false)
+none-whole l = record { with-locks = λ i o m k two a q. refl }
 
 -- an open goes only with its locks: by Close, ..
 pub close-whole : (l : LockList) (p : ℕ) (f : File) → Whole l (isOfFile p f)

@@ -41,6 +41,7 @@ module _ (kind : Kind) (s t : List ℕ) (l : LockList) (g : SoundLocks kind l s)
         })) (g .place i m);
     apart = g .apart;
     keeps = g .keeps;
+    next = g .next;
   }
 
 -- ---- an image that has grown

@@ -6,7 +6,7 @@ use mathlib.Core.List.{List}
 use mathlib.Core.Logic.{_⊎_, ⊎-elim}
 use native.Mathlib.Omega.{arith}
 use lib.ListN.{take, replicate}
-use lib.Dec.{eqb}
+use lib.Dec.{eqb, leb}
 use borrow.Author.Tests.{eqb-true, leb-true, ltb-true}
 use Rattle.words.specs.Tests.{_if_else_}
 use Rattle.words.specs.Tables.{anyRow}
@@ -21,21 +21,21 @@ use Rattle.rules.specs.declared.file.File.{File}
 use Rattle.rules.specs.declared.item.Item.{Item}
 use Rattle.rules.specs.declared.list.LockList.{LockList}
 use Rattle.rules.specs.declared.spot.Spot.{Spot}
-use Rattle.rules.specs.declared.routine.Routine.the-variants.{Open, Close, Delete, Make, Rename, Read, Write, Size, WriteZeros, TestWrite, Lock, Unlock, FreeSpace, Terminate}
+use Rattle.rules.specs.declared.routine.Routine.the-variants.{Open, Close, SearchFirst, SearchNext, Delete, Make, Rename, Read, Write, Size, WriteZeros, TestWrite, Lock, Unlock, FreeSpace, Terminate}
 use Rattle.rules.specs.declared.routine.Chosen.{Chosen}
 use Rattle.rules.specs.declared.routine.Chosen.the-variants.{Call, Unknown}
 use Rattle.rules.specs.Serves.{Buffers, Outcome, chosen}
 use Rattle.rules.specs.Drive.{nameAt, recordAt, blockIn, fileFrom}
-use Rattle.rules.specs.Locks.{blank, isOpened, itemAt, userOf, firstMark, secondMark, packItem, pack, unpack, isLimit, isUser, isLow, isZero, goodEmpty}
+use Rattle.rules.specs.Locks.{blank, isOpened, itemAt, userOf, positionOf, firstMark, secondMark, packItem, pack, unpack, isLimit, isUser, isLow, isZero, goodEmpty}
 use Rattle.rules.specs.Asks.{callerFile, newFile, recordOf}
-use Rattle.rules.specs.Effects.{madeEntry, made, erasedAt, erased, lowChanged, renamedAt, renamed, newEntry, entered, mapped, countTo, counted, cleared, stored, written, contents, does15, does16, does19, does22, makes, does23, does33, does34, does35, does41, does42, does43, does46, does143}
+use Rattle.rules.specs.Effects.{madeEntry, made, erasedAt, erased, lowChanged, renamedAt, renamed, newEntry, entered, mapped, countTo, counted, cleared, stored, written, contents, searched, finds, findsNone, does15, does16, does17, does18, does19, does22, makes, does23, does33, does34, does35, does41, does42, does43, does46, does143}
 use Rattle.rules.specs.Call.{Asked, asked, effectOf, rowsCall, call}
 use Rattle.rules.proofs.Tables.{accepted}
 use Rattle.rules.proofs.SoundList.{Shape, GoodOpen, GoodLock, Used, Vacant, SoundLocks, isPlain}
 use Rattle.soundness.proofs.Shapes.{SoundShape, locked-shape}
 use Rattle.soundness.proofs.Leaves.{listOf, fileBy, newBy}
 use Rattle.soundness.proofs.Left.{ListLeft, ImageLeft, list-same, one-set, run-set, emptied, image-same, entry-made, record-stored, file-erased, file-renamed, left}
-use Rattle.rules.proofs.Sizes.{top-fits}
+use Rattle.rules.proofs.Sizes.{top-fits, entries-few}
 
 bytes-if : (t : Bool) (a b : List ℕ) → areBytes a ≡ true → areBytes b ≡ true → areBytes (a if t else b) ≡ true
 unfolding _if_else_
@@ -178,7 +178,9 @@ module _ (kind : Kind) (l : LockList) (s : List ℕ) (g : SoundLocks kind l s) (
       (bytes-append _ _
       (bytes-tab (byteFrom (l .users) 0) 16 (λ j m. let u : byte (l .users) j ≤ 15 = leb-true _ _ (all-at (isUser (l .users)) 16 j (g .limits .users-good) m) in
       from-start (l .users) j (omega arith)))
-      (bytes-flat packItem blank (l .items) (λ i m. item-bytes (itemAt l i) (place-small i (let z = shape .items-long in omega arith)))))))
+      (bytes-append _ _ (bytes-flat packItem blank (l .items) (λ i m. item-bytes (itemAt l i) (place-small i (let z = shape .items-long in omega arith))))
+      (bytes-tab (byteFrom (l .positions) 0) 16 (λ j m.
+      let u : positionOf l j ≤ entries kind = g .next j m in let few = entries-few kind in from-start (l .positions) j (omega arith)))))))
 
 -- ---- a call
 
@@ -204,7 +206,7 @@ module _ (kind : Kind) (n p c : ℕ) (b : Buffers) (w : InBytes b) where
   list-left t list (list-same u follows) = w .list-bytes
   list-left t list (one-set ok u mode room h) = packed _ u h
   list-left t list (run-set ok m) = packed _ (b .image) (locked-shape kind p c b ok m)
-  list-left t list (emptied ok u away turn e own h) = packed _ u h
+  list-left t list (emptied ok u away turn e own xs stay h) = packed _ u h
 
   image-left : (t : List ℕ) → ImageLeft kind p c b t → areBytes t ≡ true
   image-left t image-same = w .image-bytes
@@ -219,10 +221,19 @@ module _ (kind : Kind) (n p c : ℕ) (b : Buffers) (w : InBytes b) where
   dma-if true x y h g = unfold _if_else_ in rw h (w .dma-bytes)
   dma-if false x y h g = unfold _if_else_ in rw g (w .dma-bytes)
 
+  dma-searched : (kind : Kind) (p : ℕ) (l : LockList) (e : ℕ) → areBytes (searched kind p l e b .left .dma) ≡ true
+  unfolding searched finds findsNone _if_else_
+  dma-searched kind p l e =
+      ⊎-elim (λ (q : leb (entries kind) e ≡ true). rw q (w .dma-bytes))
+      (λ (q : leb (entries kind) e ≡ false). rw q (bytes-put 0 _ (b .dma) (bytes-part (128 * (e / 4)) 128 (b .image) (w .image-bytes)) (w .dma-bytes)))
+      (either (leb (entries kind) e))
+
   dma-done : (k : Chosen) (a : Asked) → areBytes (effectOf k a b .left .dma) ≡ true
-  unfolding effectOf does15 does16 does19 does22 makes does23 does33 contents does34 does35 does41 does42 does43 does46 does143
+  unfolding effectOf does15 does16 does17 does18 does19 does22 makes does23 does33 contents does34 does35 does41 does42 does43 does46 does143
   dma-done (Call Open) a = dma-if (isOpened (a .place)) _ _ refl refl
   dma-done (Call Close) a = w .dma-bytes
+  dma-done (Call SearchFirst) a = dma-searched _ _ _ _
+  dma-done (Call SearchNext) a = dma-searched _ _ _ _
   dma-done (Call Delete) a = w .dma-bytes
   dma-done (Call Make) a = w .dma-bytes
   dma-done (Call Rename) a = w .dma-bytes

@@ -29,7 +29,7 @@ use Rattle.soundness.proofs.Left.{ListLeft, ImageLeft, list-same, one-s
 
 pub record SoundBoth (kind : Kind) (list image : List ℕ) : Type 0 where
   pub image-sound : soundImage kind image ≡ true
-  pub list-long : length list ≡ 1299
+  pub list-long : length list ≡ 1315
   pub list-sound : soundList kind list image ≡ true
 
 packed : (kind : Kind) (l : LockList) (s : List ℕ) → SoundShape kind l s → soundImage kind s ≡ true → SoundBoth kind (pack l) s
@@ -56,7 +56,7 @@ module _ (kind : Kind) (p c : ℕ) (b : Buffers) (g : SoundBoth kind (b .list) (
   }
   both t list i (one-set ok u mode room h) = packed kind _ t h (image-left t i)
   both t list i (run-set ok w) = packed kind _ _ (locked-shape kind p c b ok w) (g .image-sound)
-  both t list i (emptied ok u away turn e own h) = packed kind _ t h (image-left t i)
+  both t list i (emptied ok u away turn e own xs stay h) = packed kind _ t h (image-left t i)
 
 -- what was sound before a call is sound after it, ..
 pub call-sound : (kind : Kind) (n p c : ℕ) (b : Buffers) → SoundBoth kind (b .list) (b .image)

@@ -2,7 +2,7 @@
 use Prim.Native.Nat.{ℕ, _+_, _-_, _/_, _≤_, _<_}
 use mathlib.Core.Path.{_≡_}
 use mathlib.Core.Bool.{Bool, true, false}
-use mathlib.Core.List.{List}
+use mathlib.Core.List.{List, map}
 use mathlib.Core.Logic.{_⊎_}
 use lib.ListN.{length}
 use Rattle.words.specs.Bytes.{part}
@@ -11,12 +11,13 @@ use Rattle.words.specs.Tests.{_and_, any, count}
 use Rattle.rules.specs.declared.kind.Kind.{Kind}
 use Rattle.rules.specs.Kinds.{entries, top}
 use Rattle.rules.specs.declared.file.File.{File}
+use Rattle.rules.specs.declared.item.Item.{Item}
 use Rattle.rules.specs.declared.list.LockList.{LockList}
-use Rattle.rules.specs.declared.routine.Routine.the-variants.{Open, Close, Delete, Make, Rename, Read, Write, Size, WriteZeros, TestWrite, Lock, Unlock, FreeSpace, Terminate}
+use Rattle.rules.specs.declared.routine.Routine.the-variants.{Open, Close, SearchFirst, SearchNext, Delete, Make, Rename, Read, Write, Size, WriteZeros, TestWrite, Lock, Unlock, FreeSpace, Terminate}
 use Rattle.rules.specs.declared.routine.Chosen.the-variants.{Call}
-use Rattle.rules.specs.Serves.{Buffers, Outcome, buffers, outcome, chosen, withFcb, withDma, withList, withImage}
+use Rattle.rules.specs.Serves.{Buffers, Outcome, buffers, outcome, chosen, isSearch, withFcb, withDma, withList, withImage}
 use Rattle.rules.specs.Drive.{blocks, legalName, entryOf, freeEntry, freeBlock, blockIn, blockOf}
-use Rattle.rules.specs.Locks.{itemAt, unpack, pack, openOf, anyOpen, lockedByOther, opensBy, locksBy, freePlace, freePlaces}
+use Rattle.rules.specs.Locks.{itemAt, movedTo, withItems, unpack, pack, openOf, anyOpen, lockedByOther, opensBy, locksBy, freePlace, freePlaces}
 use Rattle.rules.specs.Asks.{callerFile, newFile, recordOf, openMode, makeMode}
 use Rattle.rules.specs.Codes.{standsAgainstAt, stopsDelete, isNew}
 use Rattle.rules.proofs.Passed.{Passed}
@@ -139,4 +140,6 @@ pub data Leaf (kind : Kind) (n p c : ℕ) (b : Buffers) : Outcome → Type 0 whe
       → Leaf kind n p c b (accept (withList b (pack (unlockedRun p (fileBy p b) (recordOf (b .fcb)) c (listOf b)))))
   unlockIdle : chosen n ≡ Call Unlock → Passed kind p c b → Idle p b → Leaf kind n p c b (accept b)
   nowTold : chosen n ≡ Call FreeSpace → Passed kind p c b → (dma : List ℕ) → Leaf kind n p c b (accept (withDma b dma))
-  nowEnded : chosen n ≡ Call Terminate → Passed kind p c b → Leaf kind n p c b (accept (withList b (pack (terminated p (listOf b)))))
+  nowEnded : chosen n ≡ Call Terminate → Passed kind p c b → Leaf kind n p c b (accept (withList b (pack (terminated kind p (listOf b)))))
+  nowSearched : isSearch (chosen n) ≡ true → Passed kind p c b → (answer e : ℕ) → e ≤ entries kind → (dma : List ℕ)
+      → Leaf kind n p c b (outcome answer (buffers (b .fcb) dma (pack (movedTo p e (withItems (listOf b) (map (λ (it : Item). it) (listOf b .items))))) (b .image)))

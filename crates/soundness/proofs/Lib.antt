@@ -15,6 +15,7 @@ pub mod Leaves
 pub mod Walk
 pub mod Placed
 pub mod Emptied
+pub mod Moved
 pub mod Follows
 pub mod Held
 pub mod Run

@@ -78,6 +78,7 @@ module _ (l : LockList) (j : ℕ) (it : Item) (h : Shape l) (inside : j < 64) wh
   set-shape n = record {
     users-long = h .users-long;
     items-long = length-set (l .items) j it ∙ h .items-long;
+    positions-long = h .positions-long;
     names-long = λ i m. ⊎-elim (λ (q : i ≡ j). rw (q, at-here) n) (λ (q : i ≡ j → ⊥). rw (at-other i q) (h .names-long i m)) (equal? i j);
   }
 
@@ -179,4 +180,5 @@ module _ (kind : Kind) (s : List ℕ) (l : LockList) (j : ℕ) (it : Item) (h : 
     place = place-after;
     apart = apart-after;
     keeps = keeps-after;
+    next = g .next;
   }

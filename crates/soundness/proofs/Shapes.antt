@@ -12,9 +12,10 @@ use Rattle.rules.specs.declared.item.Item.{Item}
 use Rattle.rules.specs.declared.list.LockList.{LockList}
 use Rattle.rules.specs.Serves.{Buffers}
 use Rattle.rules.specs.Drive.{freeEntry}
-use Rattle.rules.specs.Locks.{freshOpen, freePlace, anyOpen, withItems, unpack, pack}
+use Rattle.rules.specs.Kinds.{entries}
+use Rattle.rules.specs.Locks.{freshOpen, freePlace, anyOpen, withItems, movedTo, unpack, pack}
 use Rattle.rules.specs.Asks.{recordOf, openMode, makeMode}
-use Rattle.rules.specs.Effects.{placed, opened, made, erased, renamed, isOfFile, unlessOfFile, closed, lockedRun}
+use Rattle.rules.specs.Effects.{placed, opened, made, erased, renamed, isOfFile, unlessOfFile, closed, lockedRun, withoutBy, terminated}
 use Rattle.rules.proofs.Sound.{SoundImage}
 use Rattle.rules.proofs.SoundList.{Shape, SoundLocks, capacity-fits, unpacked}
 use Rattle.rules.proofs.Passed.{Passed}
@@ -22,7 +23,8 @@ use Rattle.soundness.proofs.Placed.{free-room, Fits, set-shape, set-sou
 use Rattle.soundness.proofs.Changes.{Grown, Touches}
 use Rattle.soundness.proofs.Written.{Old, New}
 use Rattle.soundness.proofs.Erased.{erased-sound, erased-touches}
-use Rattle.soundness.proofs.Emptied.{Empties, Whole, gone-shape, gone-sound, close-empties, close-whole}
+use Rattle.soundness.proofs.Emptied.{Empties, Whole, gone-shape, gone-sound, close-empties, close-whole, end-empties, end-whole, none-empties, none-whole}
+use Rattle.soundness.proofs.Moved.{moved-shape, moved-sound}
 use Rattle.soundness.proofs.Follows.{follow-grown, follow-touched}
 use Rattle.soundness.proofs.Run.{running}
 use Rattle.soundness.proofs.Taken.{caller-long, mayopen-fits, maymake-fits, no-items}
@@ -38,6 +40,10 @@ pub record SoundShape (kind : Kind) (l : LockList) (s : List ℕ) : Type 0 where
 -- what holds of such a list holds of what its bytes read as
 pub packed : (P : LockList → Type 0) (kind : Kind) (l : LockList) (s : List ℕ) → SoundShape kind l s → P l → P (unpack (pack l))
 packed P kind l s h w = subst P (sym (unpacked kind l s (h .sound) (h .shape))) w
+
+-- with a process's position set it is so still
+pub moved-on : (kind : Kind) (p : ℕ) (l : LockList) (s : List ℕ) (e : ℕ) → e ≤ entries kind → SoundShape kind l s → SoundShape kind (movedTo p e l) s
+moved-on kind p l s e low h = record { shape = moved-shape l p e (h .shape); sound = moved-sound l p e (h .shape) kind s (h .sound) low }
 
 module _ (kind : Kind) (p c : ℕ) (b : Buffers) (ok : Passed kind p c b) where
   -- a new open against an image s that has the file
@@ -77,6 +83,16 @@ module _ (kind : Kind) (p c : ℕ) (b : Buffers) (ok : Passed kind p c b) where
     shape = gone-shape (listOf b) away turn t (shape-of kind p c b ok);
     sound = gone-sound (listOf b) away turn t (shape-of kind p c b ok) kind (b .image) (list-of kind p c b ok) w;
   }
+
+  -- .. with all of the caller's gone and its position set, ..
+  pub ended-shape : SoundShape kind (terminated kind p (listOf b)) (b .image)
+  unfolding terminated withoutBy
+  ended-shape = moved-on kind p _ (b .image) (entries kind) (omega arith) (emptied-shape _ _ (end-empties p) (end-whole (listOf b) p))
+
+  -- .. with the position alone set
+  pub searched-shape : (e : ℕ) → e ≤ entries kind
+      → SoundShape kind (movedTo p e (withItems (listOf b) (map (λ (it : Item). it) (listOf b .items)))) (b .image)
+  searched-shape e low = moved-on kind p _ (b .image) e low (emptied-shape _ _ none-empties (none-whole (listOf b)))
 
   -- .. with a deleted file's, ..
   pub dropped-shape : MayDelete kind p b → SoundShape kind (closed p (fileBy p b) (listOf b)) (erased kind (fileBy p b) (b .image))

@@ -33,7 +33,7 @@ use Rattle.soundness.proofs.Written.{Old, New, Wrote}
 use Rattle.soundness.proofs.Taken.{caller-long, new-long}
 use Rattle.soundness.proofs.Sized.{of-is, there, size-had, size-least, size-rises, size-grown, size-untouched}
 use Rattle.soundness.proofs.Ends.{image-of, caller-fits, made-of, renamed-of, renamed-touch, renamed-file, written-of}
-use Rattle.soundness.proofs.Leaves.{Leaf, listOf, fileBy, newBy, MayMake, MayDelete, MayRename, MayWrite, imageWritten, refused, reopened, newlyOpened, newlyMade, nowClosed, nowErased, nowDropped, nowRenamed, nowRead, nowSized, nowWritten, nowRewritten, nowLocked, lockIdle, nowUnlocked, unlockIdle, nowTold, nowEnded}
+use Rattle.soundness.proofs.Leaves.{Leaf, listOf, fileBy, newBy, MayMake, MayDelete, MayRename, MayWrite, imageWritten, refused, reopened, newlyOpened, newlyMade, nowClosed, nowErased, nowDropped, nowRenamed, nowRead, nowSized, nowWritten, nowRewritten, nowLocked, lockIdle, nowUnlocked, unlockIdle, nowTold, nowEnded, nowSearched}
 use Rattle.soundness.proofs.Walk.{walk, accepted-as, may-make, may-write, may-rewrite, may-rename, second-full}
 
 module _ (kind : Kind) (p c : ℕ) (b : Buffers) (ok : Passed kind p c b) where
@@ -170,6 +170,7 @@ module _ (kind : Kind) (n p c : ℕ) (b : Buffers) (f : File) (long : length (f 
   kept-by o (unlockIdle k ok w) = omega arith
   kept-by o (nowTold k ok dma) = omega arith
   kept-by o (nowEnded k ok) = omega arith
+  kept-by o (nowSearched k ok answer e low dma) = omega arith
 
   -- no call but the file's own Delete or Rename lowers its size
   pub size-kept : fileSize kind (b .image) f ≤ fileSize kind (call kind n p c b .left .image) f

@@ -1,33 +1,36 @@
 -- Every call ends in one of the leaves. Assumes nothing.
-use Prim.Native.Nat.{ℕ, _/_, _≤_}
+use Prim.Native.Nat.{ℕ, _+_, _*_, _/_, _%_, _≤_, _<_}
 use mathlib.Core.Path.{_≡_, refl, sym, ap, subst, _∙_}
 use mathlib.Core.Bool.{Bool, true, false}
+use mathlib.Core.List.{List, map, map-id}
 use mathlib.Core.Logic.{_⊎_, inl, inr, ⊎-elim}
 use native.Mathlib.Omega.{arith}
 use lib.ListN.{length, length-take, length-drop}
-use lib.Dec.{eqb, ltb}
-use borrow.Author.Tests.{eqb-true, eqb-false, ne-eqb, lt-leb, ltb-true, ltb-false}
+use lib.Dec.{eqb, leb, ltb}
+use borrow.Author.Tests.{eqb-true, eqb-false, ne-eqb, lt-leb, leb-false, ltb-true, ltb-false}
 use Rattle.words.specs.Tests.{_if_else_}
-use Rattle.words.specs.Bytes.{part}
+use Rattle.words.specs.Bytes.{part, put}
 use Rattle.words.specs.Tables.{firstOf, anyRow}
 use Rattle.words.proofs.Tests.{either, never}
 use Rattle.words.proofs.Tables.{some-applies, any-append}
 use Rattle.words.proofs.Sets.{and-left}
 use Rattle.rules.specs.declared.kind.Kind.{Kind}
-use Rattle.rules.specs.declared.routine.Routine.the-variants.{Open, Close, Delete, Make, Rename, Read, Write, Size, WriteZeros, TestWrite, Lock, Unlock, FreeSpace, Terminate}
+use Rattle.rules.specs.declared.routine.Routine.the-variants.{Open, Close, SearchFirst, SearchNext, Delete, Make, Rename, Read, Write, Size, WriteZeros, TestWrite, Lock, Unlock, FreeSpace, Terminate}
 use Rattle.rules.specs.declared.routine.Chosen.{Chosen}
 use Rattle.rules.specs.declared.routine.Chosen.the-variants.{Call, Unknown}
-use Rattle.rules.specs.Serves.{Buffers, Outcome, chosen, isUnknown}
+use Rattle.rules.specs.Serves.{Buffers, Outcome, buffers, outcome, chosen, isUnknown, isSearch}
 use Rattle.rules.specs.Drive.{entryOf, lookUp, blockOf}
-use Rattle.rules.specs.Locks.{isOpened}
+use Rattle.rules.specs.Kinds.{entries}
+use Rattle.rules.specs.declared.item.Item.{Item}
+use Rattle.rules.specs.Locks.{isOpened, pack, withItems, movedTo}
 use Rattle.rules.specs.Asks.{recordOf}
 use Rattle.rules.specs.Codes.{rowsAll, rows42, rows43, stopsRename}
-use Rattle.rules.specs.Effects.{does15, does16, closedWhere, does19, does22, makes, does23, does33, does34, does35, does41, does42, does43, does46, does143}
+use Rattle.rules.specs.Effects.{searched, finds, findsNone, does15, does16, does17, does18, closedWhere, does19, does22, makes, does23, does33, does34, does35, does41, does42, does43, does46, does143}
 use Rattle.rules.specs.Call.{asked, askedBy, rowsOf, effectOf, rowsCall, call}
 use Rattle.rules.proofs.Tables.{accepted, refused, nonzero-call}
 use Rattle.rules.proofs.Passed.{Passed, passed, known}
 use Rattle.rules.proofs.Rows.{passes-15, passes-16, passes-19, passes-22, passes-23, passes-34, passes-41, run-open, passes-42}
-use Rattle.soundness.proofs.Leaves.{Leaf, listOf, fileBy, newBy, openBy, modeBy, MayMake, MayDelete, MayRename, MayWrite, reopened, newlyOpened, newlyMade, nowClosed, nowErased, nowDropped, nowRenamed, nowRead, nowSized, nowWritten, nowRewritten, nowLocked, lockIdle, nowUnlocked, unlockIdle, nowTold, nowEnded}
+use Rattle.soundness.proofs.Leaves.{Leaf, listOf, fileBy, newBy, openBy, modeBy, MayMake, MayDelete, MayRename, MayWrite, reopened, newlyOpened, newlyMade, nowClosed, nowErased, nowDropped, nowRenamed, nowRead, nowSized, nowWritten, nowRewritten, nowLocked, lockIdle, nowUnlocked, unlockIdle, nowTold, nowEnded, nowSearched}
 
 -- the entries of the caller's file: of extent 0, and of the extent with the record
 abbrev first : Kind → ℕ → Buffers → ℕ
@@ -173,11 +176,30 @@ module _ (kind : Kind) (n p c : ℕ) (b : Buffers) (ok : Passed kind p c b) wher
       (λ (q : eqb (modeBy p b) 1 ≡ false). rw q (unlockIdle k ok (record { is-open = o; not-unlocked = eqb-false _ _ q })))
       (either (eqb (modeBy p b) 1))
 
+  -- a search ends with the caller's position set
+  abbrev found : ℕ → List ℕ
+  found e = put 0 (part (128 * (e / 4)) 128 (b .image)) (b .dma)
+
+  search-leaf : isSearch (chosen n) ≡ true → (e : ℕ) → Leaf kind n p c b (searched kind p (listOf b) e b)
+  unfolding searched finds findsNone _if_else_
+  search-leaf k e =
+      ⊎-elim
+      (λ (q : leb (entries kind) e ≡ true).
+      rw q (subst (λ (xs : List Item). Leaf kind n p c b (outcome 255 (buffers (b .fcb) (b .dma) (pack (movedTo p (entries kind) (withItems (listOf b) xs))) (b .image))))
+      (map-id (listOf b .items)) (nowSearched k ok 255 (entries kind) (omega arith) (b .dma))))
+      (λ (q : leb (entries kind) e ≡ false).
+      let l : e < entries kind = leb-false _ _ q in
+      rw q (subst (λ (xs : List Item). Leaf kind n p c b (outcome (e % 4) (buffers (b .fcb) (found e) (pack (movedTo p (e + 1) (withItems (listOf b) xs))) (b .image))))
+      (map-id (listOf b .items)) (nowSearched k ok (e % 4) (e + 1) (omega arith) (found e))))
+      (either (leb (entries kind) e))
+
   leaf : (k : Chosen) → chosen n ≡ k → isUnknown k ≡ false → anyRow (rowsOf k (asked kind p c b) b) ≡ false
       → Leaf kind n p c b (effectOf k (asked kind p c b) b)
-  unfolding effectOf rowsOf asked askedBy lookUp does33 does35 does46 does143 isUnknown
+  unfolding effectOf rowsOf asked askedBy lookUp does17 does18 does33 does35 does46 does143 isUnknown isSearch
   leaf (Call Open) k u h = open-leaf k h
   leaf (Call Close) k u h = close-leaf k h
+  leaf (Call SearchFirst) k u h = search-leaf (ap isSearch k) _
+  leaf (Call SearchNext) k u h = search-leaf (ap isSearch k) _
   leaf (Call Delete) k u h = delete-leaf k h
   leaf (Call Make) k u h = make-leaf k h
   leaf (Call Rename) k u h = rename-leaf k h
@@ -193,7 +215,7 @@ module _ (kind : Kind) (n p c : ℕ) (b : Buffers) (ok : Passed kind p c b) wher
   leaf Unknown k u h = absurd (never refl u)
 
 -- a call's own table lets it pass where the whole one does
-split : (kind : Kind) (n p c : ℕ) (b : Buffers) → anyRow (rowsCall kind n p c b) ≡ false
+pub split : (kind : Kind) (n p c : ℕ) (b : Buffers) → anyRow (rowsCall kind n p c b) ≡ false
     → (anyRow (rowsAll kind n p c b) ≡ false) × (anyRow (rowsOf (chosen n) (asked kind p c b) b) ≡ false)
 unfolding rowsCall
 split kind n p c b h = any-append (rowsAll kind n p c b) (rowsOf (chosen n) (asked kind p c b) b) h

@@ -151,19 +151,39 @@ module _ {A : Type 0} where
 
 -- a list cut into blocks, each of which g takes for f's
 module _ {A : Type 0} (f : A → List ℕ) (g : List ℕ → A) (w : ℕ) where
-  pub flat-cut : (n a : ℕ) (s : List ℕ) → length s ≡ a + w * n → ((i : ℕ) → i < n → f (g (take w (drop (a + w * i) s))) ≡ take w (drop (a + w * i) s))
-      → flat f (tab (λ (i : ℕ). g (take w (drop (a + w * i) s))) n) ≡ drop a s
+  pub flat-cut : (n a : ℕ) (s : List ℕ) → ((i : ℕ) → i < n → f (g (take w (drop (a + w * i) s))) ≡ take w (drop (a + w * i) s))
+      → flat f (tab (λ (i : ℕ). g (take w (drop (a + w * i) s))) n) ++ drop (a + w * n) s ≡ drop a s
   unfolding flat tab
-  flat-cut zero a s h k = let z : length s ≤ a = omega arith in sym (drop-of-length-le s z)
-  flat-cut (suc n) a s h k =
+  flat-cut zero a s k = let z : a + w * 0 ≡ a = omega arith in rw z refl
+  flat-cut (suc n) a s k =
       let z : a + w * 0 ≡ a = omega arith in
       let y : (i : ℕ) → a + w + w * i ≡ a + w * suc i = λ (i : ℕ). omega (arith, mul-suc w i) in
       let e : tab (λ (i : ℕ). g (take w (drop (a + w * suc i) s))) n ≡ tab (λ (i : ℕ). g (take w (drop (a + w + w * i) s))) n = tab-ext _ _ n
       (λ i l. ap (λ (j : ℕ). g (take w (drop j s))) (sym (y i))) in
-      let r : flat f (tab (λ (i : ℕ). g (take w (drop (a + w + w * i) s))) n) ≡ drop (a + w) s = flat-cut n (a + w) s (omega (arith, mul-suc w n))
-      (λ i l. rw (y i) (k (suc i) (omega arith))) in
+      let r : flat f (tab (λ (i : ℕ). g (take w (drop (a + w + w * i) s))) n) ++ drop (a + w + w * n) s ≡ drop (a + w) s =
+      flat-cut n (a + w) s (λ i l. rw (y i) (k (suc i) (omega arith))) in
       let b : f (g (take w (drop a s))) ≡ take w (drop a s) = rw z at (k 0 (omega arith)) in
-      rw (z, b, e, r) (ap (λ (t : List ℕ). take w (drop a s) ++ t) (sym (drop-drop w a s)) ∙ take-append-drop w (drop a s))
+      rw (z, b, e, ← y n) (append-assoc (take w (drop a s)) (flat f (tab (λ (i : ℕ). g (take w (drop (a + w + w * i) s))) n)) (drop (a + w + w * n) s)
+      ∙ ap (λ (t : List ℕ). take w (drop a s) ++ t) (r ∙ sym (drop-drop w a s)) ∙ take-append-drop w (drop a s))
+
+-- the front of a list that another follows
+front : (n : ℕ) (xs ys : List ℕ) → n ≤ length xs → take n (xs ++ ys) ≡ take n xs
+front zero xs ys h = refl
+front (suc n) [] ys h = absurd (omega arith)
+front (suc n) (x ∷ xs) ys h = ap (λ (zs : List ℕ). x ∷ zs) (front n xs ys (omega arith))
+
+-- a part of it, ..
+pub part-front : (m n : ℕ) (xs ys : List ℕ) → m + n ≤ length xs → take n (drop m (xs ++ ys)) ≡ take n (drop m xs)
+part-front zero n xs ys h = front n xs ys (omega arith)
+part-front (suc m) n [] ys h = absurd (omega arith)
+part-front (suc m) n (x ∷ xs) ys h = part-front m n xs ys (omega arith)
+
+-- .. and what follows
+pub drop-behind : (n : ℕ) (xs ys : List ℕ) → length xs ≡ n → drop n (xs ++ ys) ≡ ys
+drop-behind zero [] ys h = refl
+drop-behind zero (x ∷ xs) ys h = absurd (omega arith)
+drop-behind (suc n) [] ys h = absurd (omega arith)
+drop-behind (suc n) (x ∷ xs) ys h = drop-behind n xs ys (omega arith)
 
 -- ---- turns
 
@@ -178,3 +198,10 @@ turns-more {A} step i x y z h e = rw add-one (e ∙ ap (λ (t : A). step i t) h)
 
 pub turns-ends : {A : Type 0} (step : ℕ → A → A) (n i : ℕ) (x y : A) → y ≡ turns step i x → n ≤ i → i ≤ n → y ≡ turns step n x
 turns-ends step n i x y h g l = let q : i ≡ n = omega arith in rw q at h
+
+-- an element set in the second of two lists
+pub set-behind : {A : Type 0} (xs ys : List A) (i : ℕ) (a : A) → set (xs ++ ys) (length xs + i) a ≡ xs ++ set ys i a
+set-behind [] ys i a = ap (λ (k : ℕ). set ys k a) (let z : 0 + i ≡ i = omega arith in z)
+set-behind (x ∷ xs) ys i a =
+    let z : suc (length xs) + i ≡ suc (length xs + i) = omega arith in
+    ap (λ (k : ℕ). set (x ∷ (xs ++ ys)) k a) z ∙ ap (λ (zs : List _). x ∷ zs) (set-behind xs ys i a)

@@ -91,6 +91,36 @@ module _ (f : ℕ → Bool) where
       (λ (h : f n ≡ false). let q = count-not f n h in absurd (omega arith)) (either (f n)))
       (either (ltb j (count f n)))
 
+-- two tests that agree pass the same
+pub passing-ext : (f g : ℕ → Bool) (n : ℕ) → ((i : ℕ) → i < n → f i ≡ g i) → passing f n ≡ passing g n
+unfolding passing
+passing-ext f g zero h = refl
+passing-ext f g (suc n) h = rw (passing-ext f g n (λ i l. h i (omega arith)), h n (omega arith))
+
+-- ---- the first of them, and the rest
+
+-- none passes
+pub passing-none : (f : ℕ → Bool) (n : ℕ) → ((i : ℕ) → i < n → f i ≡ false) → passing f n ≡ []
+unfolding passing
+passing-none f n h = passing-up f 0 n (omega arith) (λ i l m. h i m)
+
+-- m is the first that passes f; g passes those after it
+pub passing-first : (f g : ℕ → Bool) (m n : ℕ) → m < n → f m ≡ true → ((i : ℕ) → i < m → f i ≡ false)
+    → ((i : ℕ) → i ≤ m → g i ≡ false) → ((i : ℕ) → m < i → g i ≡ f i) → passing f n ≡ m ∷ passing g n
+passing-first f g m zero l it low none rest = absurd (not-suc-le-zero l)
+passing-first f g m (suc n) l it low none rest =
+    ⊎-elim
+    (λ (q : m ≡ n).
+    let w : passing f n ≡ [] = passing-none f n (λ i k. low i (omega arith)) in
+    passing-yes f n (rw (← q) it) ∙ ap (λ (xs : List ℕ). xs ++ (n ∷ [])) w ∙ ap (λ (x : ℕ). x ∷ []) (sym q)
+    ∙ ap (λ (xs : List ℕ). m ∷ xs) (sym (passing-none g (suc n) (λ i k. none i (omega arith)))))
+    (λ (k : m < n).
+    let w = passing-first f g m n k it low none rest in
+    ⊎-elim
+    (λ (h : f n ≡ true). passing-yes f n h ∙ ap (λ (xs : List ℕ). xs ++ (n ∷ [])) w ∙ ap (λ (xs : List ℕ). m ∷ xs) (sym (passing-yes g n (rest n k ∙ h))))
+    (λ (h : f n ≡ false). passing-not f n h ∙ w ∙ ap (λ (xs : List ℕ). m ∷ xs) (sym (passing-not g n (rest n k ∙ h)))) (either (f n)))
+    (eq-or-lt-of-le (le-of-suc-le-suc l))
+
 -- ---- what a rule makes of them, one after the other
 
 module _ (g : ℕ → List ℕ) (f : ℕ → Bool) where

@@ -2,6 +2,7 @@
 
 use reference::kind::Kind;
 use reference::name::HIGH_BIT;
+use std::ops::Range;
 
 pub const OPEN_MARK: [u8; 2] = [0x4F, 0x46];
 pub const LOCK_MARK: [u8; 2] = [0x4C, 0x52];
@@ -49,6 +50,11 @@ impl Fcb {
 
     pub fn read_only(self) -> Fcb {
         self.high_bit(6)
+    }
+
+    /// A search by it admits all extents.
+    pub fn all_extents(self) -> Fcb {
+        self.with(12, b'?')
     }
 
     pub fn new_name(mut self, name: [u8; 11]) -> Fcb {
@@ -165,6 +171,12 @@ fn item(mark: [u8; 2], process: u8, name: [u8; 11], mode: u8, record: u32) -> [u
     bytes[16..].copy_from_slice(&record.to_le_bytes());
     bytes
 }
+
+/// The length of a list.
+pub const LIST: usize = 1_315;
+
+/// Where the sixteen positions stand in a list.
+pub const POSITIONS: Range<usize> = 1_299..LIST;
 
 pub fn place_start(place: usize) -> usize {
     19 + 20 * place

@@ -1,5 +1,6 @@
 //! Which answers, and for which reasons, have been reached; and which there are.
 
+use crate::deed::SEARCHES;
 use crate::faults::{ImageRule, Judged, ListRule};
 use reference::answer::Answer;
 use reference::calls::{MOST_RECORDS, RUN_FUNCTIONS};
@@ -7,7 +8,7 @@ use reference::kind::Kind;
 use std::collections::{BTreeMap, BTreeSet};
 use std::fmt::Write;
 
-pub const FUNCTIONS: [u32; 14] = [15, 16, 19, 22, 23, 33, 34, 35, 40, 41, 42, 43, 46, 143];
+pub const FUNCTIONS: [u32; 16] = [15, 16, 17, 18, 19, 22, 23, 33, 34, 35, 40, 41, 42, 43, 46, 143];
 
 /// Numbers that are no function stand under this one.
 const UNKNOWN: u32 = u32::MAX;
@@ -71,6 +72,21 @@ const CLOSE: &[Row] = &[
     (255, 6, "not open"),
     (0, 0, "closed, no locks"),
     (0, 0, "closed with locks"),
+];
+
+/// Each at any of the four places of a directory record.
+const FINDS: [&str; 3] = [
+    "found, of extents 0",
+    "found extent 0, of all",
+    "found a later extent, of all",
+];
+
+// No refusals: these answers come with an effect, the caller's position set.
+const SEARCH_FIRST: &[Row] = &[(255, 0, "no match")];
+
+const SEARCH_NEXT: &[Row] = &[
+    (255, 0, "no match"),
+    (255, 0, "no match, the search was at its end"),
 ];
 
 const DELETE: &[Row] = &[
@@ -179,12 +195,19 @@ const UNLOCK: &[Row] = &[
 
 const FREE_SPACE: &[Row] = &[(0, 0, "space"), (0, 0, "no space")];
 
-const TERMINATE: &[Row] = &[(0, 0, "nothing to take away"), (0, 0, "items taken away")];
+const TERMINATE: &[Row] = &[
+    (0, 0, "nothing to take away"),
+    (0, 0, "a search ended"),
+    (0, 0, "items taken away"),
+    (0, 0, "items taken away and a search ended"),
+];
 
 fn own_rows(function: u32) -> &'static [Row] {
     match function {
         15 => OPEN,
         16 => CLOSE,
+        17 => SEARCH_FIRST,
+        18 => SEARCH_NEXT,
         19 => DELETE,
         22 => MAKE,
         23 => RENAME,
@@ -213,6 +236,16 @@ fn rows_of_stop((a, why): Stop) -> impl Iterator<Item = Row> {
     (0..MOST_RECORDS as u8).map(move |done| (a, 16 * done, why))
 }
 
+fn rows_of_finds(function: u32) -> Vec<Row> {
+    match SEARCHES.contains(&function) {
+        true => pairs(&[0, 1, 2, 3], &FINDS)
+            .into_iter()
+            .map(|(a, why)| (a, 0, why))
+            .collect(),
+        false => Vec::new(),
+    }
+}
+
 /// All rows that a function has. Both kinds have them all: a drive of the second kind can be full
 /// too, as long as its entries can name all its blocks.
 fn rows(told: Told, function: u32) -> Vec<Row> {
@@ -226,6 +259,7 @@ fn rows(told: Told, function: u32) -> Vec<Row> {
         rows.push(DRIVE);
     }
     rows.extend(own_rows(function));
+    rows.extend(rows_of_finds(function));
     rows.extend(stops(function).iter().copied().flat_map(rows_of_stop));
     rows
 }
@@ -317,7 +351,31 @@ impl Half {
     }
 }
 
-/// Which entry the image check has told. 0 and 1 tell entry 0.
+/// What has happened between a search and the Next that goes on with it and finds.
+#[derive(Clone, Copy, Debug, PartialEq, Eq, PartialOrd, Ord)]
+pub enum Meanwhile {
+    Nothing,
+    Make,
+    Delete,
+    Rename,
+    /// Another process's.
+    Search,
+}
+
+impl Meanwhile {
+    const ALL: [Meanwhile; 5] = [
+        Meanwhile::Nothing,
+        Meanwhile::Make,
+        Meanwhile::Delete,
+        Meanwhile::Rename,
+        Meanwhile::Search,
+    ];
+}
+
+/// A "?" in a name, at this place of it, with its high bit or without.
+type Mark = (usize, bool);
+
+/// Which entry the image check has told, 0 and 1 telling entry 0, or a search found.
 #[derive(Clone, Copy, Debug, PartialEq, Eq, PartialOrd, Ord)]
 pub enum Place {
     Entry0,
@@ -425,6 +483,11 @@ pub struct Coverage {
     looks: BTreeMap<(Told, bool), u64>,
     image_rules: BTreeMap<(Kind, ImageRule, Half), u64>,
     list_rules: BTreeMap<(Kind, ListRule), u64>,
+    /// Where the entries stand that searches have found.
+    finds: BTreeMap<(Kind, u32, Place), u64>,
+    /// The marks of the names that they were found by.
+    marks: BTreeMap<(Kind, u32, Mark), u64>,
+    meanwhile: BTreeMap<(Kind, Meanwhile), u64>,
 }
 
 fn add<K: Ord>(table: &mut BTreeMap<K, u64>, key: K) {
@@ -501,6 +564,20 @@ impl Coverage {
         add(&mut self.list_rules, (kind, rule));
     }
 
+    /// A search has found this entry by this name.
+    pub fn note_found(&mut self, kind: Kind, function: u32, slot: usize, name: &[u8]) {
+        add(&mut self.finds, (kind, function, Place::of(Some(kind), slot)));
+        let marks = name.iter().enumerate().filter(|(_, byte)| *byte & 127 == b'?');
+        for (at, byte) in marks {
+            add(&mut self.marks, (kind, function, (at, *byte > 127)));
+        }
+    }
+
+    /// A Next has gone on and found an entry, after this.
+    pub fn note_meanwhile(&mut self, kind: Kind, what: Meanwhile) {
+        add(&mut self.meanwhile, (kind, what));
+    }
+
     pub fn calls(&self) -> u64 {
         self.calls.values().sum()
     }
@@ -517,6 +594,7 @@ impl Coverage {
             complaints.push(format!("not allowed: {}", describe(key)));
         }
         complaints.extend(self.complaints_of_runs());
+        complaints.extend(self.complaints_of_searches());
         complaints.extend(compare_keys("drive of a size", &self.sizes, &SIZES));
         complaints.extend(compare_keys("Start", &self.starts, &wanted_starts()));
         complaints.extend(compare_keys("image check", &self.checks, &wanted_checks()));
@@ -540,6 +618,20 @@ impl Coverage {
             compare_keys("span of a run", &self.spans, &spans),
             compare_keys("last taken by a run", &self.lasts, &lasts),
             compare_keys("block of a record", &self.blocks, &blocks),
+        ]
+        .concat()
+    }
+
+    fn complaints_of_searches(&self) -> Vec<String> {
+        let at_ends = of_each(&SEARCHES, &[Place::Entry0, Place::Lower, Place::Last]);
+        let upper = SEARCHES.map(|function| (Kind::Second, function, Place::Upper));
+        let all_places: Vec<usize> = (0..11).collect();
+        let marks = of_each(&SEARCHES, &pairs(&all_places, &[false, true]));
+        let meanwhile = pairs(&Kind::ALL, &Meanwhile::ALL);
+        [
+            compare_keys("search", &self.finds, &[&at_ends[..], &upper].concat()),
+            compare_keys("mark of a search", &self.marks, &marks),
+            compare_keys("search gone on after", &self.meanwhile, &meanwhile),
         ]
         .concat()
     }
@@ -601,6 +693,9 @@ impl Coverage {
         lines.push_str(&counted("size", &self.sizes));
         lines.push_str(&counted("check", &self.checks));
         lines.push_str(&counted("order", &self.orders));
+        lines.push_str(&counted("found", &self.finds));
+        lines.push_str(&counted("mark", &self.marks));
+        lines.push_str(&counted("gone on after", &self.meanwhile));
         lines.push_str(&counted("image broken", &self.image_rules));
         lines.push_str(&counted("list broken", &self.list_rules));
         lines

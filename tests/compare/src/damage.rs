@@ -1,7 +1,7 @@
 //! Breaks one rule of a sound directory or list. A damage counts only if `faults` agrees that
 //! just this rule is broken, or at least this one where it cannot be broken alone.
 
-use crate::build::{lock_item, open_item, place_start, put_item, Entry};
+use crate::build::{lock_item, open_item, place_start, put_item, Entry, POSITIONS};
 use crate::faults::{self, directory_faults, list_faults, ImageRule, Item, ListRule};
 use crate::random::Random;
 use reference::drive::EMPTY;
@@ -347,6 +347,7 @@ impl List<'_> {
             ListRule::LockHasOpen => self.lock_without_open(),
             ListRule::LockHasBlock => self.lock_without_block(),
             ListRule::LockTwice => self.second_lock(),
+            ListRule::Position => self.bad_position(),
         }
     }
 
@@ -511,6 +512,16 @@ impl List<'_> {
         let record = self.random.pick(&[8, 16, 32, 127, 128, 4096, 100_000, 262_143]);
         lock[16..].copy_from_slice(&u32::to_le_bytes(record));
         self.put(place, lock)
+    }
+
+    /// Any process's, of one that never calls too.
+    fn bad_position(&mut self) -> Option<()> {
+        let at = POSITIONS.start + self.random.below(POSITIONS.len());
+        let one_too_many = self.kind.entries() as u8 + 1;
+        let byte = self
+            .random
+            .pick(&[one_too_many, one_too_many, 65, 128, 129, 0xE5, 0xFF]);
+        self.set_header(at, byte)
     }
 
     fn second_lock(&mut self) -> Option<()> {

@@ -1,6 +1,7 @@
 //! Which rules of "Sound image" and "Sound list" a buffer breaks, found by walking the bytes.
 //! Written apart from the decoders, as a check on them and to see that a rule is broken alone.
 
+use crate::build::POSITIONS;
 use reference::kind::Kind;
 use std::collections::BTreeSet;
 
@@ -57,10 +58,11 @@ pub enum ListRule {
     LockHasOpen,
     LockHasBlock,
     LockTwice,
+    Position,
 }
 
 impl ListRule {
-    pub const ALL: [ListRule; 22] = [
+    pub const ALL: [ListRule; 23] = [
         ListRule::CapacityRange,
         ListRule::OpenLimitRange,
         ListRule::LockLimitRange,
@@ -83,6 +85,7 @@ impl ListRule {
         ListRule::LockHasOpen,
         ListRule::LockHasBlock,
         ListRule::LockTwice,
+        ListRule::Position,
     ];
 
     /// A process over 15 or an illegal name leaves an open without a file on the image and a lock
@@ -307,6 +310,26 @@ pub fn size_of(kind: Kind, user: u8, name: &[u8], image: &[u8]) -> Option<u32> {
         .map(|entry| 128 * extent_number(entry) as u32 + u32::from(entry[15]))
 }
 
+fn is_found(entry: &[u8], user: u8, fcb: &[u8]) -> bool {
+    let fits = |(has, asked): (&u8, &u8)| asked & 127 == b'?' || asked & 127 == has & 127;
+    let admits = fcb[12] == b'?' || extent_number(entry) == 0;
+    entry[0] == user && admits && entry[1..12].iter().zip(&fcb[1..12]).all(fits)
+}
+
+/// The entry that a search by this FCB has to find, from an entry on.
+pub fn searched(kind: Kind, user: u8, fcb: &[u8], from: u8, image: &[u8]) -> Option<usize> {
+    let entries = image[..directory_length(kind)].chunks(32).enumerate();
+    entries
+        .skip(from.into())
+        .find(|(_, entry)| is_found(entry, user, fcb))
+        .map(|(slot, _)| slot)
+}
+
+/// What a search leaves in its caller's position that has found this entry, or none.
+pub fn position_behind(kind: Kind, found: Option<usize>) -> u8 {
+    found.map_or(last_position(kind), |slot| slot as u8 + 1)
+}
+
 /// Where the record lies, if it is in this block.
 pub fn record_at(kind: Kind, block: u16, record: u32) -> usize {
     let (block, record) = (usize::from(block), record as usize);
@@ -362,7 +385,7 @@ impl Item<'_> {
 
 /// Place numbers and items of the places that are not empty.
 pub fn items(list: &[u8]) -> Vec<(usize, Item<'_>)> {
-    list[19..]
+    list[19..list.len().min(POSITIONS.start)]
         .chunks(20)
         .map(Item)
         .enumerate()
@@ -466,9 +489,23 @@ fn lock_faults(
     ])
 }
 
+/// The highest position: no entry is left.
+fn last_position(kind: Kind) -> u8 {
+    match kind {
+        Kind::First => 64,
+        Kind::Second => 128,
+    }
+}
+
+fn position_faults(kind: Kind, list: &[u8]) -> Vec<ListRule> {
+    let too_high = list[POSITIONS].iter().any(|&byte| byte > last_position(kind));
+    broken(&[(too_high, ListRule::Position)])
+}
+
 /// The list must have its length and the image must be sound.
 pub fn list_faults(kind: Kind, list: &[u8], image: &[u8]) -> BTreeSet<ListRule> {
     let mut faults: BTreeSet<ListRule> = header_faults(list).into_iter().collect();
+    faults.extend(position_faults(kind, list));
     let items = items(list);
     let opens: Vec<Item> = items
         .iter()

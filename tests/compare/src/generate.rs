@@ -1,9 +1,10 @@
 //! Makes sessions at random from a seed: a drive, a list, and calls that run on, with damage,
 //! wrong lengths and wild numbers in between.
 
-use crate::build::{empty_image_of, place_start, Entry, Fcb};
+use crate::build::{empty_image_of, place_start, Entry, Fcb, LIST, POSITIONS};
 use crate::coverage::{Coverage, Half};
 use crate::damage::{break_directory, break_list, break_several};
+use crate::deed::SEARCHES;
 use crate::faults::{self, check_answer, ImageRule, Item, ListRule};
 use crate::history::blocks_of_groups;
 use crate::named::{self, Case};
@@ -49,10 +50,12 @@ const END_OF_RECORDS: u32 = 262_144;
 
 const EXTENTS: [u32; 8] = [1, 2, 31, 32, 33, 63, 2_046, LAST_EXTENT];
 
-const WEIGHTS: [(u32, usize); 14] = [
+const WEIGHTS: [(u32, usize); 16] = [
     (15, 15),
     (16, 4),
-    (19, 5),
+    (17, 7),
+    (18, 11),
+    (19, 6),
     (22, 9),
     (23, 6),
     (33, 10),
@@ -243,7 +246,7 @@ impl Generator {
 
     fn begin_session(&mut self, cast: &Cast, image: &[u8], fill: u8) {
         self.stage.set_image(image, fill);
-        let length = 1299;
+        let length = LIST;
         let fill = self.random.byte();
         self.stage.serve(Step::List { length: 0, fill });
         self.stage.serve(Step::List { length, fill });
@@ -331,6 +334,9 @@ impl Generator {
         if self.random.chance(70) {
             self.add_files(cast, &mut image);
         }
+        if self.random.chance(30) {
+            self.add_small_files(cast, &mut image);
+        }
         // The larger drives run out of blocks and entries only where both are seen to here.
         let (used_up, crowded) = match self.kind {
             Kind::First => (25, 30),
@@ -384,6 +390,22 @@ impl Generator {
                     image[32 * slot..32 * slot + 32].copy_from_slice(&entry.0);
                 }
             }
+        }
+    }
+
+    /// Files without records, for searches to go along.
+    fn add_small_files(&mut self, cast: &Cast, image: &mut [u8]) {
+        let process = self.random.pick(&cast.processes);
+        let user = cast.users[usize::from(process)];
+        let slots = self.empty_slots(image);
+        let number = self.random.between(1, 20);
+        for (number, slot) in (0..number as u8).zip(slots) {
+            let mut entry = Entry::of(user, *b"SMALL   LST", 0);
+            entry.0[6] = b'A' + number;
+            if self.random.chance(40) {
+                self.add_high_bits(&mut entry.0[1..12]);
+            }
+            image[32 * slot..32 * slot + 32].copy_from_slice(&entry.0);
         }
     }
 
@@ -488,6 +510,7 @@ impl Generator {
             13 => self.start_again(cast),
             14..16 => self.with_stray_bytes(cast),
             16 => self.with_several_faults(cast),
+            17 => self.with_moved_positions(cast),
             _ => self.call(cast),
         }
     }
@@ -531,6 +554,9 @@ impl Generator {
     }
 
     fn a_call_of(&mut self, function: u32, cast: &Cast) -> Step {
+        if SEARCHES.contains(&function) {
+            return self.a_search(function, cast);
+        }
         let Target { process, name, aim } = self.target(function, cast);
         let user = cast.users[usize::from(process)];
         let open = self
@@ -557,6 +583,78 @@ impl Generator {
             count,
         };
         Step::Call { numbers, fcb, dma }
+    }
+
+    /// Next is mostly asked by a process that has a search under way; where none has, one begins.
+    fn a_search(&mut self, function: u32, cast: &Cast) -> Step {
+        let under_way = self.processes_searching();
+        let process = self.process(cast);
+        if function == 17 || self.random.chance(20) {
+            return self.a_search_by(process, function, cast);
+        }
+        match self.random.pick_any(&under_way) {
+            Some(process) => self.a_search_by(process, 18, cast),
+            None => self.a_search_by(process, 17, cast),
+        }
+    }
+
+    fn a_search_by(&mut self, process: u8, function: u32, cast: &Cast) -> Step {
+        let name = self.pattern(cast.users[usize::from(process)], cast);
+        let record = self.random.below(300) as u32;
+        let mut fcb = self.fcb(function, name, record, None, cast);
+        match self.random.below(100) {
+            0..55 => fcb[12] = b'?',
+            55..65 => fcb[12] = self.random.pick(&[b'?' | 128, 0, 1, 31]),
+            _ => {}
+        }
+        let count = self.count();
+        let numbers = Numbers {
+            kind: self.kind.number(),
+            function,
+            process: u32::from(process),
+            count,
+        };
+        let dma = self.dma(function, count);
+        Step::Call { numbers, fcb, dma }
+    }
+
+    fn processes_searching(&self) -> Vec<u8> {
+        let list = self.stage.list();
+        if list.len() != LIST {
+            return Vec::new();
+        }
+        let positions = (0..).zip(&list[POSITIONS]);
+        let end = self.kind.entries();
+        let under_way = positions.filter(|(_, position)| usize::from(**position) < end);
+        under_way.map(|(process, _)| process).collect()
+    }
+
+    /// What to search for: all, the name of some file with marks in some places, or anything else.
+    fn pattern(&mut self, user: u8, cast: &Cast) -> [u8; 11] {
+        let mut name = match self.random.below(100) {
+            0..45 => return [b'?'; 11],
+            45..75 => self.a_name_there(user).unwrap_or(cast.names[0]),
+            75..90 => self.random.pick(&cast.names),
+            90..95 => *self.random.pick(&ILLEGAL),
+            _ => std::array::from_fn(|_| self.random.byte()),
+        };
+        let marks = self.random.pick(&[0, 1, 1, 2, 5, 10]);
+        for _ in 0..marks {
+            name[self.random.below(11)] = self.random.pick(b"?????*");
+        }
+        name
+    }
+
+    /// The name of some entry of the user.
+    fn a_name_there(&mut self, user: u8) -> Option<[u8; 11]> {
+        if self.has_no_directory() {
+            return None;
+        }
+        let names: Vec<[u8; 11]> = faults::used_entries(self.kind, self.stage.image())
+            .filter(|entry| entry[0] == user)
+            .map(|entry| std::array::from_fn(|i| entry[1 + i] & 127))
+            .collect();
+        self.random.pick_any(&names)
     }
 
     fn target(&mut self, function: u32, cast: &Cast) -> Target {
@@ -648,7 +746,7 @@ impl Generator {
 
     fn held(&self, is_wanted: impl Fn(&Item) -> bool) -> Vec<Held> {
         let list = self.stage.list();
-        if list.len() != 1299 {
+        if list.len() != LIST {
             return Vec::new();
         }
         faults::items(list)
@@ -702,7 +800,7 @@ impl Generator {
 
     /// A file on the image that nobody has open.
     fn idle_file(&mut self, user: u8) -> Option<[u8; 11]> {
-        if self.has_no_directory() || self.stage.list().len() != 1299 {
+        if self.has_no_directory() || self.stage.list().len() != LIST {
             return None;
         }
         let open: BTreeSet<Vec<u8>> = faults::items(self.stage.list())
@@ -1003,7 +1101,7 @@ impl Generator {
 
     fn wild_function(&mut self, function: u32) -> u32 {
         match self.random.chance(50) {
-            true => self.wild(function, &[0, 14, 17, 20, 24, 32, 36, 44, 47, 142, 144, 255]),
+            true => self.wild(function, &[0, 14, 20, 21, 24, 32, 36, 44, 47, 142, 144, 255]),
             false => self.random.below(256) as u32,
         }
     }
@@ -1079,6 +1177,34 @@ impl Generator {
         self.stage.repaired();
     }
 
+    /// Searches that go on where no search has left off: at either end of the directory, or anywhere.
+    fn with_moved_positions(&mut self, cast: &Cast) {
+        let before = self.stage.list().to_vec();
+        let end = self.kind.entries();
+        self.stage.damaged();
+        for _ in 0..self.random.between(1, 3) {
+            let process = self.process(cast);
+            let anywhere = self.random.below(end + 1);
+            let position = self
+                .random
+                .pick(&[0, 0, 1, end - 2, end - 1, end - 1, end, anywhere]);
+            self.stage.serve(Step::PatchList {
+                at: POSITIONS.start + usize::from(process),
+                bytes: vec![position as u8],
+            });
+            let functions: &[u32] = self.random.pick(&[&[18], &[18, 18], &[143, 18], &[17, 18, 18]]);
+            for function in functions {
+                let step = match function {
+                    143 => self.a_call_of(143, cast),
+                    _ => self.a_search_by(process, *function, cast),
+                };
+                self.stage.serve(step);
+            }
+        }
+        self.stage.set_list(&before);
+        self.stage.repaired();
+    }
+
     fn patch_list(&mut self, from: &[u8], to: &[u8]) {
         for change in changes(from, to).into_iter().flatten() {
             self.stage.serve(Step::PatchList {
@@ -1140,7 +1266,10 @@ impl Generator {
             return;
         }
         let used = place_start(usize::from(list[0]).min(64));
-        let at = self.random.below(used);
+        let at = match self.random.chance(20) {
+            true => POSITIONS.start + self.random.below(POSITIONS.len()),
+            false => self.random.below(used),
+        };
         self.stage.serve(Step::PatchList { at, bytes });
     }
 
@@ -1159,7 +1288,7 @@ impl Generator {
 
     fn with_wrong_list_length(&mut self, cast: &Cast) {
         let before = self.stage.list().to_vec();
-        let length = self.random.pick(&[0, 19, 1279, 1298, 1300, 1319, 2598]);
+        let length = self.random.pick(&[0, 19, 1298, 1299, 1300, 1314, 1316, 2630]);
         self.stage.damaged();
         self.stage.serve(Step::List { length, fill: 0 });
         self.call(cast);

@@ -1,6 +1,8 @@
 //! What the calls so far have granted, kept apart from the list and the image, and the checks
 //! that list and image agree with it. Nothing of the decoders is used here.
 
+use crate::build::POSITIONS;
+use crate::deed::Deed;
 use reference::kind::Kind;
 use std::collections::{BTreeMap, BTreeSet};
 use std::ops::Range;
@@ -64,6 +66,8 @@ pub struct History {
     opens: BTreeMap<(u8, FileName), u8>,
     locks: BTreeSet<Lock>,
     groups: BTreeSet<Group>,
+    /// Where each process's search goes on.
+    positions: [u8; 16],
 }
 
 fn low_bits(bytes: &[u8]) -> [u8; 11] {
@@ -74,6 +78,14 @@ fn records_of_group(kind: Kind) -> u32 {
     match kind {
         Kind::First => 8,
         Kind::Second => 16,
+    }
+}
+
+/// The position of a process that has no search under way.
+fn last_position(kind: Kind) -> u8 {
+    match kind {
+        Kind::First => 64,
+        Kind::Second => 128,
     }
 }
 
@@ -142,18 +154,17 @@ impl History {
             opens: BTreeMap::new(),
             locks: BTreeSet::new(),
             groups,
+            positions: [last_position(kind); 16],
         }
     }
 
     pub fn note(&mut self, call: &Noted) {
-        let stored = records_stored(call);
-        if call.answer != 0 && stored == 0 {
-            return;
-        }
+        let deed = Deed::of(call.function, call.count, call.answer);
         let process = call.process as u8;
-        match call.function {
-            143 => return self.terminate(process),
-            46 => return,
+        match (call.function, deed) {
+            (_, Deed::Refused | Deed::Found(_)) | (46, _) => return,
+            (_, Deed::NoMatch) => return self.end_search(process),
+            (143, _) => return self.terminate(process),
             _ => {}
         }
         let file = FileName {
@@ -167,7 +178,7 @@ impl History {
             16 => self.close(process, file),
             19 => self.delete(process, file),
             23 => self.carry_over(file, low_bits(&call.fcb[17..28])),
-            34 | 40 => self.touch(file, record..record + stored),
+            34 | 40 => self.touch(file, record..record + deed.records()),
             42 => self.grant_run(process, file, record..record + call.count),
             43 => self.release_run(process, file, record..record + call.count),
             _ => {}
@@ -193,6 +204,30 @@ impl History {
     fn terminate(&mut self, process: u8) {
         self.opens.retain(|key, _| key.0 != process);
         self.locks.retain(|lock| lock.process != process);
+        self.end_search(process);
+    }
+
+    fn end_search(&mut self, process: u8) {
+        self.positions[usize::from(process)] = last_position(self.kind);
+    }
+
+    /// After a search that found: the position is behind an entry at the place that the answer
+    /// told, which a Next finds no earlier than where the search went on.
+    pub fn note_found(&mut self, call: &Noted, list: &[u8]) -> Result<(), String> {
+        let Deed::Found(place) = Deed::of(call.function, call.count, call.answer) else {
+            return Ok(());
+        };
+        let kept = &mut self.positions[call.process as usize];
+        let position = list[POSITIONS][call.process as usize];
+        let first = if call.function == 17 { 0 } else { *kept };
+        let behind = position > first && position <= last_position(self.kind);
+        if !behind || (position - 1) % 4 != place {
+            return Err(format!(
+                "a search from {first} told place {place} and left position {position}"
+            ));
+        }
+        *kept = position;
+        Ok(())
     }
 
     fn carry_over(&mut self, old: FileName, name: [u8; 11]) {
@@ -258,6 +293,7 @@ impl History {
     /// All but the blocks, after a call that changed neither the image nor the groups.
     pub fn check_holdings(&self, kept: &[Kept], list: &[u8], image: &[u8]) -> Result<(), String> {
         self.check_list(list)?;
+        self.check_positions(list)?;
         self.check_limits()?;
         self.check_clashes()?;
         check_kept(self.kind, kept, image)
@@ -272,8 +308,19 @@ impl History {
         opens.chain(locks).collect()
     }
 
+    /// Nothing but its own searches and its end moves a process's position.
+    fn check_positions(&self, list: &[u8]) -> Result<(), String> {
+        match list[POSITIONS] == self.positions {
+            true => Ok(()),
+            false => Err(format!(
+                "the positions are {:?}, not {:?}",
+                &list[POSITIONS], self.positions
+            )),
+        }
+    }
+
     fn check_list(&self, list: &[u8]) -> Result<(), String> {
-        let (below, from_capacity) = list[19..].split_at(20 * self.capacity);
+        let (below, from_capacity) = list[19..POSITIONS.start].split_at(20 * self.capacity);
         if from_capacity.iter().any(|&byte| byte != 0) {
             return Err("a place from the capacity on is used".to_string());
         }
@@ -391,15 +438,6 @@ impl History {
             ));
         }
         Ok(())
-    }
-}
-
-/// The records that a 34 or 40 has stored: all, or as many as the high four bits of H tell.
-fn records_stored(call: &Noted) -> u32 {
-    match (call.function, call.answer) {
-        (34 | 40, 0) => call.count,
-        (34 | 40, refusal) => refusal >> 12,
-        _ => 0,
     }
 }
 

@@ -2,7 +2,7 @@
 //! of every table, so that each run has reached them all.
 
 use crate::book::Book;
-use crate::build::{lock_item, name, open_item, put_item, Entry, Fcb};
+use crate::build::{lock_item, name, open_item, put_item, Entry, Fcb, LIST, POSITIONS};
 use crate::coverage::{Half, FUNCTIONS};
 use crate::damage::{break_directory, break_list};
 use crate::faults::{reason_number, ImageRule, ListRule};
@@ -10,7 +10,7 @@ use crate::generate::half_damaged;
 use crate::random::Random;
 use crate::stage::{changed_dma, changed_fcb, Stage};
 use crate::step::Step;
-use crate::{named_entries, named_kinds};
+use crate::{named_entries, named_kinds, named_searches};
 use reference::calls::{Numbers, DMA_LENGTH, MOST_RECORDS, RUN_FUNCTIONS};
 use reference::kind::Kind;
 
@@ -75,7 +75,10 @@ const CASES: [(&str, Play); 34] = [
 
 pub fn cases() -> Vec<Case> {
     let both = Kind::ALL.into_iter().flat_map(|kind| {
-        let cases = CASES.into_iter().chain(named_entries::CASES);
+        let cases = CASES
+            .into_iter()
+            .chain(named_entries::CASES)
+            .chain(named_searches::CASES);
         cases.map(move |(name, play)| (kind, name, play))
     });
     both.chain(named_kinds::CASES)
@@ -209,6 +212,40 @@ impl Asked<'_, '_> {
         }
     }
 
+    /// A search that finds this entry: its directory record is in the DMA, and the rest of that as
+    /// it was.
+    pub fn finds(self, slot: usize) {
+        let at = 128 * (slot / 4);
+        let mut dma = self.dma.clone();
+        dma[..128].copy_from_slice(&self.script.stage.image()[at..at + 128]);
+        self.searches((slot % 4) as u8, 0, slot + 1, dma);
+    }
+
+    /// A search that finds none, and sets the caller's position alone.
+    pub fn finds_none(self) {
+        let (end, dma) = (self.script.kind.entries(), self.dma.clone());
+        self.searches(255, 0, end, dma);
+    }
+
+    fn searches(self, a: u8, h: u8, position: usize, wanted_dma: Vec<u8>) {
+        let (numbers, dma) = (self.numbers, self.dma.clone());
+        let mut wanted_list = self.script.stage.list().to_vec();
+        wanted_list[POSITIONS][numbers.process as usize] = position as u8;
+        let reply = self.script.stage.serve(Step::Call {
+            numbers,
+            fcb: self.fcb,
+            dma: self.dma,
+        });
+        let got = reply.map(|reply| (reply.answer, changed_dma(&dma, &reply)));
+        let wanted = (u32::from(a) + 256 * u32::from(h), wanted_dma);
+        let answer = got.as_ref().map(|(answer, _)| *answer);
+        if got != Some(wanted) || self.script.stage.list() != wanted_list {
+            self.script.complain(&format!(
+                "{numbers:?} gave {answer:?} and its bytes, not {a}/{h} and position {position}"
+            ));
+        }
+    }
+
     /// A 46 that tells so many free records.
     pub fn tells(self, records: u32) {
         let mut dma = self.dma.clone();
@@ -232,7 +269,7 @@ impl<'a> Script<'a> {
         self.stage.set_image(image, 0xE5);
         self.stage.serve(Step::List { length: 0, fill: 0 });
         self.stage.serve(Step::List {
-            length: 1299,
+            length: LIST,
             fill: 0xAA,
         });
         self.starts(numbers, &users, true);
@@ -626,7 +663,7 @@ fn start_edges(script: &mut Script) {
     for length in [0, 15, 17] {
         script.starts([9, 9, 9], &vec![0; length], false);
     }
-    for length in [0, 1298, 1300] {
+    for length in [0, 1299, 1314, 1316] {
         script.stage.serve(Step::List { length, fill: 0x33 });
         script.starts([9, 9, 9], &[0; 16], false);
     }
@@ -678,7 +715,7 @@ fn common_refusals(script: &mut Script) {
                 .lengths(fcb, dma)
                 .gives(255, 13);
         }
-        for length in [0, 1298, 1300] {
+        for length in [0, 1299, 1314, 1316] {
             script.stage.serve(Step::List { length, fill: 0 });
             script.call(0, function, wrong_drive).gives(255, 13);
         }

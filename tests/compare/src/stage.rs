@@ -2,11 +2,14 @@
 //! coverage, the history, buffers that may not change, runs made once more as single calls, and
 //! the second reading of soundness.
 
+use crate::build::{LIST, POSITIONS};
 use crate::comparison::describe_step;
-use crate::coverage::{orders, Coverage, Last};
+use crate::coverage::{orders, Coverage, Last, Meanwhile};
+use crate::deed::{Deed, SEARCHES};
 use crate::engine::Reference;
 use crate::faults::{
-    block_of, check_answer, image_faults, is_legal_name, judged, list_faults, record_at, size_of,
+    block_of, check_answer, image_faults, is_legal_name, judged, list_faults, position_behind, record_at,
+    searched, size_of,
 };
 use crate::history::{groups_with_block, History, Kept, Noted};
 use crate::parts::SHORT_IMAGE;
@@ -15,6 +18,7 @@ use crate::table::Table;
 use reference::calls::Numbers;
 use reference::kind::Kind;
 use reference::singly::is_run_function;
+use std::collections::BTreeSet;
 
 const WRONG_NUMBERS: u32 = 255 + 256 * 13;
 const UNSOUND_IMAGE: u32 = 255 + 256;
@@ -37,6 +41,13 @@ pub struct Made {
     pub reply: Option<Reply>,
 }
 
+/// What a call found, to be held against what it leaves.
+struct Before {
+    kept: Vec<Kept>,
+    /// The caller's position, if it has one.
+    position: Option<u8>,
+}
+
 #[derive(Default)]
 pub struct Stage {
     table: Table,
@@ -45,6 +56,8 @@ pub struct Stage {
     /// While the image or the list is damaged on purpose.
     damaged: bool,
     served: u64,
+    /// What has happened since each process's last search.
+    meanwhile: [BTreeSet<Meanwhile>; 16],
     /// Steps that were answered since a long image was last compared whole.
     since_whole: usize,
     pub coverage: Coverage,
@@ -73,6 +86,7 @@ impl Stage {
     pub fn begin(&mut self) {
         self.history = None;
         self.damaged = false;
+        self.meanwhile = Default::default();
     }
 
     /// The steps since the last time; where the image is long, it is compared whole behind them.
@@ -137,10 +151,10 @@ impl Stage {
     }
 
     fn serve_one(&mut self, step: Step) -> Option<Reply> {
-        let kept = self.kept(&step);
+        let before = self.before(&step);
         let reply = self.table.serve(&mut self.reference, &step);
         if let Some(reply) = &reply {
-            self.watch(&step, reply, &kept);
+            self.watch(&step, reply, &before);
         }
         self.made.push(Made {
             step,
@@ -149,21 +163,32 @@ impl Stage {
         reply
     }
 
-    fn kept(&self, step: &Step) -> Vec<Kept> {
-        match (step, &self.history) {
-            (Step::Call { numbers, .. }, Some(history)) if !self.damaged => {
+    fn before(&self, step: &Step) -> Before {
+        let Step::Call { numbers, .. } = step else {
+            return Before {
+                kept: Vec::new(),
+                position: None,
+            };
+        };
+        let followed = self.history.as_ref().filter(|_| !self.damaged);
+        let list = self.table.list();
+        let positions = list.get(POSITIONS).filter(|_| list.len() == LIST);
+        Before {
+            kept: followed.map_or_else(Vec::new, |history| {
                 history.locked_by_others(numbers.process, self.table.image())
-            }
-            _ => Vec::new(),
+            }),
+            position: positions
+                .and_then(|all| all.get(numbers.process as usize))
+                .copied(),
         }
     }
 
-    fn watch(&mut self, step: &Step, reply: &Reply, kept: &[Kept]) {
+    fn watch(&mut self, step: &Step, reply: &Reply, before: &Before) {
         self.served += 1;
         let faults_before = self.faults.len();
         match step {
             Step::Start { kind, numbers, users } => self.watch_start(*kind, *numbers, users, reply),
-            Step::Call { .. } => self.watch_call(step, reply, kept),
+            Step::Call { .. } => self.watch_call(step, reply, before),
             Step::Check { kind } => self.watch_check(*kind, reply),
             Step::Look { .. } => self.watch_look(step, reply),
             _ => {}
@@ -239,7 +264,7 @@ impl Stage {
         }
     }
 
-    fn watch_call(&mut self, step: &Step, reply: &Reply, kept: &[Kept]) {
+    fn watch_call(&mut self, step: &Step, reply: &Reply, before: &Before) {
         let Step::Call { numbers, fcb, dma } = step else {
             return;
         };
@@ -247,6 +272,7 @@ impl Stage {
             .note_call(numbers.kind, numbers.function, reply.answer, self.reference.why);
         if let Some(kind) = Kind::told(numbers.kind) {
             self.watch_drive(kind, *numbers, fcb, reply);
+            self.watch_search(kind, step, reply, before);
             if self.damaged || self.served.is_multiple_of(SOUNDNESS_INTERVAL) {
                 self.compare_soundness(kind, reply.answer);
             }
@@ -257,27 +283,100 @@ impl Stage {
         let Some(history) = &mut self.history else {
             return;
         };
-        history.note(&Noted {
+        let noted = Noted {
             function: numbers.function,
             process: numbers.process,
             count: numbers.count,
             fcb,
             answer: reply.answer,
-        });
+        };
+        history.note(&noted);
+        let (list, image) = (self.table.list(), self.table.image());
+        let mut verdict = history.note_found(&noted, list);
+        let deed = Deed::of_call(*numbers, reply.answer);
         let may_change_groups = match numbers.function {
-            19 | 23 => reply.answer == 0,
-            _ => records_done(*numbers, reply.answer) > 0,
+            19 | 23 => deed == Deed::Done,
+            _ => deed.records() > 0,
         };
-        let mut verdict = match may_change_groups || reply.changes[3] != Some(Vec::new()) {
-            true => history.check(kept, self.table.list(), self.table.image()),
-            false => history.check_holdings(kept, self.table.list(), self.table.image()),
-        };
-        if verdict.is_ok() && numbers.function == 46 && reply.answer == 0 {
+        verdict = verdict.and_then(
+            |()| match may_change_groups || reply.changes[3] != Some(Vec::new()) {
+                true => history.check(&before.kept, list, image),
+                false => history.check_holdings(&before.kept, list, image),
+            },
+        );
+        if verdict.is_ok() && (numbers.function, deed) == (46, Deed::Done) {
             let dma = changed_dma(dma, reply);
-            verdict = history.check_free_space(&dma, self.table.image());
+            verdict = history.check_free_space(&dma, image);
         }
         if let Err(fault) = verdict {
             self.complain(fault);
+        }
+        self.note_meanwhile(*numbers, deed);
+    }
+
+    /// A search has found the entry that the bytes tell, has its directory record in the DMA, and
+    /// has moved its caller's position and no other byte of the list.
+    fn watch_search(&mut self, kind: Kind, step: &Step, reply: &Reply, before: &Before) {
+        let Step::Call { numbers, fcb, dma } = step else {
+            return;
+        };
+        let deed = Deed::of_call(*numbers, reply.answer);
+        let (Deed::Found(_) | Deed::NoMatch, Some(position)) = (deed, before.position) else {
+            return;
+        };
+        let (list, image) = (self.table.list(), self.table.image());
+        let process = numbers.process as usize;
+        let from = if numbers.function == 17 { 0 } else { position };
+        let found = searched(kind, list[3 + process], fcb, from, image);
+        let mut wanted_dma = dma.clone();
+        if let Some(slot) = found {
+            let at = 128 * (slot / 4);
+            wanted_dma[..128].copy_from_slice(&image[at..at + 128]);
+        }
+        let at = POSITIONS.start + process;
+        let is_right = list[at] == position_behind(kind, found)
+            && reply.answer == found.map_or(255, |slot| slot as u32 % 4)
+            && changed_dma(dma, reply) == wanted_dma
+            && is_this_byte_at_most(reply, at);
+        if !is_right {
+            self.complain(format!("a search from {from}: the bytes say {found:?}"));
+        }
+        self.note_search(kind, *numbers, fcb, position, found);
+    }
+
+    fn note_search(&mut self, kind: Kind, numbers: Numbers, fcb: &[u8], position: u8, found: Option<usize>) {
+        let Some(slot) = found else {
+            return;
+        };
+        self.coverage
+            .note_found(kind, numbers.function, slot, &fcb[1..12]);
+        let goes_on = numbers.function == 18 && position > 0;
+        if self.damaged || !goes_on {
+            return;
+        }
+        let meanwhile = &self.meanwhile[numbers.process as usize];
+        if meanwhile.is_empty() {
+            self.coverage.note_meanwhile(kind, Meanwhile::Nothing);
+        }
+        for what in meanwhile.clone() {
+            self.coverage.note_meanwhile(kind, what);
+        }
+    }
+
+    /// What a search by another process will go on behind.
+    fn note_meanwhile(&mut self, numbers: Numbers, deed: Deed) {
+        let what = match (numbers.function, deed) {
+            (17 | 18, Deed::Found(_) | Deed::NoMatch) => Meanwhile::Search,
+            (22, Deed::Done) => Meanwhile::Make,
+            (19, Deed::Done) => Meanwhile::Delete,
+            (23, Deed::Done) => Meanwhile::Rename,
+            _ => return,
+        };
+        for all in &mut self.meanwhile {
+            all.insert(what);
+        }
+        if SEARCHES.contains(&numbers.function) {
+            self.meanwhile[numbers.process as usize].clear();
         }
     }
 
@@ -298,10 +397,11 @@ impl Stage {
         if is_large && matches!(numbers.function, 34 | 40) && reply.answer % 256 == 2 {
             self.complain(format!("no free block, of {blocks}"));
         }
-        if reply.answer == 0 {
+        let deed = Deed::of_call(numbers, reply.answer);
+        if deed.is_accepted() {
             self.coverage.note_size(kind, blocks);
         }
-        if (numbers.function, reply.answer) == (35, 0) {
+        if (numbers.function, deed) == (35, Deed::Done) {
             self.watch_size(kind, numbers, fcb, reply);
         }
         self.watch_run(kind, numbers, fcb, reply);
@@ -313,8 +413,7 @@ impl Stage {
     /// Notes where the first record of a call lies that was done.
     fn watch_blocks(&mut self, numbers: Numbers, fcb: &[u8], reply: &Reply) {
         let of_records = is_run_function(numbers.function) || numbers.function == 41;
-        let is_done = reply.answer == 0 || records_done(numbers, reply.answer) > 0;
-        if !of_records || !is_done {
+        if !of_records || Deed::of_call(numbers, reply.answer) == Deed::Refused {
             return;
         }
         let user = self.table.list()[3 + numbers.process as usize];
@@ -324,13 +423,11 @@ impl Stage {
     }
 
     fn watch_run(&mut self, kind: Kind, numbers: Numbers, fcb: &[u8], reply: &Reply) {
-        let done = records_done(numbers, reply.answer);
-        if done == 0 {
+        let Deed::Records { done, all } = Deed::of_call(numbers, reply.answer) else {
             return;
-        }
+        };
         let first = u32::from_le_bytes([fcb[33], fcb[34], fcb[35], 0]);
-        self.coverage
-            .note_run(kind, numbers.function, first, done, reply.answer != 0);
+        self.coverage.note_run(kind, numbers.function, first, done, !all);
         if let Some(last) = last_taken(kind, reply) {
             self.coverage.note_last(kind, numbers.function, last);
         }
@@ -362,12 +459,12 @@ impl Stage {
     }
 }
 
-/// How many records a 33, 34 or 40 has done; 0 for the others.
-fn records_done(numbers: Numbers, answer: u32) -> u32 {
-    match (is_run_function(numbers.function), answer) {
-        (false, _) => 0,
-        (true, 0) => numbers.count,
-        (true, refusal) => refusal >> 12,
+/// The list has changed in this byte or not at all.
+fn is_this_byte_at_most(reply: &Reply, at: usize) -> bool {
+    match reply.changes[2].as_deref() {
+        Some([]) => true,
+        Some([change]) => change.at == at && change.bytes.len() == 1,
+        _ => false,
     }
 }
 
@@ -390,14 +487,16 @@ fn last_taken(kind: Kind, reply: &Reply) -> Option<Last> {
 /// FCB, DMA, list and image: which of them a step may change that was answered so.
 fn buffers_that_may_change(step: &Step, answer: u32) -> [bool; 4] {
     const NONE: [bool; 4] = [false; 4];
-    let accepted = answer == 0;
     let numbers = match step {
-        Step::Start { .. } => return [false, false, accepted, false],
+        Step::Start { .. } => return [false, false, answer == 0, false],
         Step::Call { numbers, .. } => *numbers,
         _ => return NONE,
     };
-    if !accepted && records_done(numbers, answer) == 0 {
-        return NONE;
+    match Deed::of_call(numbers, answer) {
+        Deed::Refused => return NONE,
+        Deed::NoMatch => return [false, false, true, false],
+        Deed::Found(_) => return [false, true, true, false],
+        Deed::Done | Deed::Records { .. } => {}
     }
     match numbers.function {
         15 => [true, false, true, false],

@@ -3,7 +3,7 @@
 mod common;
 
 use common::{split, KNOWN, OK};
-use compare::build::{empty_image, image_of, image_with, Entry};
+use compare::build::{empty_image, image_of, image_with, Entry, LIST};
 use reference::kind::Kind;
 
 /// A small generator of numbers, so that each run sees the same.
@@ -54,7 +54,7 @@ fn any_call_answers() {
             18..24 => image_with(4, &[Entry::named("A").block(0, 2)]),
             _ => vec![0; image_length],
         };
-        let list_length = numbers.length(1299);
+        let list_length = numbers.length(LIST);
         let mut list = match numbers.below(3) {
             0 => numbers.bytes(list_length),
             _ => vec![0; list_length],

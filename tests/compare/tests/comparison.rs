@@ -1,13 +1,16 @@
 //! The comparison sees through engines that are wrong in one place only, and keeps the case.
 
+mod search_faults;
+
 use compare::comparison::{describe, keep_case, on_reference, read_case, Comparison, Difference};
+use compare::deed::Deed;
 use compare::engine::{Engine, Reference};
 use compare::faults::block_of;
 use compare::generate::Generator;
 use compare::pipe::Pipe;
 use compare::step::{changes, Apart, Step, ANSWER_APART};
 use compare::wire::{get_reply, get_step, put_reply, put_step};
-use reference::calls::{Buffers, Numbers, RUN_FUNCTIONS};
+use reference::calls::{Buffers, Numbers};
 use reference::kind::Kind;
 
 /// The buffers before or after a call.
@@ -170,20 +173,16 @@ impl Done {
 
     /// A call for several records that was not refused as a whole.
     fn is_run(&self) -> bool {
-        RUN_FUNCTIONS.contains(&self.numbers.function)
-            && (2..=16).contains(&self.numbers.count)
-            && (self.answer == 0 || self.records_done() > 0)
+        self.numbers.count > 1 && self.records_done() > 0
     }
 
     fn is_stopped_run(&self) -> bool {
-        self.is_run() && self.answer != 0
+        let deed = Deed::of_call(self.numbers, self.answer);
+        self.is_run() && matches!(deed, Deed::Records { all: false, .. })
     }
 
     fn records_done(&self) -> u32 {
-        match self.answer {
-            0 => self.numbers.count,
-            refusal => refusal >> 12,
-        }
+        Deed::of_call(self.numbers, self.answer).records()
     }
 
     /// The call once more as single calls, the record of each chosen by its number in the run.
@@ -561,7 +560,7 @@ fn space_in_two_bytes(done: &mut Done) {
 }
 
 fn refusal_writes(done: &mut Done) {
-    if done.answer != 0 {
+    if Deed::of_call(done.numbers, done.answer) == Deed::Refused {
         if let Some(byte) = done.after.dma.last_mut() {
             *byte ^= 1;
         }
@@ -570,7 +569,7 @@ fn refusal_writes(done: &mut Done) {
 
 fn terminate_clears_the_list(done: &mut Done) {
     if done.is(143, 0) {
-        done.after.list[19..].fill(0);
+        done.after.list[19..1299].fill(0);
     }
 }
 
@@ -587,7 +586,7 @@ fn tells_no_records(done: &mut Done) {
 }
 
 fn tells_the_records_of_a_whole_run(done: &mut Done) {
-    if done.is_run() && done.answer == 0 {
+    if done.is_run() && !done.is_stopped_run() {
         done.answer = 4096 * (done.numbers.count % 16);
     }
 }
@@ -810,12 +809,16 @@ const FAULTS: [Fault; 59] = [
     takes_the_old_dma,
 ];
 
+fn all_faults() -> impl Iterator<Item = Fault> {
+    FAULTS.into_iter().chain(search_faults::FAULTS)
+}
+
 /// These faults are written for drives of the first kind; tests/kinds.rs has those of the second.
 #[test]
 fn the_named_cases_see_every_fault() {
     let mut cases = Generator::new(3).named();
     cases.retain(|(case, _)| case.ends_with("kind 0"));
-    for (number, fault) in FAULTS.into_iter().enumerate() {
+    for (number, fault) in all_faults().enumerate() {
         let mut engine = Faulty(fault);
         let mut comparison = Comparison::new(&mut engine);
         let seen = cases.iter().any(|(_, made)| comparison.run(made).is_some());
@@ -826,8 +829,8 @@ fn the_named_cases_see_every_fault() {
 #[test]
 fn chance_sees_every_fault() {
     let mut generator = Generator::new(4);
-    let sessions: Vec<_> = (0..400).map(|_| generator.session_of(Kind::First)).collect();
-    for (number, fault) in FAULTS.into_iter().enumerate() {
+    let sessions: Vec<_> = (0..600).map(|_| generator.session_of(Kind::First)).collect();
+    for (number, fault) in all_faults().enumerate() {
         let mut engine = Faulty(fault);
         let mut comparison = Comparison::new(&mut engine);
         let seen = sessions.iter().any(|made| comparison.run(made).is_some());
@@ -874,7 +877,7 @@ fn plain_side_writes_the_dma(done: &mut Done) {
 
 fn plain_side_writes_the_list(done: &mut Done) {
     if done.is(40, 6) {
-        done.after.list[1298] ^= 1;
+        done.after.list[1314] ^= 1;
     }
 }
 
@@ -1116,7 +1119,7 @@ fn a_pipe_to_the_reference_agrees() {
 #[test]
 fn the_pipe_serves_the_four_functions_one_by_one() {
     let mut pipe = pipe_to_reference();
-    let (mut list, mut image) = (vec![0xAA; 1299], vec![0xE5; 4096]);
+    let (mut list, mut image) = (vec![0xAA; 1315], vec![0xE5; 4096]);
     assert_eq!(pipe.start(0, [3, 2, 2], &mut [0; 16], &mut list), 0);
     assert_eq!(list[..3], [3, 2, 2]);
     assert_eq!(pipe.check(0, &mut image), 0);

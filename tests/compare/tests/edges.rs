@@ -3,7 +3,7 @@
 mod common;
 
 use common::{split, World, KNOWN, OK};
-use compare::build::{empty_image, image_with, name, Entry, Fcb};
+use compare::build::{empty_image, image_with, name, Entry, Fcb, LIST};
 
 #[test]
 fn the_last_record() {
@@ -113,7 +113,7 @@ fn start_numbers() {
     for number in [0, 1, 64, 65, 256, 257, 320, u32::MAX] {
         let passes = (1..=64).contains(&number);
         for numbers in [[number, 7, 9], [5, number, 9], [5, 7, number]] {
-            assert_start(numbers, &[3; 16], 1299, passes);
+            assert_start(numbers, &[3; 16], LIST, passes);
         }
     }
 }
@@ -124,17 +124,17 @@ fn start_users() {
         for user in [0, 15, 16, 0x80, 255] {
             let mut users = [1; 16];
             users[at] = user;
-            assert_start([64, 1, 64], &users, 1299, user < 16);
+            assert_start([64, 1, 64], &users, LIST, user < 16);
         }
     }
     for length in [0, 1, 15, 17, 32] {
-        assert_start([64, 1, 64], &vec![0; length], 1299, false);
+        assert_start([64, 1, 64], &vec![0; length], LIST, false);
     }
 }
 
 #[test]
 fn start_list_length() {
-    for length in [0, 1, 19, 1298, 1300, 4096] {
+    for length in [0, 1, 19, 1299, 1314, 1316, 4096] {
         assert_start([64, 1, 64], &[0; 16], length, false);
     }
 }
@@ -150,13 +150,14 @@ fn assert_start(numbers: [u32; 3], users: &[u8], length: usize, passes: bool) {
     assert_eq!(split(word), OK, "{numbers:?}");
     assert_eq!(list[..3], numbers.map(|number| number as u8));
     assert_eq!(list[3..19], *users);
-    assert_eq!(list[19..], [0; 1280]);
+    assert_eq!(list[19..1299], [0; 1280]);
+    assert_eq!(list[1299..], [64; 16]);
 }
 
 #[test]
 fn buffer_lengths() {
     for function in KNOWN {
-        let lengths = [0, 1, 35, 37, 256, 1298, 1300, 2047, 2049];
+        let lengths = [0, 1, 35, 37, 256, 1299, 1314, 1316, 2047, 2049];
         for length in lengths {
             let mut world = World::empty(3);
             let bytes = vec![0; length];

@@ -50,6 +50,12 @@ fn a_pair_that_may_not_be_is_told() {
     let mut generator = Generator::new(0);
     generator.named();
     for (function, a, h, why) in [
+        (17, 4, 0, "found, of extents 0"),
+        (17, 1, 16, "found, of extents 0"),
+        (17, 0, 0, "no match"),
+        (17, 255, 9, "illegal name"),
+        (18, 255, 0, "no such file"),
+        (18, 255, 6, "not open"),
         (33, 10, 16, "not open"),
         (33, 8, 16, "held by another"),
         (33, 0, 16, "read"),
@@ -153,6 +159,14 @@ fn every_number_of_records_done_is_wanted() {
         "not reached: order of faults (First, Inside(5, 6))",
         "not reached: order of faults (Second, Across(7, 2))",
         "not reached: order of faults (Second, BehindHeadless(6))",
+        "not reached: kind 0, function 17, 3/0, found, of extents 0",
+        "not reached: kind 1, function 18, 255/0, no match, the search was at its end",
+        "not reached: kind 1, function 143, 0/0, a search ended",
+        "not reached: search (First, 18, Entry0)",
+        "not reached: search (Second, 17, Upper)",
+        "not reached: mark of a search (First, 18, (10, true))",
+        "not reached: search gone on after (Second, Rename)",
+        "not reached: list rule (Second, Position)",
         "not reached: unknown kind, function 46, 255/13, unknown kind",
         "not reached: kind 1, function 143, 255/1, image of the other kind's length",
     ] {

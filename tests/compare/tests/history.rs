@@ -30,10 +30,7 @@ impl Run {
 
     fn of(kind: Kind, image: Vec<u8>) -> Run {
         let history = History::new(kind, NUMBERS, [0; 16], groups_with_block(kind, &image));
-        let world = World {
-            kind: kind.number(),
-            ..World::with_users(image, NUMBERS, [0; 16])
-        };
+        let world = World::of_kind(kind.number(), image, NUMBERS, [0; 16]);
         Run { world, history }
     }
 
@@ -41,13 +38,15 @@ impl Run {
         let Step(process, function, fcb, count, id) = step;
         let kept = self.history.locked_by_others(process, &self.world.image);
         let (a, h) = self.world.ask(process, function, fcb).count(count).id(id).go();
-        self.history.note(&Noted {
+        let noted = Noted {
             function,
             process,
             count,
             fcb: &fcb.0,
             answer: a + 256 * h,
-        });
+        };
+        self.history.note(&noted);
+        self.history.note_found(&noted, &self.world.list)?;
         self.history.check(&kept, &self.world.list, &self.world.image)?;
         if function == 46 && a == 0 {
             self.history
@@ -377,4 +376,100 @@ fn opens_that_clash_are_seen() {
     });
     put_item(&mut run.world.list, 4, open_item(3, name("ORDERS.DAT"), 0));
     assert!(run.check().unwrap_err().contains("beside"));
+}
+
+/// Two files, of which process 1 has found the first, and process 2 has ended its search.
+fn searching(kind: Kind) -> Run {
+    let mut run = Run::of(kind, empty_image_of(kind, kind.fewest_blocks()));
+    for text in ["A", "B"] {
+        run.step(Step(1, 22, Fcb::named(text), 1, 0)).unwrap();
+    }
+    run.step(Step(1, 17, all(), 1, 0)).unwrap();
+    run.step(Step(2, 17, Fcb::named("NONE"), 1, 0)).unwrap();
+    run
+}
+
+fn all() -> Fcb {
+    Fcb::of([b'?'; 11])
+}
+
+#[test]
+fn searches_grant_nothing_and_keep_their_own_positions() {
+    for kind in Kind::ALL {
+        let mut run = searching(kind);
+        for step in [
+            Step(1, 18, all(), 1, 0),
+            Step(3, 17, all(), 16, 0),
+            Step(1, 18, all(), 1, 0),
+            Step(1, 18, all(), 1, 0),
+            Step(3, 19, Fcb::named("A").with(0, 2), 1, 0),
+            Step(1, 19, Fcb::named("A"), 1, 0),
+            Step(3, 18, all(), 1, 0),
+            Step(3, 18, all().with(0, 2), 1, 0),
+            Step(3, 143, all(), 1, 0),
+            Step(2, 17, all(), 1, 0),
+        ] {
+            run.step(step).unwrap();
+        }
+    }
+}
+
+#[test]
+fn a_position_that_nobody_moved_is_seen() {
+    for kind in Kind::ALL {
+        for (process, position) in [(1, 2), (2, 63), (0, 1), (15, 0)] {
+            let mut run = searching(kind);
+            run.world.list[1299 + process] = position;
+            assert!(run.check().unwrap_err().starts_with("the positions are"));
+        }
+    }
+}
+
+#[test]
+fn a_find_that_its_answer_does_not_tell_is_seen() {
+    for (function, answer, position) in [
+        (18, 0, 1),
+        (18, 0, 2),
+        (18, 1, 3),
+        (18, 1, 0),
+        (17, 0, 0),
+        (17, 2, 66),
+    ] {
+        let mut run = searching(Kind::First);
+        run.world.list[1299 + 1] = position;
+        let noted = Noted {
+            function,
+            process: 1,
+            count: 1,
+            fcb: &all().0,
+            answer,
+        };
+        let told = run.history.note_found(&noted, &run.world.list);
+        assert!(told.is_err(), "{function} told {answer} and left {position}");
+    }
+}
+
+/// 143 and no match end a search; a refusal and 255/0 of another function do not.
+#[test]
+fn only_the_end_of_a_search_is_noted_as_its_end() {
+    for (function, answer, ends) in [
+        (143, 0, true),
+        (17, 255, true),
+        (18, 255, true),
+        (15, 255, false),
+        (18, 255 + 256 * 4, false),
+        (143, 255 + 256 * 12, false),
+    ] {
+        let mut run = searching(Kind::First);
+        run.history.note(&Noted {
+            function,
+            process: 1,
+            count: 1,
+            fcb: &all().0,
+            answer,
+        });
+        run.world.list[1299 + 1] = 64;
+        let positions_agree = !run.check().is_err_and(|fault| fault.starts_with("the positions"));
+        assert_eq!(positions_agree, ends, "{function}, {answer}");
+    }
 }

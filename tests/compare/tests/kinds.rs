@@ -4,8 +4,9 @@
 mod common;
 
 use common::{split, World, KNOWN, OK};
-use compare::build::{empty_image, empty_image_of, image_of, name, put_entry, Entry, Fcb};
+use compare::build::{empty_image, empty_image_of, image_of, name, put_entry, Entry, Fcb, LIST, POSITIONS};
 use compare::comparison::{keep_case, on_reference, read_case, Comparison};
+use compare::deed::Deed;
 use compare::engine::{Engine, Reference};
 use compare::faults::{block_of, image_faults, reason_number, ImageRule};
 use compare::generate::Generator;
@@ -103,7 +104,7 @@ fn a_book_told_as_the_other_kind() {
 fn unknown_kinds() {
     for kind in UNKNOWN_KINDS {
         for image in [large_image(), empty_image(4), Vec::new()] {
-            for function in KNOWN.into_iter().chain([0, 17, 271]) {
+            for function in KNOWN.into_iter().chain([0, 14, 271]) {
                 let mut world = World::new(image.clone());
                 world.kind = kind;
                 assert_eq!(world.ask(99, function, file()).count(0).go(), (255, 13));
@@ -111,20 +112,48 @@ fn unknown_kinds() {
             assert_eq!(reference::check(kind, &image), 1);
             assert_eq!(reference::look(kind, 0, &name("FILE.DAT"), 0, &image), None);
         }
-        let mut list = vec![0xAA; 1299];
+        let mut list = vec![0xAA; LIST];
         let answer = reference::start(kind, 9, 9, 9, &[0; 16], &mut list);
         assert_eq!(split(answer), (255, 13));
-        assert_eq!(list, [0xAA; 1299]);
+        assert_eq!(list, [0xAA; LIST]);
     }
 }
 
 #[test]
-fn start_is_the_same_for_both_kinds() {
-    let mut lists = [vec![0xAA; 1299], vec![0x55; 1299]];
+fn start_differs_in_the_positions_alone() {
+    let mut lists = [vec![0xAA; LIST], vec![0x55; LIST]];
     for (kind, list) in (0..).zip(&mut lists) {
         assert_eq!(reference::start(kind, 3, 2, 1, &[7; 16], list), 0);
     }
-    assert_eq!(lists[0], lists[1]);
+    assert_eq!(lists[0][..1299], lists[1][..1299]);
+    assert_eq!(lists[0][1299..], [64; 16]);
+    assert_eq!(lists[1][1299..], [128; 16]);
+}
+
+/// The list has no mark of its kind: 64 is no end there, and 128 is none here.
+#[test]
+fn a_list_started_for_the_other_kind() {
+    let entries = [(63, "BEFORE"), (64, "AT.64"), (127, "LAST")];
+    let mut image = empty_image_of(Kind::Second, 257);
+    for (slot, text) in entries {
+        put_entry(&mut image, slot, Entry::named(text));
+    }
+    let all = Fcb::of([b'?'; 11]);
+    let mut world = World::large(image);
+    world.list[1299..].fill(64);
+    assert_eq!(world.ask(3, 18, all).go(), (0, 0));
+    assert_eq!(world.dma[1..6], *b"AT   ");
+    assert_eq!(world.list[1299 + 3], 65);
+    assert_eq!(world.ask(3, 18, all).go(), (3, 0));
+    assert_eq!(world.list[1299 + 3], 128);
+    assert_eq!(world.ask(3, 18, all).go(), (255, 0));
+    assert_eq!(world.ask(4, 143, all).go(), OK);
+    assert_eq!(world.list[1299 + 4], 128);
+    for position in [65, 127, 128] {
+        let mut world = World::empty(3);
+        world.list[1299 + 9] = position;
+        assert_eq!(world.ask(0, 46, all).go(), (255, 12));
+    }
 }
 
 #[test]
@@ -313,9 +342,13 @@ enum Wrong {
     LooksAtTheLowByte,
     LookTakesUnknownKinds,
     WritesFarAway,
+    StartWrites64,
+    NoMatchLeaves64,
+    TerminateLeaves64,
+    Searches64Entries,
 }
 
-const ALL_WRONG: [Wrong; 19] = [
+const ALL_WRONG: [Wrong; 23] = [
     Wrong::UnknownKindIs1,
     Wrong::KindIsTheLengths,
     Wrong::KindIsAByte,
@@ -335,6 +368,10 @@ const ALL_WRONG: [Wrong; 19] = [
     Wrong::LooksAtTheLowByte,
     Wrong::LookTakesUnknownKinds,
     Wrong::WritesFarAway,
+    Wrong::StartWrites64,
+    Wrong::NoMatchLeaves64,
+    Wrong::TerminateLeaves64,
+    Wrong::Searches64Entries,
 ];
 
 impl Wrong {
@@ -406,6 +443,10 @@ impl Spoilt<'_> {
         }
     }
 
+    fn position(&mut self) -> &mut u8 {
+        &mut self.buffers.list[POSITIONS][self.numbers.process as usize]
+    }
+
     fn spoil(&mut self, wrong: Wrong) {
         let block = self.block(self.buffers.image);
         match (wrong, self.numbers.function) {
@@ -430,6 +471,18 @@ impl Spoilt<'_> {
                 }
                 map[8..].fill(0);
             }
+            (Wrong::NoMatchLeaves64, 17 | 18) | (Wrong::TerminateLeaves64, 143) => {
+                let position = self.position();
+                if *position == 128 {
+                    *position = 64;
+                }
+            }
+            (Wrong::Searches64Entries, 17 | 18) => {
+                let position = self.position();
+                if *position > 64 {
+                    *position = 128;
+                }
+            }
             (Wrong::WritesFarAway, 46) => {
                 if let Some(byte) = self.buffers.image.last_mut() {
                     *byte ^= 1;
@@ -443,7 +496,8 @@ impl Spoilt<'_> {
 impl Engine for WrongEngine {
     fn start(&mut self, kind: u32, numbers: [u32; 3], users: &mut [u8], list: &mut [u8]) -> u32 {
         let kind = match self.0 {
-            Wrong::StartForgetsTheKind => 0,
+            Wrong::StartForgetsTheKind if kind > 1 => 0,
+            Wrong::StartWrites64 if kind == 1 => 0,
             _ => kind,
         };
         Reference::default().start(kind, numbers, users, list)
@@ -499,7 +553,7 @@ impl Engine for WrongEngine {
             image: &mut image[part],
         };
         let answer = Reference::default().call(told, lent);
-        if (numbers.kind, answer) == (1, 0) {
+        if numbers.kind == 1 && Deed::of_call(numbers, answer).is_accepted() {
             let buffers = Buffers {
                 fcb,
                 dma,

@@ -1,13 +1,11 @@
-//! Packing: what it has to leave, written from document 02; and packers that are wrong about it, which the named cases and
-//! chance have to see.
+//! Packing: what it has to leave, written from document 02; and packers that are wrong about it, which the named cases
+//! and chance have to see.
 
-use compare::build::{image_of, name, open_item, put_entry, put_item, Entry};
+use compare::build::{image_of, name, open_item, put_entry, put_item, Entry, Fcb, LIST, POSITIONS};
 use compare::desk::cases::Cases;
 use compare::desk::packs::fresh_list;
 use compare::desk::{difference, named, on_reference, watch, Case, Desk, Local, What};
 use reference::kind::Kind;
-
-const LIST: usize = 1_299;
 
 fn file(text: &str) -> Entry {
     Entry::named(text).count(1)
@@ -68,11 +66,12 @@ fn entries_and_blocks_in_the_order_of_the_walk() {
             &[(2, 1), (3, 2), (4, 3), (5, 4), (6, 5)],
             0,
         );
+        let fresh = fresh_list(kind, 1, [0; 16]);
         let mut packed = vec![0x77; before.len()];
-        assert_eq!(pack(kind, &before, &fresh_list(1, [0; 16]), &mut packed), (0, 0));
+        assert_eq!(pack(kind, &before, &fresh, &mut packed), (0, 0));
         assert!(packed == after, "{kind:?}");
         let mut twice = vec![0x77; before.len()];
-        assert_eq!(pack(kind, &packed, &fresh_list(1, [0; 16]), &mut twice), (0, 0));
+        assert_eq!(pack(kind, &packed, &fresh, &mut twice), (0, 0));
         assert!(twice == packed);
     }
 }
@@ -86,7 +85,10 @@ fn an_empty_book_is_e5h_and_zeros() {
             image[32 * slot] = 0xE5;
         }
         let mut packed = vec![0x77; image.len()];
-        assert_eq!(pack(kind, &image, &fresh_list(9, [3; 16]), &mut packed), (0, 0));
+        assert_eq!(
+            pack(kind, &image, &fresh_list(kind, 9, [3; 16]), &mut packed),
+            (0, 0)
+        );
         assert!(packed[..kind.directory()].iter().all(|byte| *byte == 0xE5));
         assert!(packed[kind.directory()..].iter().all(|byte| *byte == 0));
     }
@@ -97,7 +99,7 @@ fn refusals_in_their_order() {
     for kind in Kind::ALL {
         let good = book(kind, &[(3, file("A"))], &[], 0);
         let bad = book(kind, &[(3, file("A").count(129))], &[], 0);
-        let fresh = fresh_list(64, [0; 16]);
+        let fresh = fresh_list(kind, 64, [0; 16]);
         let mut open = fresh.clone();
         put_item(&mut open, 63, open_item(15, name("A"), 2));
         let mut both = open.clone();
@@ -118,6 +120,7 @@ fn refusals_in_their_order() {
             assert_eq!(ask(&good, &fresh, length), (255, 13));
         }
         assert_eq!(ask(&bad, &both[1..], long), (255, 13));
+        assert_eq!(ask(&good, &fresh[..1_299], long), (255, 13));
         assert_eq!(ask(&good[1..], &fresh, long - 1), (255, 1));
         assert_eq!(ask(&good[1..], &fresh, long), (255, 13));
         for told in [2, 256, u32::MAX] {
@@ -129,6 +132,64 @@ fn refusals_in_their_order() {
             reference::pack(other, &good, &fresh, &mut vec![7; long]),
             255 + 256
         );
+    }
+}
+
+/// A position is good up to the number of entries, whosever it is; it does not stop packing, and stays.
+#[test]
+fn positions_are_judged_and_stay() {
+    for (kind, end) in [(Kind::First, 64), (Kind::Second, 128)] {
+        let image = book(kind, &[(3, file("A")), (9, file("B"))], &[], 0);
+        let ask = |process: usize, position: u8, item: Option<[u8; 20]>| {
+            let mut list = fresh_list(kind, 64, [0; 16]);
+            item.into_iter().for_each(|item| put_item(&mut list, 0, item));
+            list[1_299 + process] = position;
+            let before = list.clone();
+            let answer = pack(kind, &image, &list, &mut vec![7; image.len()]);
+            assert!(list == before);
+            answer
+        };
+        for process in 0..16 {
+            for position in 0..=255 {
+                let sound = position <= end;
+                let answer = if sound { (0, 0) } else { (255, 12) };
+                assert_eq!(
+                    ask(process, position, None),
+                    answer,
+                    "{kind:?} {process} {position}"
+                );
+            }
+            let open = Some(open_item(2, name("B"), 0));
+            assert_eq!(ask(process, end, open), (255, 5));
+            assert_eq!(ask(process, end + 1, open), (255, 12));
+        }
+    }
+}
+
+#[test]
+fn a_search_goes_on_at_its_number_in_a_packed_book() {
+    for kind in Kind::ALL {
+        let image = book(
+            kind,
+            &[(3, file("A")), (9, file("B")), (20, file("C")), (21, file("D"))],
+            &[],
+            0,
+        );
+        let mut list = fresh_list(kind, 1, [0; 16]);
+        let mut fcb = Fcb::of(*b"???????????").0;
+        let mut search = |function: u32, list: &mut [u8], image: &mut [u8]| {
+            let mut dma = vec![0; 2_048];
+            let answer = reference::call(kind.number(), function, 5, 1, &mut fcb, &mut dma, list, image);
+            (answer, dma[32 * (answer as usize % 4) + 1])
+        };
+        let mut packed = vec![7; image.len()];
+        assert_eq!(pack(kind, &image, &list, &mut packed), (0, 0));
+        list[1_299 + 5] = 2;
+        assert_eq!(search(18, &mut list.clone(), &mut image.clone()), (3, b'A'));
+        assert_eq!(pack(kind, &image, &list, &mut vec![7; image.len()]), (0, 0));
+        assert_eq!(search(18, &mut list, &mut packed), (2, b'C'));
+        assert_eq!(list[1_299 + 5], 3);
+        assert_eq!(search(17, &mut list, &mut packed), (0, b'A'));
     }
 }
 
@@ -162,9 +223,15 @@ enum Wrong {
     ImageChanged,
     ListStarted,
     UnknownKindTaken,
+    PositionsUnread,
+    PositionsTo64,
+    PositionsTo128,
+    SearchesEnded,
+    SearchesRefused,
+    OldListTaken,
 }
 
-const ALL_WRONG: [Wrong; 26] = [
+const ALL_WRONG: [Wrong; 32] = [
     Wrong::BlocksByOldNumber,
     Wrong::HolesNumbered,
     Wrong::HolesClosed,
@@ -191,6 +258,12 @@ const ALL_WRONG: [Wrong; 26] = [
     Wrong::ImageChanged,
     Wrong::ListStarted,
     Wrong::UnknownKindTaken,
+    Wrong::PositionsUnread,
+    Wrong::PositionsTo64,
+    Wrong::PositionsTo128,
+    Wrong::SearchesEnded,
+    Wrong::SearchesRefused,
+    Wrong::OldListTaken,
 ];
 
 /// Packs entry by entry, with one fault or none; the book is sound.
@@ -352,13 +425,33 @@ impl Packer<'_> {
 
 /// Whether some item is an open that the packer minds.
 fn is_open(wrong: Option<Wrong>, list: &[u8]) -> bool {
-    let opens = list[19..].chunks(20).filter(|item| item[..2] == *b"OF");
+    let opens = list[19..1_299].chunks(20).filter(|item| item[..2] == *b"OF");
     let minds = |item: &[u8]| match wrong {
         Some(Wrong::OpensOfProcess0) => item[2] == 0,
         Some(Wrong::OpenUnlockedGoes) => item[14] != 1,
         _ => true,
     };
     opens.into_iter().any(minds)
+}
+
+/// The list as the packer takes it: positions that it takes for good put to rights, those it takes for bad spoiled.
+fn as_taken(wrong: Option<Wrong>, list: &[u8]) -> Vec<u8> {
+    let mut taken = list.to_vec();
+    if wrong == Some(Wrong::OldListTaken) && list.len() == 1_299 {
+        taken.resize(LIST, 0);
+    }
+    let Some(positions) = taken.get_mut(POSITIONS) else {
+        return taken;
+    };
+    for position in positions {
+        *position = match (wrong, *position) {
+            (Some(Wrong::PositionsUnread), _) => 0,
+            (Some(Wrong::PositionsTo64), 65..) => 255,
+            (Some(Wrong::PositionsTo128), ..=128) => 0,
+            (_, position) => position,
+        };
+    }
+    taken
 }
 
 fn wrong_pack(wrong: Option<Wrong>, kind: u32, image: &mut [u8], list: &mut [u8], packed: &mut [u8]) -> u32 {
@@ -375,12 +468,14 @@ fn wrong_pack(wrong: Option<Wrong>, kind: u32, image: &mut [u8], list: &mut [u8]
     };
     let image_is_bad = reference::check(kind.number(), image) != 0;
     let sound_list = |image: &mut [u8]| {
-        let (mut fcb, mut dma, mut copy) = (vec![0; 36], vec![0; 2_048], list.to_vec());
+        let (mut fcb, mut dma) = (vec![0; 36], vec![0; 2_048]);
+        let mut copy = as_taken(wrong, list);
         reference::call(kind.number(), 46, 0, 1, &mut fcb, &mut dma, &mut copy, image) == 0
     };
     let lengths = match wrong {
         Some(Wrong::LengthOfTheListFree) => packed.len() == image.len(),
         Some(Wrong::LongBufferTaken) => list.len() == LIST && packed.len() >= image.len(),
+        Some(Wrong::OldListTaken) => [LIST, 1_299].contains(&list.len()) && packed.len() == image.len(),
         _ => list.len() == LIST && packed.len() == image.len(),
     };
     if has(Wrong::ImageBeforeLengths) && image_is_bad {
@@ -404,6 +499,13 @@ fn wrong_pack(wrong: Option<Wrong>, kind: u32, image: &mut [u8], list: &mut [u8]
     if is_open(wrong, list) {
         return 255 + 256 * 5;
     }
+    if has(Wrong::SearchesRefused)
+        && list[POSITIONS]
+            .iter()
+            .any(|byte| usize::from(*byte) < kind.entries())
+    {
+        return 255 + 256 * 5;
+    }
     let long = image.len();
     let bytes = Packer { kind, image, wrong }.pack(&packed[..long]);
     packed[..long].copy_from_slice(&bytes);
@@ -412,6 +514,9 @@ fn wrong_pack(wrong: Option<Wrong>, kind: u32, image: &mut [u8], list: &mut [u8]
     }
     if has(Wrong::ListStarted) {
         list[3..].fill(0);
+    }
+    if has(Wrong::SearchesEnded) {
+        list[POSITIONS].fill(kind.entries() as u8);
     }
     0
 }
@@ -429,10 +534,15 @@ fn is_unseen(wrong: Option<Wrong>, case: &Case) -> bool {
     difference(case, &on_reference(case), &desk(wrong).serve(case)).is_none()
 }
 
-/// Numbers of one byte are right on a drive of the first kind.
+/// Numbers of one byte and positions to 64 are right on a drive of the first kind, positions to 128 on one of the
+/// second.
 fn all_wrong_on(kind: Kind) -> Vec<Wrong> {
-    let can_be = |wrong: &Wrong| kind == Kind::Second || *wrong != Wrong::NumbersOfOneByte;
-    ALL_WRONG.into_iter().filter(can_be).collect()
+    let right: &[Wrong] = match kind {
+        Kind::First => &[Wrong::NumbersOfOneByte, Wrong::PositionsTo64],
+        Kind::Second => &[Wrong::PositionsTo128],
+    };
+    let all = ALL_WRONG.into_iter();
+    all.filter(|wrong| !right.contains(wrong)).collect()
 }
 
 #[test]
@@ -488,6 +598,7 @@ fn the_watch_sees_a_reference_at_fault() {
         Wrong::PastTheCountCleared,
         Wrong::ImageChanged,
         Wrong::ListStarted,
+        Wrong::SearchesEnded,
     ];
     for wrong in by_the_whole {
         assert!(seen(wrong), "{wrong:?}");

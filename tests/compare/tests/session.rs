@@ -112,7 +112,8 @@ fn s0_to_s13() {
     assert_eq!(session.call(2, 19, 0, 1), OK, "S13");
     assert_eq!(item_at(&session.world.list, 0), [0; 20]);
     assert_eq!(item_at(&session.world.list, 1), [0; 20]);
-    assert!(session.world.list[19..].iter().all(|&byte| byte == 0));
+    assert_eq!(session.world.list[19..1299], [0; 1280]);
+    assert_eq!(session.world.list[1299..], [64; 16]);
     image[0] = 0xE5;
     assert_eq!(session.world.image, image);
     assert_eq!(session.call(2, 46, 0, 1), OK);

@@ -119,6 +119,19 @@ fn users_to_15() {
     assert_sound(with_byte(3, 15));
 }
 
+/// Of every process, of one that never calls too.
+#[test]
+fn positions_to_64() {
+    for process in 0..16 {
+        for byte in [65, 66, 127, 128, 129, 255] {
+            assert_broken(&[ListRule::Position], with_byte(1299 + process, byte));
+        }
+        for byte in [0, 1, 63, 64] {
+            assert_sound(with_byte(1299 + process, byte));
+        }
+    }
+}
+
 #[test]
 fn marks() {
     for mark in [

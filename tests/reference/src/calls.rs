@@ -1,11 +1,11 @@
-//! The fourteen calls. Each works on what was decoded and says what is to change;
-//! the buffers are written only after it has succeeded, or has done some of its records.
+//! The sixteen calls. Each works on what was decoded and says what is to change; the buffers are
+//! written only after it has succeeded, has done some of its records, or has searched in vain.
 
 use crate::answer::{code, extended, Answer, Refusal};
 use crate::drive::{extent_of, Drive, Fault, RECORD_LIMIT};
 use crate::kind::{Kind, RECORD};
 use crate::locks::{Lock, LockList, Mode, Open, LIST_LENGTH, PROCESSES};
-use crate::name::{File, Name, HIGH_BIT};
+use crate::name::{File, Name, Pattern, HIGH_BIT};
 use std::ops::Range;
 
 pub const FCB_LENGTH: usize = 36;
@@ -15,8 +15,12 @@ pub const MOST_RECORDS: u32 = 16;
 /// The functions that do their records one after another.
 pub const RUN_FUNCTIONS: [u32; 3] = [33, 34, 40];
 
-const FUNCTIONS: [u32; 14] = [15, 16, 19, 22, 23, 33, 34, 35, 40, 41, 42, 43, 46, 143];
+const FUNCTIONS: [u32; 16] = [15, 16, 17, 18, 19, 22, 23, 33, 34, 35, 40, 41, 42, 43, 46, 143];
 const WITHOUT_FCB: [u32; 2] = [46, 143];
+
+/// The FCB byte that says which extents a search admits: all where it is just "?".
+const EXTENT_BYTE: usize = 12;
+const ANY_EXTENT: u8 = b'?';
 
 /// The numbers of a call, as the host gives them.
 #[derive(Clone, Copy, Debug, PartialEq, Eq)]
@@ -56,9 +60,11 @@ struct Stop {
     done: u8,
 }
 
-/// What a call changes that succeeded or was stopped on its way; `kind` is for coverage only.
+/// What a call changes that no refusal applies to, or that was stopped on its way; `kind` is for
+/// coverage only.
 struct Effects {
     kind: &'static str,
+    answer: Answer,
     stop: Option<Stop>,
     fcb: Option<[u8; FCB_LENGTH]>,
     dma: Option<[u8; DMA_LENGTH]>,
@@ -88,6 +94,7 @@ impl Effects {
     fn none(kind: &'static str) -> Effects {
         Effects {
             kind,
+            answer: Answer::SUCCESS,
             stop: None,
             fcb: None,
             dma: None,
@@ -128,7 +135,7 @@ impl Effects {
     /// The answer, and which of the reasons or kinds of success it was.
     fn told(&self) -> (Answer, &'static str) {
         match &self.stop {
-            None => (Answer::SUCCESS, self.kind),
+            None => (self.answer, self.kind),
             Some(Stop { refusal, done }) => (refusal.answer.after(*done), refusal.why),
         }
     }
@@ -239,6 +246,8 @@ impl Scene<'_> {
         match function {
             15 => self.open(),
             16 => self.close(),
+            17 => self.search_first(),
+            18 => self.search_next(),
             19 => self.delete(),
             22 => self.make(),
             23 => self.rename(),
@@ -415,6 +424,52 @@ impl Scene<'_> {
             _ => "closed with locks",
         };
         Ok(Effects::of_list(kind, list))
+    }
+
+    fn search_first(&self) -> Outcome {
+        Ok(self.search_from(0))
+    }
+
+    fn search_next(&self) -> Outcome {
+        Ok(match self.list.has_search_under_way(self.process) {
+            true => self.search_from(self.list.position(self.process)),
+            false => self.no_match("no match, the search was at its end"),
+        })
+    }
+
+    /// Nothing but the directory as it stands, the FCB's pattern and the caller's user matters.
+    fn search_from(&self, from: usize) -> Effects {
+        let pattern = Pattern::read(std::array::from_fn(|i| self.fcb[1 + i]));
+        let any_extent = self.fcb[EXTENT_BYTE] == ANY_EXTENT;
+        let user = self.list.user(self.process);
+        let Some((slot, extent)) = self.drive.search(user, &pattern, any_extent, from) else {
+            return self.no_match("no match");
+        };
+        let (record, place) = self.drive.directory_record(slot);
+        let mut dma = self.dma;
+        dma[..RECORD].copy_from_slice(&self.image[record]);
+        let mut list = self.list.clone();
+        list.go_on_behind(self.process, slot);
+        let kind = match (any_extent, extent) {
+            (false, _) => "found, of extents 0",
+            (true, 0) => "found extent 0, of all",
+            (true, _) => "found a later extent, of all",
+        };
+        Effects {
+            answer: Answer::code(place),
+            dma: Some(dma),
+            ..Effects::of_list(kind, list)
+        }
+    }
+
+    /// No refusal: it sets the caller's position.
+    fn no_match(&self, kind: &'static str) -> Effects {
+        let mut list = self.list.clone();
+        list.end_search(self.process);
+        Effects {
+            answer: Answer::extended(0),
+            ..Effects::of_list(kind, list)
+        }
     }
 
     /// Another process's open stops Delete; the caller's own goes with the file.
@@ -680,10 +735,13 @@ impl Scene<'_> {
     }
 
     fn terminate(&self) -> Outcome {
+        let searching = self.list.has_search_under_way(self.process);
         let mut list = self.list.clone();
-        let kind = match list.terminate(self.process) {
-            0 => "nothing to take away",
-            _ => "items taken away",
+        let kind = match (list.terminate(self.process), searching) {
+            (0, false) => "nothing to take away",
+            (0, true) => "a search ended",
+            (_, false) => "items taken away",
+            (_, true) => "items taken away and a search ended",
         };
         Ok(Effects::of_list(kind, list))
     }

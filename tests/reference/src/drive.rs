@@ -1,13 +1,14 @@
 //! The image as a map of files. Bytes that the map does not speak of stay in the image untouched.
 
 use crate::kind::{Kind, ENTRY, RECORD, RECORDS_PER_EXTENT};
-use crate::name::{File, Name, HIGH_BIT, NAME_LENGTH};
+use crate::name::{File, Name, Pattern, HIGH_BIT, NAME_LENGTH};
 use std::collections::{BTreeMap, BTreeSet};
 
 pub const EMPTY: u8 = 0xE5;
 pub const RECORD_LIMIT: u32 = 262_144;
 
 pub const FIRST_DATA_BLOCK: usize = 2;
+const ENTRIES_PER_RECORD: usize = RECORD / ENTRY;
 const HIGHEST_USER: u8 = 15;
 const EX_LIMIT: u8 = 32;
 const MODULE_LIMIT: u8 = 64;
@@ -209,8 +210,18 @@ impl Drive {
         self.block_part(block).start + RECORD * place as usize
     }
 
+    /// The directory's record with this entry, and the entry's place there.
+    pub fn directory_record(&self, slot: usize) -> (std::ops::Range<usize>, u8) {
+        let at = RECORD * (slot / ENTRIES_PER_RECORD);
+        (at..at + RECORD, (slot % ENTRIES_PER_RECORD) as u8)
+    }
+
     pub fn map(&self, extent: &Extent) -> [u8; 16] {
         extent.map(self.kind)
+    }
+
+    pub fn kind(&self) -> Kind {
+        self.kind
     }
 
     pub fn has(&self, file: &File) -> bool {
@@ -253,6 +264,20 @@ impl Drive {
                 .map(move |(index, block)| (place(*index), *block))
         });
         blocks.collect()
+    }
+
+    /// The lowest entry from this one on of a file of the user that the pattern fits, and its
+    /// extent number: any, or extent 0 only.
+    pub fn search(&self, user: u8, pattern: &Pattern, any_extent: bool, from: usize) -> Option<(usize, u32)> {
+        let fitting = self
+            .files
+            .iter()
+            .filter(|(file, _)| file.user == user && pattern.matches(file.name));
+        fitting
+            .flat_map(|(_, extents)| extents)
+            .filter(|(number, extent)| (any_extent || **number == 0) && extent.slot >= from)
+            .map(|(number, extent)| (extent.slot, *number))
+            .min()
     }
 
     pub fn block(&self, file: &File, record: u32) -> Option<u16> {

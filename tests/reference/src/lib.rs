@@ -1,4 +1,4 @@
-//! A second, independent program for the rules of document 01.
+//! A second, independent program for the rules of documents 01 and 02.
 
 pub mod answer;
 pub mod calls;
@@ -30,8 +30,9 @@ pub fn start(
     users: &[u8],
     list: &mut [u8],
 ) -> u32 {
-    let fresh = LockList::fresh(capacity, open_limit, lock_limit, users);
-    let (Some(_), Some(fresh), LIST_LENGTH) = (Kind::told(kind), fresh, list.len()) else {
+    let fresh =
+        Kind::told(kind).and_then(|kind| LockList::fresh(kind, capacity, open_limit, lock_limit, users));
+    let (Some(fresh), LIST_LENGTH) = (fresh, list.len()) else {
         return Answer::extended(13).word();
     };
     list.copy_from_slice(&fresh.write());

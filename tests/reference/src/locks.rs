@@ -1,15 +1,18 @@
-//! The lock list as two maps: who has what open, and who holds which record.
+//! The lock list as two maps: who has what open, and who holds which record. Beside them stands
+//! where each process's search goes on.
 
 use crate::drive::{Drive, RECORD_LIMIT};
+use crate::kind::Kind;
 use crate::name::{File, Name, HIGH_BIT};
 use std::collections::{BTreeMap, BTreeSet};
 
-pub const LIST_LENGTH: usize = 1_299;
+pub const LIST_LENGTH: usize = POSITIONS + PROCESSES;
 pub const PROCESSES: usize = 16;
 
 const HEADER: usize = 19;
 const PLACES: usize = 64;
 const PLACE: usize = 20;
+const POSITIONS: usize = HEADER + PLACES * PLACE;
 const OPEN_MARK: [u8; 2] = [0x4F, 0x46];
 const LOCK_MARK: [u8; 2] = [0x4C, 0x52];
 const HIGHEST_USER: u8 = 15;
@@ -64,6 +67,10 @@ pub struct LockList {
     users: [u8; PROCESSES],
     opens: BTreeMap<(File, u8), Open>,
     locks: BTreeMap<(File, u32), Lock>,
+    /// The entry at which each process's search goes on.
+    positions: [usize; PROCESSES],
+    /// The position of a search that has come to its end.
+    end: usize,
 }
 
 fn limit(number: u32) -> Option<usize> {
@@ -71,7 +78,14 @@ fn limit(number: u32) -> Option<usize> {
 }
 
 impl LockList {
-    pub fn fresh(capacity: u32, open_limit: u32, lock_limit: u32, users: &[u8]) -> Option<LockList> {
+    /// What Start writes for a drive of this kind.
+    pub fn fresh(
+        kind: Kind,
+        capacity: u32,
+        open_limit: u32,
+        lock_limit: u32,
+        users: &[u8],
+    ) -> Option<LockList> {
         let users: [u8; PROCESSES] = users.try_into().ok()?;
         if users.iter().any(|&user| user > HIGHEST_USER) {
             return None;
@@ -83,6 +97,8 @@ impl LockList {
             users,
             opens: BTreeMap::new(),
             locks: BTreeMap::new(),
+            positions: [kind.entries(); PROCESSES],
+            end: kind.entries(),
         })
     }
 
@@ -92,10 +108,12 @@ impl LockList {
             return None;
         }
         let [capacity, open_limit, lock_limit] = [0, 1, 2].map(|at| u32::from(bytes[at]));
-        let mut list = LockList::fresh(capacity, open_limit, lock_limit, &bytes[3..HEADER])?;
-        for (place, item) in bytes[HEADER..].chunks_exact(PLACE).enumerate() {
+        let users = &bytes[3..HEADER];
+        let mut list = LockList::fresh(drive.kind(), capacity, open_limit, lock_limit, users)?;
+        for (place, item) in bytes[HEADER..POSITIONS].chunks_exact(PLACE).enumerate() {
             list.take_in(place, item)?;
         }
+        list.positions = std::array::from_fn(|process| usize::from(bytes[POSITIONS + process]));
         list.is_sound_beside(drive).then_some(list)
     }
 
@@ -133,7 +151,14 @@ impl LockList {
     }
 
     fn is_sound_beside(&self, drive: &Drive) -> bool {
-        self.keeps_limits() && self.opens_are_sound(drive) && self.locks_are_sound(drive)
+        self.keeps_limits()
+            && self.positions_are_sound()
+            && self.opens_are_sound(drive)
+            && self.locks_are_sound(drive)
+    }
+
+    fn positions_are_sound(&self) -> bool {
+        self.positions.iter().all(|&position| position <= self.end)
     }
 
     fn keeps_limits(&self) -> bool {
@@ -157,6 +182,23 @@ impl LockList {
 
     pub fn user(&self, process: u8) -> u8 {
         self.users[usize::from(process)]
+    }
+
+    /// The entry at which the process's search goes on.
+    pub fn position(&self, process: u8) -> usize {
+        self.positions[usize::from(process)]
+    }
+
+    pub fn has_search_under_way(&self, process: u8) -> bool {
+        self.position(process) < self.end
+    }
+
+    pub fn go_on_behind(&mut self, process: u8, slot: usize) {
+        self.positions[usize::from(process)] = slot + 1;
+    }
+
+    pub fn end_search(&mut self, process: u8) {
+        self.positions[usize::from(process)] = self.end;
     }
 
     pub fn open(&self, file: &File, process: u8) -> Option<Open> {
@@ -242,8 +284,9 @@ impl LockList {
         self.drop_locks(|locked, record, holder| locked == file && holder == process && run.contains(&record))
     }
 
-    /// Takes all of the process's items away; gives their number.
+    /// Takes all of the process's items away and ends its search; gives the number of the items.
     pub fn terminate(&mut self, process: u8) -> usize {
+        self.end_search(process);
         let opens = self.open_count(process);
         self.opens.retain(|(_, owner), _| *owner != process);
         opens + self.drop_locks(|_, _, holder| holder == process)
@@ -269,6 +312,9 @@ impl LockList {
         for (&(file, record), lock) in &self.locks {
             let item = item_bytes(LOCK_MARK, lock.process, file.name, Mode::Unlocked, record);
             put_item(&mut bytes, lock.place, &item);
+        }
+        for (byte, position) in bytes[POSITIONS..].iter_mut().zip(self.positions) {
+            *byte = position as u8;
         }
         bytes
     }

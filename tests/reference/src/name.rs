@@ -3,6 +3,7 @@ pub const HIGH_BIT: u8 = 0x80;
 
 const BLANK: u8 = 32;
 const LAST_PRINTABLE: u8 = 126;
+const ANY: u8 = b'?';
 
 /// A legal name, high bits clear.
 #[derive(Clone, Copy, Debug, PartialEq, Eq, PartialOrd, Ord)]
@@ -22,8 +23,27 @@ impl Name {
     }
 }
 
+/// What a search looks for: in each place of a name this byte, or any where there is none.
+#[derive(Clone, Copy, Debug, PartialEq, Eq)]
+pub struct Pattern([Option<u8>; NAME_LENGTH]);
+
+impl Pattern {
+    /// Any bytes are a pattern, an illegal name too; high bits take no part.
+    pub fn read(bytes: [u8; NAME_LENGTH]) -> Pattern {
+        let wanted = |byte: u8| Some(byte & !HIGH_BIT).filter(|low| *low != ANY);
+        Pattern(bytes.map(wanted))
+    }
+
+    pub fn matches(&self, name: Name) -> bool {
+        let places = self.0.iter().zip(name.0);
+        places
+            .into_iter()
+            .all(|(wanted, has)| wanted.is_none_or(|byte| byte == has))
+    }
+}
+
 fn is_legal(low: u8) -> bool {
-    (BLANK..=LAST_PRINTABLE).contains(&low) && low != b'?'
+    (BLANK..=LAST_PRINTABLE).contains(&low) && low != ANY
 }
 
 #[derive(Clone, Copy, Debug, PartialEq, Eq, PartialOrd, Ord)]

@@ -5,7 +5,7 @@ use super::books::some_book;
 use super::damaged::damage;
 use super::named::{blocks, Named};
 use super::{on_reference, Case, Outcome, What};
-use crate::build::{image_of, lock_item, open_item, put_entry, put_item, Entry};
+use crate::build::{image_of, lock_item, open_item, put_entry, put_item, Entry, LIST, POSITIONS};
 use crate::damage::break_list;
 use crate::faults::{
     block_numbers, extent_number, image_faults, items, list_faults, used_entries, Item, ListRule,
@@ -15,7 +15,6 @@ use reference::drive::EMPTY;
 use reference::kind::{Kind, ENTRY};
 use std::collections::BTreeSet;
 
-const LIST: usize = 1_299;
 const BAD_CALL: u32 = 255 + 256 * 13;
 const BAD_IMAGE: u32 = 255 + 256;
 const BAD_LIST: u32 = 255 + 256 * 12;
@@ -29,9 +28,9 @@ fn case(kind: u32, image: Vec<u8>, list: Vec<u8>, packed: Vec<u8>) -> Case {
     }
 }
 
-pub fn fresh_list(capacity: u32, users: [u8; 16]) -> Vec<u8> {
+pub fn fresh_list(kind: Kind, capacity: u32, users: [u8; 16]) -> Vec<u8> {
     let mut list = vec![0xAA; LIST];
-    let answer = reference::start(0, capacity, 64, 64, &users, &mut list);
+    let answer = reference::start(kind.number(), capacity, 64, 64, &users, &mut list);
     assert_eq!(answer, 0, "a fresh list");
     list
 }
@@ -50,21 +49,28 @@ pub fn some_case(kind: Kind, random: &mut Random) -> Case {
     if random.chance(2) {
         list = random.bytes(LIST);
     }
+    if random.chance(2) {
+        list.truncate(POSITIONS.start);
+    }
     let packed = vec![random.byte(); image.len()];
     case(kind.number(), image, list, packed)
 }
 
 pub fn packed_once(kind: Kind, image: &[u8]) -> Vec<u8> {
     let mut packed = vec![0; image.len()];
-    let answer = reference::pack(kind.number(), image, &fresh_list(1, [0; 16]), &mut packed);
+    let list = fresh_list(kind, 1, [0; 16]);
+    let answer = reference::pack(kind.number(), image, &list, &mut packed);
     assert_eq!(answer, 0, "a sound book");
     packed
 }
 
-/// Mostly a list that holds nothing; else with opens, broken, or both.
+/// Mostly a list that holds nothing; else with opens, broken, or both. Searches may be under way.
 fn some_list(kind: Kind, image: &[u8], random: &mut Random) -> Vec<u8> {
     let users = std::array::from_fn(|_| random.pick(&[0, 0, 1, 7, 15]));
-    let mut list = fresh_list(random.between(1, 64) as u32, users);
+    let mut list = fresh_list(kind, random.between(1, 64) as u32, users);
+    if random.chance(40) {
+        search(kind, &mut list, random);
+    }
     let (opens, broken) = match random.below(20) {
         0 => (random.between(1, 4), false),
         1 => (random.between(1, 4), true),
@@ -85,6 +91,13 @@ fn some_list(kind: Kind, image: &[u8], random: &mut Random) -> Vec<u8> {
         .into_iter()
         .find_map(|rule| break_list(rule, kind, &list, image, random));
     damaged.unwrap_or(list)
+}
+
+/// Positions of all sorts.
+fn search(kind: Kind, list: &mut [u8], random: &mut Random) {
+    for position in &mut list[POSITIONS] {
+        *position = random.below(kind.entries() + 1) as u8;
+    }
 }
 
 /// An open by a process that has none yet, of a file of its user, and perhaps a lock.
@@ -131,6 +144,7 @@ pub fn named(kind: Kind) -> Vec<Named> {
     all.books();
     all.ends();
     all.refused();
+    all.positions();
     all.named
 }
 
@@ -144,7 +158,7 @@ impl Packs {
 
     fn image(&mut self, title: &str, image: Vec<u8>) {
         let packed = vec![0xAA; image.len()];
-        let list = fresh_list(64, [0, 1, 2, 3, 4, 5, 6, 7, 8, 9, 10, 11, 12, 13, 14, 15]);
+        let list = fresh_list(self.kind, 64, std::array::from_fn(|process| process as u8));
         self.add(title, case(self.kind.number(), image, list, packed));
     }
 
@@ -255,7 +269,7 @@ impl Packs {
         let kind = self.kind;
         let good = self.entries(&[(3, self.with(file("A"), &[(0, 9)]))]);
         let bad = self.entries(&[(3, file("A").user(99))]);
-        let list = fresh_list(64, [0; 16]);
+        let list = fresh_list(kind, 64, [0; 16]);
         let name = crate::build::name("A");
         let mut open = list.clone();
         put_item(&mut open, 5, open_item(9, name, 0));
@@ -287,7 +301,7 @@ impl Packs {
                     self.add(&title, case(kind.number(), image.clone(), list.clone(), packed));
                 }
             }
-            for length in [0, LIST - 1, LIST + 1] {
+            for length in [0, POSITIONS.start, LIST - 1, LIST + 1] {
                 let mut other = list.clone();
                 other.resize(length, 0);
                 for image in [&good, &bad] {
@@ -313,9 +327,54 @@ impl Packs {
     }
 }
 
+// ---- Positions, by name ----
+
+impl Packs {
+    /// Every position that is an entry or the end is good, and stays; one above makes the list unsound, whosever it is.
+    fn positions(&mut self) {
+        let kind = self.kind;
+        let image = self.entries(&[(3, self.with(file("A"), &[(0, 9)])), (60, file("B"))]);
+        let damaged = self.entries(&[(3, file("A").user(99))]);
+        let fresh = fresh_list(kind, 64, [0; 16]);
+        let end = kind.entries() as u8;
+        let mut open = fresh.clone();
+        put_item(&mut open, 5, open_item(9, crate::build::name("A"), 1));
+        for position in [0, 1, 4, 60, 61, 63, 64, 65, 127, 128, 129, 0xE5, 0xFF] {
+            for process in [0, 9, 15] {
+                for (of, list) in [("nothing open", &fresh), ("a file open", &open)] {
+                    let mut list = list.clone();
+                    list[POSITIONS][process] = position;
+                    let title = format!("process {process} at {position}, {of}");
+                    let packed = vec![7; image.len()];
+                    self.add(&title, case(kind.number(), image.clone(), list, packed));
+                }
+            }
+        }
+        for process in 0..POSITIONS.len() {
+            let mut list = fresh.clone();
+            list[POSITIONS][process] = end + 1;
+            let of_both = [("a sound image", &image), ("a damaged image", &damaged)];
+            for (of, image) in of_both {
+                let title = format!("process {process} past the end, {of}");
+                let packed = vec![7; image.len()];
+                self.add(&title, case(kind.number(), image.clone(), list.clone(), packed));
+            }
+        }
+        let mut every = fresh;
+        for (process, position) in every[POSITIONS].iter_mut().enumerate() {
+            *position = end - 4 * process as u8;
+        }
+        let packed = vec![7; image.len()];
+        self.add(
+            "a search of every process",
+            case(kind.number(), image, every, packed),
+        );
+    }
+}
+
 // ---- What is wanted, and what was reached ----
 
-const REACHED: [&str; 30] = [
+const REACHED: [&str; 35] = [
     "255/13 for the list's length",
     "255/13 for a second buffer too short",
     "255/13 for a second buffer too long",
@@ -328,8 +387,11 @@ const REACHED: [&str; 30] = [
     "255/1 before 255/5",
     "255/12",
     "255/12 before 255/5",
+    "255/12 for a position alone",
+    "255/12 for a position before 255/5",
     "255/5",
     "255/5 with a lock",
+    "255/5 with a search under way",
     "0/0 of no file",
     "0/0 of a full directory",
     "0/0 of a full drive",
@@ -346,6 +408,8 @@ const REACHED: [&str; 30] = [
     "0/0 with byte 13 and later attributes",
     "0/0 with blocks past the count",
     "0/0 with a file without a block",
+    "0/0 with no search under way",
+    "0/0 with an entry moved past a search",
 ];
 
 pub fn wanted(kind: Kind) -> Vec<String> {
@@ -401,7 +465,12 @@ fn seen_of_refusal(kind: Kind, case: &Case, answer: u32) -> Vec<&'static str> {
                 None if kind.blocks_of(image.len()).is_some() => "255/1 for a damaged directory",
                 None => "255/1 for a length that no kind has",
             }];
-            if list[0] == 0 || list[0] > 64 {
+            let past_the_end = |list: &[u8]| {
+                list[POSITIONS]
+                    .iter()
+                    .any(|byte| usize::from(*byte) > kind.entries())
+            };
+            if list[0] == 0 || list[0] > 64 || past_the_end(list) {
                 seen.push("255/1 before 255/12");
             }
             if opens {
@@ -409,12 +478,37 @@ fn seen_of_refusal(kind: Kind, case: &Case, answer: u32) -> Vec<&'static str> {
             }
             seen
         }
-        BAD_LIST if list_is_bad(sound) && opens => vec!["255/12", "255/12 before 255/5"],
-        BAD_LIST if list_is_bad(sound) => vec!["255/12"],
-        IN_USE if items(list).iter().any(|(_, item)| item.is_lock()) => vec!["255/5", "255/5 with a lock"],
-        IN_USE => vec!["255/5"],
+        BAD_LIST if list_is_bad(sound) => seen_of_bad_list(kind, image, list, opens),
+        IN_USE => seen_of_open(kind, list),
         _ => vec!["another answer"],
     }
+}
+
+fn seen_of_bad_list(kind: Kind, image: &[u8], list: &[u8], opens: bool) -> Vec<&'static str> {
+    let by_position = list_faults(kind, list, image) == BTreeSet::from([ListRule::Position]);
+    match (by_position, opens) {
+        (true, true) => vec!["255/12", "255/12 for a position before 255/5"],
+        (true, false) => vec!["255/12", "255/12 for a position alone"],
+        (false, true) => vec!["255/12", "255/12 before 255/5"],
+        (false, false) => vec!["255/12"],
+    }
+}
+
+fn seen_of_open(kind: Kind, list: &[u8]) -> Vec<&'static str> {
+    let mut seen = vec!["255/5"];
+    if items(list).iter().any(|(_, item)| item.is_lock()) {
+        seen.push("255/5 with a lock");
+    }
+    if searches(kind, list).next().is_some() {
+        seen.push("255/5 with a search under way");
+    }
+    seen
+}
+
+/// The entries at which searches go on.
+fn searches<'a>(kind: Kind, list: &'a [u8]) -> impl Iterator<Item = usize> + 'a {
+    let positions = list[POSITIONS].iter().map(|byte| usize::from(*byte));
+    positions.filter(move |position| *position < kind.entries())
 }
 
 /// A used entry and its place.
@@ -430,7 +524,7 @@ fn is_same_file(one: &[u8], other: &[u8]) -> bool {
 }
 
 fn seen_of_packed(kind: Kind, case: &Case, outcome: &Outcome) -> Vec<&'static str> {
-    let (image, packed) = (&case.buffers[0], &outcome.buffers[2]);
+    let (image, list, packed) = (&case.buffers[0], &case.buffers[1], &outcome.buffers[2]);
     let (old, new) = (entries_of(kind, image), entries_of(kind, packed));
     let numbers = |entries: &[Used]| -> Vec<u16> {
         let all = entries.iter().flat_map(|(_, entry)| block_numbers(kind, entry));
@@ -439,6 +533,12 @@ fn seen_of_packed(kind: Kind, case: &Case, outcome: &Outcome) -> Vec<&'static st
     let (was, is) = (numbers(&old), numbers(&new));
     let used = was.len();
     let moved = old.iter().zip(&new).any(|((from, _), (to, _))| from != to);
+    let is_missed = |position: usize| {
+        let moves = old.iter().zip(&new).map(|((from, _), (to, _))| (*from, *to));
+        moves
+            .into_iter()
+            .any(|(from, to)| to < position && position <= from)
+    };
     let is_hole = |(_, entry): &Used| {
         let map = block_numbers(kind, entry);
         let last = map.iter().rposition(|number| *number != 0);
@@ -488,6 +588,14 @@ fn seen_of_packed(kind: Kind, case: &Case, outcome: &Outcome) -> Vec<&'static st
         (
             is.iter().any(|number| *number > 255),
             "0/0 with numbers of two bytes",
+        ),
+        (
+            searches(kind, list).next().is_none(),
+            "0/0 with no search under way",
+        ),
+        (
+            searches(kind, list).any(is_missed),
+            "0/0 with an entry moved past a search",
         ),
     ];
     tests

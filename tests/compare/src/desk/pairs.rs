@@ -1,5 +1,5 @@
-//! Two images of one book: pairs by chance and by name, what is wanted of them, what they have reached, and what watches
-//! over the reference.
+//! Two images of one book: pairs by chance and by name, what is wanted of them, what they have reached, and what
+//! watches over the reference.
 
 use super::books::{some_book, some_name};
 use super::damaged::damage;

@@ -1,13 +1,14 @@
 //! One running world: an image and a list, and calls upon them.
 #![allow(dead_code)]
 
-use compare::build::{empty_image, Fcb};
+use compare::build::{empty_image, Fcb, LIST};
+use compare::deed::Deed;
 use reference::calls::DMA_LENGTH;
 
 pub type Answer = (u32, u32);
 pub const OK: Answer = (0, 0);
 
-pub const KNOWN: [u32; 14] = [15, 16, 19, 22, 23, 33, 34, 35, 40, 41, 42, 43, 46, 143];
+pub const KNOWN: [u32; 16] = [15, 16, 17, 18, 19, 22, 23, 33, 34, 35, 40, 41, 42, 43, 46, 143];
 
 #[derive(Clone, PartialEq, Eq)]
 pub struct World {
@@ -45,18 +46,19 @@ impl World {
 
     /// On a drive of the second kind.
     pub fn large(image: Vec<u8>) -> World {
-        World {
-            kind: 1,
-            ..World::new(image)
-        }
+        World::of_kind(1, image, [64, 64, 64], [0; 16])
     }
 
     pub fn with_users(image: Vec<u8>, numbers: [u32; 3], users: [u8; 16]) -> World {
-        let mut list = vec![0xAA; 1299];
-        let answer = reference::start(0, numbers[0], numbers[1], numbers[2], &users, &mut list);
+        World::of_kind(0, image, numbers, users)
+    }
+
+    pub fn of_kind(kind: u32, image: Vec<u8>, numbers: [u32; 3], users: [u8; 16]) -> World {
+        let mut list = vec![0xAA; LIST];
+        let answer = reference::start(kind, numbers[0], numbers[1], numbers[2], &users, &mut list);
         assert_eq!(answer, 0);
         World {
-            kind: 0,
+            kind,
             image,
             list,
             fcb: Vec::new(),
@@ -79,7 +81,7 @@ impl World {
         }
     }
 
-    /// A call that must succeed.
+    /// A call that must succeed, and is no search.
     pub fn must(&mut self, process: u32, function: u32, fcb: Fcb) {
         assert_eq!(self.ask(process, function, fcb).go(), OK);
     }
@@ -132,7 +134,7 @@ impl Call<'_> {
         self
     }
 
-    /// Does the call. A refusal must leave all four buffers unchanged, unless records were done.
+    /// Does the call. A refusal must leave all four buffers unchanged.
     pub fn go(self) -> Answer {
         let Call {
             world,
@@ -156,8 +158,7 @@ impl Call<'_> {
             &mut world.image,
         );
         let answer = split(word);
-        let records_done = answer.1 / 16;
-        if answer != OK && records_done == 0 {
+        if Deed::of(function, count, word) == Deed::Refused {
             assert!(
                 *world == before,
                 "refusal {answer:?} of {function} changed a buffer"

@@ -38,4 +38,8 @@ routine-of-spec =
     -- returns-14
     (λ c. search keys depth 20 fits 50000)
     -- returns-15
+    (λ c. search keys depth 20 fits 50000)
+    -- returns-16
+    (λ c. search keys depth 20 fits 50000)
+    -- returns-17
     (λ c. search keys depth 20 fits 50000))

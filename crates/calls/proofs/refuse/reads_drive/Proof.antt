@@ -38,6 +38,10 @@ reads-drive-spec =
     (λ c. search needs)
     -- enum-told-14
     (λ c. search needs)
+    -- enum-told-15
+    (λ c. search needs)
+    -- enum-told-16
+    (λ c. search needs)
     -- returns
     (λ c. search refl)
     -- returns-2
@@ -65,4 +69,8 @@ reads-drive-spec =
     -- returns-13
     (λ c. search refl)
     -- returns-14
+    (λ c. search refl)
+    -- returns-15
+    (λ c. search refl)
+    -- returns-16
     (λ c. search refl))

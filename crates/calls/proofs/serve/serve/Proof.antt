@@ -21,49 +21,57 @@ serve-spec =
     (λ c κs. search needs)
     -- enum-told-3
     (λ c. search needs)
-    -- delete-file-requires
+    -- search-first-requires
     (λ c κs. search needs)
     -- enum-told-4
     (λ c. search needs)
-    -- make-file-requires
+    -- search-next-requires
     (λ c κs. search needs)
     -- enum-told-5
     (λ c. search needs)
-    -- rename-file-requires
+    -- delete-file-requires
     (λ c κs. search needs)
     -- enum-told-6
     (λ c. search needs)
-    -- read-random-requires
+    -- make-file-requires
     (λ c κs. search needs)
     -- enum-told-7
     (λ c. search needs)
-    -- write-random-requires
+    -- rename-file-requires
     (λ c κs. search needs)
     -- enum-told-8
     (λ c. search needs)
-    -- file-size-requires
+    -- read-random-requires
     (λ c κs. search needs)
     -- enum-told-9
     (λ c. search needs)
-    -- write-zero-fill-requires
+    -- write-random-requires
     (λ c κs. search needs)
     -- enum-told-10
     (λ c. search needs)
-    -- test-write-requires
+    -- file-size-requires
     (λ c κs. search needs)
     -- enum-told-11
     (λ c. search needs)
-    -- lock-records-requires
+    -- write-zero-fill-requires
     (λ c κs. search needs)
     -- enum-told-12
     (λ c. search needs)
-    -- unlock-records-requires
+    -- test-write-requires
     (λ c κs. search needs)
     -- enum-told-13
     (λ c. search needs)
-    -- free-space-requires
+    -- lock-records-requires
     (λ c κs. search needs)
     -- enum-told-14
+    (λ c. search needs)
+    -- unlock-records-requires
+    (λ c κs. search needs)
+    -- enum-told-15
+    (λ c. search needs)
+    -- free-space-requires
+    (λ c κs. search needs)
+    -- enum-told-16
     (λ c. search needs)
     -- terminate-requires
     (λ c κs. search needs)
@@ -176,7 +184,7 @@ serve-spec =
     -- same-length-44
     (λ c. search needs)
     -- returns-11
-    (λ c. search serve-run)
+    (λ c. search (serve-any, refl))
     -- same-length-45
     (λ c. search needs)
     -- same-length-46
@@ -186,7 +194,7 @@ serve-spec =
     -- same-length-48
     (λ c. search needs)
     -- returns-12
-    (λ c. search serve-run)
+    (λ c. search (serve-any, refl))
     -- same-length-49
     (λ c. search needs)
     -- same-length-50
@@ -196,7 +204,7 @@ serve-spec =
     -- same-length-52
     (λ c. search needs)
     -- returns-13
-    (λ c. search (serve-any, refl))
+    (λ c. search serve-run)
     -- same-length-53
     (λ c. search needs)
     -- same-length-54
@@ -206,4 +214,24 @@ serve-spec =
     -- same-length-56
     (λ c. search needs)
     -- returns-14
+    (λ c. search serve-run)
+    -- same-length-57
+    (λ c. search needs)
+    -- same-length-58
+    (λ c. search needs)
+    -- same-length-59
+    (λ c. search needs)
+    -- same-length-60
+    (λ c. search needs)
+    -- returns-15
+    (λ c. search (serve-any, refl))
+    -- same-length-61
+    (λ c. search needs)
+    -- same-length-62
+    (λ c. search needs)
+    -- same-length-63
+    (λ c. search needs)
+    -- same-length-64
+    (λ c. search needs)
+    -- returns-16
     (λ c. search (serve-any, refl)))

@@ -32,4 +32,8 @@ sound-list-spec =
     -- all-keep-requires
     (λ c κs. search needs)
     -- returns-6
+    (λ c. search (sound-after, and-first, and-then, answers))
+    -- all-positions-requires
+    (λ c κs. search needs)
+    -- returns-7
     (λ c. search (sound-after, and-first, and-then, answers)))

@@ -1,47 +1,18 @@
 -- `locklist::pack::pack` meets its contract.
-use Prim.Native.Nat.{_-_, _≤_}
-use Rattle.locklist.proofs.Packs.{Packed, packs}
+use Rattle.locklist.proofs.Packs.{packs}
 use Rattle.locklist.proofs.pack.pack.Statement.{statement}
 use Rattle.locklist.proofs.pack.pack.Tie as tie
-
-abbrev Inv-loop : tie.InvT-loop
-Inv-loop list₀ l i₀ list i = (i ≤ 64) × Packed l list i
-
-abbrev μ-loop : tie.MeasureT-loop
-μ-loop list₀ l i₀ list i = 64 - i
 
 pub pack-spec : {M : Type 1} → statement M
 pack-spec =
     tie.close
-    (tie.spec Inv-loop μ-loop
-    -- head-bytes-requires
+    (tie.spec
+    -- pack-places-requires
     (λ c κs. search packs)
     -- slice-aggregate-put-bytes
     (λ c. search packs)
     -- put-bytes-requires
     (λ c κs. search packs)
-    -- loop-holds
-    (λ c. search packs)
-    -- mul-it
-    (λ c. search packs)
-    -- element-copy-out-it
-    (λ c. search packs)
-    -- item-bytes-requires
-    (λ c κs. search packs)
-    -- mul-put-bytes
-    (λ c. search packs)
-    -- add-put-bytes
-    (λ c. search packs)
-    -- slice-aggregate-put-bytes-2
-    (λ c. search packs)
-    -- put-bytes-requires-2
-    (λ c κs. search packs)
-    -- add-i
-    (λ c. search packs)
-    -- loop-less
-    (λ c. search packs)
-    -- loop-again
-    (λ c. search packs)
     -- same-length
     (λ c. search packs)
     -- returns

@@ -1,5 +1,6 @@
 -- `locklist::start::begin` meets its contract.
 use borrow.Author.Needs.{needs}
+use Rattle.rules.proofs.Sizes.{entries-cast}
 use Rattle.locklist.proofs.Starts.{fresh-packed}
 use Rattle.locklist.proofs.start.begin.Statement.{statement}
 use Rattle.locklist.proofs.start.begin.Tie as tie
@@ -8,8 +9,12 @@ pub begin-spec : {M : Type 1} → statement M
 begin-spec =
     tie.close
     (tie.spec
-    -- users-from-requires
+    -- sixteen-from-requires
     (λ c κs. search needs)
+    -- entries-requires
+    (λ c κs. search needs)
+    -- cast-none
+    (λ c. search (needs, entries-cast))
     -- cast-t8
     (λ c. search needs)
     -- cast-t9

@@ -14,7 +14,9 @@ pub unpack-spec : {M : Type 1} → statement M
 unpack-spec =
     tie.close
     (tie.spec Inv-loop μ-loop
-    -- users-from-requires
+    -- sixteen-from-requires
+    (λ c κs. search placing)
+    -- sixteen-from-requires-2
     (λ c κs. search placing)
     -- shared-slice-read-t8
     (λ c. search placing)

@@ -36,6 +36,6 @@ free-place-spec =
     -- loop-less
     (λ c. search frees)
     -- loop-again
-    (λ c. search frees)
+    (λ c. (search frees, (search frees, search frees)))
     -- returns-3
     (λ c. search frees))

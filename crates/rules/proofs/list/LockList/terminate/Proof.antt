@@ -1,6 +1,6 @@
 -- `rules::list::LockList::terminate` meets its contract.
 use Prim.Native.Nat.{_-_, _≤_}
-use Rattle.rules.specs.Effects.{unlessBy, terminated}
+use Rattle.rules.specs.Effects.{unlessBy, withoutBy}
 use Rattle.rules.proofs.Lists.{Gone, gones}
 use Rattle.rules.proofs.list.LockList.terminate.Statement.{statement}
 use Rattle.rules.proofs.list.LockList.terminate.Tie as tie
@@ -12,7 +12,7 @@ abbrev μ-loop : tie.MeasureT-loop
 μ-loop p self₀ i₀ self i = 64 - i
 
 pub terminate-spec : {M : Type 1} → statement M
-unfolding terminated
+unfolding withoutBy
 terminate-spec =
     tie.close
     (tie.spec Inv-loop μ-loop

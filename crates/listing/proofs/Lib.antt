@@ -1,0 +1,3 @@
+-- The proofs of `listing`.
+pub mod Searches
+pub mod Shown

@@ -1,0 +1,2 @@
+-- The proofs of `searching`.
+pub mod Finding

@@ -1,0 +1,45 @@
+-- `searching::search::search_next` meets its contract.
+use borrow.Author.Needs.{needs}
+use Rattle.searching.proofs.Finding.{next-called}
+use Rattle.searching.proofs.search.search_next.Statement.{statement}
+use Rattle.searching.proofs.search.search_next.Tie as tie
+use Rattle.searching.proofs.search.search_next.Reads as reads
+use Rattle.searching.proofs.search.search_next.Lts as lts
+use Rattle.locklist.proofs.pack.pack.Reads as pack-reads
+use Rattle.rules.proofs.list.LockList.move_to.Reads as move-to-reads
+use Rattle.rules.proofs.list.LockList.position_of.Reads as position-of-reads
+use Rattle.rules.proofs.list.LockList.user_of.Reads as user-of-reads
+use Rattle.searching.proofs.pattern.match_from.Reads as match-from-reads
+use Rattle.searching.proofs.search.next_after.Reads as next-after-reads
+use Rattle.searching.proofs.search.place_told.Reads as place-told-reads
+use Rattle.searching.proofs.search.show.Reads as show-reads
+
+pub search-next-spec : {M : Type 1} → statement M
+search-next-spec =
+    tie.close
+    (tie.spec
+    -- position-of-requires
+    (λ c κs. search needs)
+    -- cast-from
+    (λ c. search needs)
+    -- user-of-requires
+    (λ c κs. search needs)
+    -- match-from-requires
+    (λ c κs. search needs)
+    -- show-requires
+    (λ c κs. search needs)
+    -- next-after-requires
+    (λ c κs. search needs)
+    -- move-to-requires
+    (λ c κs. search needs)
+    -- pack-requires
+    (λ c κs. search needs)
+    -- place-told-requires
+    (λ c κs. search needs)
+    -- same-length
+    (λ c. search needs)
+    -- same-length-2
+    (λ c. search needs)
+    -- returns
+    (λ c. next-called _ _ 1 _ _ _ _ _ _ _ _ _ (c .before .before .before .before .before .before .before .before .before .before .before .before .before .before .before .before .before .before .pre .0) (c .before .before .before .before .before .before .before .before .before .before .before .before .user-of .ensures) (c .before .before .before .before .before .before .next-after .ensures)
+    (c .before .before .before .before .before .before .before .before .before .show .ensures) (c .before .before .before .before .before .move-to .ensures) (c .before .before .before .pack .ensures) (c .place-told .ensures) _ (c .before .before .before .before .before .before .before .before .before .before .before .before .before .position-of .ensures) (c .before .before .before .before .before .before .before .before .before .before .before .match-from .ensures .0)))

@@ -1,0 +1,3 @@
+// 17 Search First, 18 Search Next.
+mod pattern;
+pub mod search;
