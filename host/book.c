@@ -306,7 +306,7 @@ static uint32_t start_book(struct mpm_book *book, const struct image *image, uin
 }
 
 static void say_records(uint32_t records) {
-    printf("%u records, %u bytes", (unsigned)records, (unsigned)(MPM_RECORD_LEN * records));
+    printf("%u record%s, %u bytes", (unsigned)records, records == 1 ? "" : "s", (unsigned)(MPM_RECORD_LEN * records));
 }
 
 static int say_size(const struct image *image, const char *word) {

@@ -27,6 +27,10 @@ SMALL = Kind(1024, 64, 64, 1)
 LARGE = Kind(2048, 300, 128, 2)
 
 
+def size_told(records):
+    return f"{records} record{'' if records == 1 else 's'}, {128 * records} bytes"
+
+
 def eleven(text):
     name, _, kind = text.partition(".")
     return (name.ljust(8) + kind.ljust(3)).encode()
@@ -179,7 +183,7 @@ def sizes(desk, kind):
     path = desk.keep(image.bytes)
 
     def line(file, user, records):
-        return f"{path}: {file} of user {user}: {records} records, {128 * records} bytes"
+        return f"{path}: {file} of user {user}: {size_told(records)}"
 
     known = {
         "3:BUDGET.DAT": line("BUDGET.DAT", 3, 128 * 33 + 7),
@@ -221,7 +225,7 @@ def lists(desk, kind):
     path = desk.keep(image.bytes)
 
     def line(file, user, records, *attributes):
-        told = [f"{path}: {file} of user {user}: {records} records", f"{128 * records} bytes", *attributes]
+        told = [f"{path}: {file} of user {user}: {size_told(records)}", *attributes]
         return ", ".join(told)
 
     of_users = {
@@ -250,7 +254,7 @@ def lists(desk, kind):
     full_path = desk.keep(full.bytes)
     desk.says(
         ["list", full_path, "1"],
-        [f"{full_path}: {names[at]} of user 1: {at} records, {128 * at} bytes" for at in range(1, kind.entries, 2)],
+        [f"{full_path}: {names[at]} of user 1: {size_told(at)}" for at in range(1, kind.entries, 2)],
         DONE,
     )
     bad = desk.keep(Image(kind).poke(9, 15, 129).bytes)

@@ -176,7 +176,9 @@ same_names() { # FORMAT IMAGE
 }
 
 desk_tells_size() { # IMAGE USER NAME RECORDS
-    expect "the desk's program on $3 of $1" "$1: $3 of user $2: $4 records, $((128 * $4)) bytes" \
+    local s
+    if [ "$4" -eq 1 ]; then s=; else s=s; fi
+    expect "the desk's program on $3 of $1" "$1: $3 of user $2: $4 record$s, $((128 * $4)) bytes" \
         "$(bash "$root/machine/run.sh" "$work/desk" size "$1" "$2:$3")"
 }
 

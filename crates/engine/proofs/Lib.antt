@@ -1,4 +1,3 @@
 -- The proofs of `engine`.
-pub mod Each
 pub mod One
 pub mod Told

@@ -1,6 +1,4 @@
-// The functions that a C host calls, each told the kind of drive by a number; the plain engine.
-mod singly;
-
+// The functions that a C host calls, each told the kind of drive by a number.
 use calls::answer::answer;
 use drive::check::image_check;
 use drive::look::look_at;
@@ -14,7 +12,7 @@ use rules::kind::Told;
 use rules::kind::told_kind;
 use salvage::mend::WRONG_LENGTH;
 use salvage::mend::repair_image;
-use singly::answer_singly;
+use singles::singly::answer_singly;
 ghost use mathlib.Core.Path.{_≡_};
 ghost use Rattle.rules.specs.Kinds.{toldKind};
 ghost use Rattle.rules.specs.Serves.{Did, buffers};

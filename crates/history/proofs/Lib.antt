@@ -1,4 +1,4 @@
--- Demands 1 to 3 hold of every engine that serves as the rules do, and the wrong engines fall. Assumes nothing.
+-- Demands 1 to 3 hold of every engine that serves as the rules do. Assumes nothing.
 pub mod Opened
 pub mod Tried
 pub mod Start
@@ -34,5 +34,3 @@ pub mod Unlocks
 pub mod Sizing
 pub mod Sized
 pub mod Histories
-pub mod Wrong
-pub mod Claims

@@ -3,7 +3,5 @@ pub mod Deeds
 pub mod Held
 pub mod Groups
 pub mod Demands
-pub mod Wrong
 pub mod Unlocks
 pub mod Sizing
-pub mod Claims

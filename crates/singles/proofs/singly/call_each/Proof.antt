@@ -1,13 +1,13 @@
--- `engine::singly::call_each` meets its contract.
+-- `singles::singly::call_each` meets its contract.
 use Prim.Native.Nat.{_+_, _-_, _≤_, _<_}
 use mathlib.Core.Path.{_≡_}
 use lib.ListN.{length}
 use borrow.Author.Needs.{needs}
 use Rattle.rules.specs.Serves.{buffers}
 use Rattle.rules.specs.Several.{run, several}
-use Rattle.engine.proofs.Each.{each-none, each-more, each-number, each-stops, each-ends}
-use Rattle.engine.proofs.singly.call_each.Statement.{statement}
-use Rattle.engine.proofs.singly.call_each.Tie as tie
+use Rattle.singles.proofs.Each.{each-none, each-more, each-number, each-stops, each-ends}
+use Rattle.singles.proofs.singly.call_each.Statement.{statement}
+use Rattle.singles.proofs.singly.call_each.Tie as tie
 
 abbrev Inv-loop : tie.InvT-loop
 Inv-loop kind function process count fcb dma₀ list₀ image₀ r i₀ dma list image i = (i ≤ count)

@@ -19,13 +19,13 @@ use Rattle.rules.specs.Several.{callRun}
 use Rattle.session.specs.Open.{rules}
 use Rattle.session.specs.Session.{AsListed, session, orders, fcbWith, dmaWith, firstImage, firstList, list0, list3, image0, image2, image5}
 use Rattle.session.proofs.Session.{the-session}
 use Rattle.history.specs.History.{Ask, Engine, Event, Begun, state, isPossible, arePossible, outcomeOf, event, eventsOf, after, historyOf, outcomeAfter}
 use Rattle.history.specs.Deeds.{tells, deed}
 use Rattle.history.specs.Held.{sameItem}
 use Rattle.history.specs.Groups.{Group, groupsBelow, groupsOf, countedAfter}
 use Rattle.history.specs.Demands.{Demand2, Demand3, itemsOf, groupsBy, isItemAt, figureIn}
-use Rattle.history.specs.Wrong.{refusing, accepting, unstored, idle, pretending, butAfter, figured, madeUp, unbitted, unlimited, lavish, promoted, isWriting, promoting}
+use Rattle.claims.specs.Wrong.{refusing, accepting, unstored, idle, pretending, butAfter, figured, madeUp, unbitted, unlimited, lavish, promoted, isWriting, promoting}
 use Rattle.history.proofs.Opened.{history, listed}
 
 -- ---- the session's beginning, and calls of it
 

@@ -1,8 +1,8 @@
--- `engine::singly::fcb_at` meets its contract.
+-- `singles::singly::fcb_at` meets its contract.
 use borrow.Author.Needs.{needs}
-use Rattle.engine.proofs.Each.{fcb-made}
-use Rattle.engine.proofs.singly.fcb_at.Statement.{statement}
-use Rattle.engine.proofs.singly.fcb_at.Tie as tie
+use Rattle.singles.proofs.Each.{fcb-made}
+use Rattle.singles.proofs.singly.fcb_at.Statement.{statement}
+use Rattle.singles.proofs.singly.fcb_at.Tie as tie
 
 pub fcb-at-spec : {M : Type 1} → statement M
 fcb-at-spec =

@@ -1,9 +1,9 @@
--- `engine::singly::three_of` meets its contract.
+-- `singles::singly::three_of` meets its contract.
 use mathlib.Core.Path.{refl}
 use borrow.Author.Needs.{needs}
 use Rattle.rules.specs.Several.{threeOf}
-use Rattle.engine.proofs.singly.three_of.Statement.{statement}
-use Rattle.engine.proofs.singly.three_of.Tie as tie
+use Rattle.singles.proofs.singly.three_of.Statement.{statement}
+use Rattle.singles.proofs.singly.three_of.Tie as tie
 
 pub three-of-spec : {M : Type 1} → statement M
 unfolding threeOf

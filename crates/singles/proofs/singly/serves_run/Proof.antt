@@ -1,8 +1,8 @@
--- `engine::singly::serves_run` meets its contract.
+-- `singles::singly::serves_run` meets its contract.
 use Rattle.words.proofs.Sets.{choices}
 use Rattle.rules.specs.Several.{servesRun}
-use Rattle.engine.proofs.singly.serves_run.Statement.{statement}
-use Rattle.engine.proofs.singly.serves_run.Tie as tie
+use Rattle.singles.proofs.singly.serves_run.Statement.{statement}
+use Rattle.singles.proofs.singly.serves_run.Tie as tie
 
 pub serves-run-spec : {M : Type 1} → statement M
 unfolding servesRun

@@ -38,11 +38,11 @@ use Rattle.repair.specs.Mends.{Mends}
 use Rattle.packing.specs.Packed.{packed}
 use Rattle.packing.specs.Packs.{rowsPack, packs, packTold}
 use Rattle.packing.specs.Same.{SameBook, sameTold}
 use Rattle.history.specs.History.{Ask, State, Engine, isWord, EachCall, lent, outcomeOf, withCount}
 use Rattle.history.specs.Demands.{Demand1, Demand2, Demand3}
 use Rattle.history.specs.Unlocks.{UnlockOrder}
 use Rattle.history.specs.Sizing.{NobodyTurnedAway}
-use Rattle.history.specs.Wrong.{refusing, accepting, idle, pretending, madeUp, unbitted, lavish, promoting}
+use Rattle.claims.specs.Wrong.{refusing, accepting, idle, pretending, madeUp, unbitted, lavish, promoting}
 
 -- ---- Of an engine on drives of one kind
 

@@ -24,7 +24,7 @@ use Rattle.rules.proofs.Ends.{did-as, did-left, did-none}
 use Rattle.rules.proofs.Singles.{runs-plain, run-chosen, done-within}
 use Rattle.rules.proofs.Several.{codeAt, several-none, several-more, several-stops, several-stays, singly-plain, singly-refused, singly-told}
 use Rattle.calls.specs.Calls.{callBy}
-use Rattle.engine.specs.Single.{DidSingle}
+use Rattle.singles.specs.Single.{DidSingle}
 use Rattle.rules.specs.declared.kind.Kind.{Kind}
 use Rattle.rules.proofs.Sizes.{top-fits}
 

@@ -1,9 +1,9 @@
--- `engine::singly::answer_singly` meets its contract.
+-- `singles::singly::answer_singly` meets its contract.
 use borrow.Author.Needs.{needs}
 use Rattle.words.proofs.Sets.{not-yes}
-use Rattle.engine.proofs.Each.{singly-other, singly-stopped, singly-went, goes-each}
-use Rattle.engine.proofs.singly.answer_singly.Statement.{statement}
-use Rattle.engine.proofs.singly.answer_singly.Tie as tie
+use Rattle.singles.proofs.Each.{singly-other, singly-stopped, singly-went, goes-each}
+use Rattle.singles.proofs.singly.answer_singly.Statement.{statement}
+use Rattle.singles.proofs.singly.answer_singly.Tie as tie
 
 pub answer-singly-spec : {M : Type 1} → statement M
 answer-singly-spec =

@@ -1,8 +1,8 @@
--- `engine::singly::dma_at` meets its contract.
+-- `singles::singly::dma_at` meets its contract.
 use borrow.Author.Needs.{needs}
-use Rattle.engine.proofs.Each.{dma-made}
-use Rattle.engine.proofs.singly.dma_at.Statement.{statement}
-use Rattle.engine.proofs.singly.dma_at.Tie as tie
+use Rattle.singles.proofs.Each.{dma-made}
+use Rattle.singles.proofs.singly.dma_at.Statement.{statement}
+use Rattle.singles.proofs.singly.dma_at.Tie as tie
 
 pub dma-at-spec : {M : Type 1} → statement M
 dma-at-spec =

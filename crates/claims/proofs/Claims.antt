@@ -52,16 +52,16 @@ use Rattle.packing.specs.Same.{sameTold}
 use Rattle.packing.proofs.Decides.{same-sym}
 use Rattle.packing.proofs.Accepted.{same-refl, same-then, accepted-so, accepted-of, first-unsound, second-unsound, different, packed-accepted, accepted-packed}
 use Rattle.repair.proofs.Outcome.{refused-nothing, good-answered, salvaged-twice}
 use Rattle.history.specs.History.{Ask, State, Engine, isWord, isPossible, isKept, lent, outcomeOf, withCount}
 use Rattle.history.specs.Deeds.{doneIn}
 use Rattle.history.specs.Demands.{NoTrace, Demand1, Demand2}
-use Rattle.history.specs.Claims.{Claims, KeepsContract, Refuses, ToldClaims, TheSession, LookClaims, CheckClaims, SizeClaims, SalvageClaims, PackClaims, SameClaims, AllClaims}
+use Rattle.claims.specs.Claims.{Claims, KeepsContract, Refuses, ToldClaims, TheSession, LookClaims, CheckClaims, SizeClaims, SalvageClaims, PackClaims, SameClaims, AllClaims}
 use Rattle.history.proofs.First.{leaves-no-trace, counted-possible, fewer-possible}
 use Rattle.history.proofs.Alike.{meets-third}
 use Rattle.history.proofs.Unlocks.{unlock-order}
 use Rattle.history.proofs.Sizing.{nobody-turned-away}
 use Rattle.history.proofs.Sized.{size-most, size-told, run-kept}
-use Rattle.history.proofs.Wrong.{refusing-differs, accepting-differs, idle-differs, not-idle, not-pretending, made-up-differs, not-made-up, not-unbitted, not-lavish, not-promoting}
+use Rattle.claims.proofs.Wrong.{refusing-differs, accepting-differs, idle-differs, not-idle, not-pretending, made-up-differs, not-made-up, not-unbitted, not-lavish, not-promoting}
 
 -- ---- of an engine that serves as the rules do
 

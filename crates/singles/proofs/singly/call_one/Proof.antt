@@ -1,8 +1,8 @@
--- `engine::singly::call_one` meets its contract.
+-- `singles::singly::call_one` meets its contract.
 use borrow.Author.Needs.{needs}
-use Rattle.engine.proofs.Each.{one-refused, one-done}
-use Rattle.engine.proofs.singly.call_one.Statement.{statement}
-use Rattle.engine.proofs.singly.call_one.Tie as tie
+use Rattle.singles.proofs.Each.{one-refused, one-done}
+use Rattle.singles.proofs.singly.call_one.Statement.{statement}
+use Rattle.singles.proofs.singly.call_one.Tie as tie
 
 pub call-one-spec : {M : Type 1} → statement M
 call-one-spec =

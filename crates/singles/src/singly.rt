@@ -10,7 +10,7 @@ ghost use lib.ListN.{length};
 ghost use Rattle.rules.specs.Serves.{Did, buffers};
 ghost use Rattle.rules.specs.Asks.{recordOf};
 ghost use Rattle.rules.specs.Several.{servesRun, threeOf, fcbAt, dmaAt, several, singly, callSingly};
-ghost use Rattle.engine.specs.Single.{DidSingle};
+ghost use Rattle.singles.specs.Single.{DidSingle};
 
 // Count serves 33, 34 and 40 too.
 fn serves_run(function: u32) -> bool

@@ -1,0 +1,3 @@
+-- All that is claimed holds, and the wrong engines fall. Assumes nothing.
+pub mod Wrong
+pub mod Claims

@@ -1,0 +1,2 @@
+-- The proofs of `singles`.
+pub mod Each

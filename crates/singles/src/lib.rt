@@ -1,0 +1,2 @@
+// The plain engine: single calls one after another.
+pub mod singly;
