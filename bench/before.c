@@ -3,12 +3,13 @@
    the number in the archive's own mpm.h, are given when it is compiled.
    Until version 2 there was one kind of drive, and nobody was told which. 4 has other names in its header, no more;
    with 5 the check of an unsound image tells an entry. Until 5 the list ended before the positions of searches, so an
-   engine of those versions is lent what is before them; it has no searches. */
+   engine of those versions is lent what is before them; it has no searches. Until 6 there was no allocation vector: an
+   engine of those versions leaves it as it was. */
 #include <stddef.h>
 #include <stdint.h>
 
-#if VERSION < 2 || VERSION > 6
-#error "only engines of the versions 2 to 6 can be called"
+#if VERSION < 2 || VERSION > 7
+#error "only engines of the versions 2 to 7 can be called"
 #endif
 
 enum { LIST_LEN = 1315, POSITIONS = 1299 };
@@ -28,11 +29,21 @@ enum { KINDS = 2 };
 #define KIND kind,
 #endif
 
+#if VERSION < 7
+enum { KEEPS_VECTORS = 0 };
+#define VECTOR_TYPE
+#define VECTOR
+#else
+enum { KEEPS_VECTORS = 1 };
+#define VECTOR_TYPE , uint8_t *, size_t
+#define VECTOR , vector, vector_len
+#endif
+
 typedef uint32_t own_call(KIND_TYPE uint32_t, uint32_t, uint32_t, uint8_t *, size_t, uint8_t *, size_t, uint8_t *,
-                          size_t, uint8_t *, size_t);
+                          size_t, uint8_t *, size_t VECTOR_TYPE);
 typedef uint32_t own_check(KIND_TYPE const uint8_t *, size_t);
 typedef uint32_t outer_call(uint32_t, uint32_t, uint32_t, uint32_t, uint8_t *, size_t, uint8_t *, size_t, uint8_t *,
-                            size_t, uint8_t *, size_t);
+                            size_t, uint8_t *, size_t, uint8_t *, size_t);
 typedef uint32_t outer_check(uint32_t, const uint8_t *, size_t);
 
 extern own_call OWN(call), OWN(singly);
@@ -40,9 +51,13 @@ extern own_check OWN(check);
 extern outer_call OUTER(call), OUTER(singly);
 extern outer_check OUTER(check);
 uint32_t OUTER(kinds)(void);
+uint32_t OUTER(keeps_vectors)(void);
 
 /* How many kinds of drive the engine knows. It is asked for no other. */
 uint32_t OUTER(kinds)(void) { return KINDS; }
+
+/* Whether it takes a vector and keeps it. */
+uint32_t OUTER(keeps_vectors)(void) { return KEEPS_VECTORS; }
 
 /* The length of the list that the engine is lent. */
 static size_t own_list_len(size_t list_len) {
@@ -51,18 +66,19 @@ static size_t own_list_len(size_t list_len) {
 }
 
 uint32_t OUTER(call)(uint32_t kind, uint32_t function, uint32_t process, uint32_t count, uint8_t *fcb, size_t fcb_len,
-                     uint8_t *dma, size_t dma_len, uint8_t *list, size_t list_len, uint8_t *image, size_t image_len) {
-    (void)kind;
+                     uint8_t *dma, size_t dma_len, uint8_t *list, size_t list_len, uint8_t *image, size_t image_len,
+                     uint8_t *vector, size_t vector_len) {
+    (void)kind, (void)vector, (void)vector_len;
     return OWN(call)(KIND function, process, count, fcb, fcb_len, dma, dma_len, list, own_list_len(list_len), image,
-                     image_len);
+                     image_len VECTOR);
 }
 
 uint32_t OUTER(singly)(uint32_t kind, uint32_t function, uint32_t process, uint32_t count, uint8_t *fcb,
                        size_t fcb_len, uint8_t *dma, size_t dma_len, uint8_t *list, size_t list_len, uint8_t *image,
-                       size_t image_len) {
-    (void)kind;
+                       size_t image_len, uint8_t *vector, size_t vector_len) {
+    (void)kind, (void)vector, (void)vector_len;
     return OWN(singly)(KIND function, process, count, fcb, fcb_len, dma, dma_len, list, own_list_len(list_len), image,
-                       image_len);
+                       image_len VECTOR);
 }
 
 uint32_t OUTER(check)(uint32_t kind, const uint8_t *image, size_t image_len) {

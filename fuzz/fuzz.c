@@ -14,7 +14,7 @@
 
 typedef uint32_t engine(uint32_t kind, uint32_t function, uint32_t process, uint32_t count, uint8_t *fcb,
                         size_t fcb_len, uint8_t *dma, size_t dma_len, uint8_t *list, size_t list_len, uint8_t *image,
-                        size_t image_len);
+                        size_t image_len, uint8_t *vector, size_t vector_len);
 
 struct buffer {
     uint8_t *memory; /* where the length is 0, one byte, and `bytes` is its end: AddressSanitizer sees every access */
@@ -32,7 +32,7 @@ struct call {
 
 /* ---- What the rules allow ---- */
 
-enum { ANSWERS = 16, CHANGES = 4, AFTER_SOME = 1 << 16 };
+enum { ANSWERS = 17, CHANGES = 4, AFTER_SOME = 1 << 16 };
 enum { DIRECTORY_END = 1 << 30 }; /* stands for the end of the directory, which depends on the kind */
 
 struct rule {
@@ -44,7 +44,7 @@ struct rule {
     } changes[CHANGES];
 };
 
-#define NO_FCB MPM_OK, MPM_ERR_BAD_CALL, MPM_ERR_BAD_IMAGE, MPM_ERR_BAD_LIST
+#define NO_FCB MPM_OK, MPM_ERR_BAD_CALL, MPM_ERR_BAD_IMAGE, MPM_ERR_BAD_LIST, MPM_ERR_BAD_VECTOR
 #define ALL NO_FCB, MPM_ERR_BAD_DRIVE
 #define AFTER(answer) (AFTER_SOME + (answer))
 #define NO_RECORD MPM_ERR_NO_EXTENT, MPM_ERR_NO_BLOCK
@@ -62,6 +62,7 @@ struct rule {
 #define OPENED {FCB, 12, 32}, {FCB, MPM_FCB_RECORD, MPM_FCB_LEN}, PLACES
 #define DIRECTORY {IMAGE, 0, DIRECTORY_END}
 #define DRIVE {IMAGE, 0, MPM_LARGE_MAX_BLOCKS * MPM_LARGE_BLOCK_LEN}
+#define BITS {VECTOR, 0, MPM_LARGE_VECTOR_LEN}
 
 static const struct rule rules[] = {
     {MPM_FN_OPEN,
@@ -70,7 +71,9 @@ static const struct rule rules[] = {
     {MPM_FN_CLOSE, {ALL, MPM_ERR_CLOSE_NOT_OPEN}, {PLACES}},
     {MPM_FN_SEARCH_FIRST, {FINDS}, {FOUND}},
     {MPM_FN_SEARCH_NEXT, {FINDS}, {FOUND}},
-    {MPM_FN_DELETE, {ALL, MPM_ERR_BAD_NAME, MPM_ERR_NOT_FOUND, MPM_ERR_IN_USE, MPM_ERR_READ_ONLY}, {PLACES, DIRECTORY}},
+    {MPM_FN_DELETE,
+     {ALL, MPM_ERR_BAD_NAME, MPM_ERR_NOT_FOUND, MPM_ERR_IN_USE, MPM_ERR_READ_ONLY},
+     {PLACES, DIRECTORY, BITS}},
     {MPM_FN_MAKE,
      {ALL, MPM_ERR_BAD_NAME, MPM_ERR_EXISTS, MPM_ERR_OPEN_LIMIT, MPM_ERR_OPEN_LIST_FULL, MPM_ERR_NO_EMPTY_ENTRY},
      {OPENED, DIRECTORY}},
@@ -78,9 +81,9 @@ static const struct rule rules[] = {
      {ALL, MPM_ERR_BAD_NAME, MPM_ERR_NOT_FOUND, MPM_ERR_IN_USE, MPM_ERR_READ_ONLY, MPM_ERR_EXISTS},
      {DIRECTORY}},
     {MPM_FN_READ, {READ}, {{DMA, 0, MPM_DMA_LEN}}},
-    {MPM_FN_WRITE, {FILL}, {DRIVE}},
+    {MPM_FN_WRITE, {FILL}, {DRIVE, BITS}},
     {MPM_FN_SIZE, {ALL, MPM_ERR_BAD_NAME, MPM_ERR_NOT_FOUND}, {{FCB, MPM_FCB_RECORD, MPM_FCB_LEN}}},
-    {MPM_FN_WRITE_ZEROS, {FILL}, {DRIVE}},
+    {MPM_FN_WRITE_ZEROS, {FILL}, {DRIVE, BITS}},
     {MPM_FN_TEST_WRITE, {WRITE, NO_RECORD, MPM_ERR_DIFFERS}, {DRIVE}},
     {MPM_FN_LOCK,
      {ALL, MPM_ERR_NOT_OPEN, MPM_ERR_BAD_FILE_ID, MPM_ERR_PAST_END, NO_RECORD, MPM_ERR_LOCKED, MPM_ERR_LOCK_LIMIT,
@@ -260,7 +263,7 @@ static bool same_state(const struct state *a, const struct state *b) {
 static uint32_t run(engine *e, const struct call *c, struct state *s) {
     struct buffer *b = s->of;
     return e(c->kind, c->function, c->process, c->count, b[FCB].bytes, b[FCB].length, b[DMA].bytes, b[DMA].length,
-             b[LIST].bytes, b[LIST].length, b[IMAGE].bytes, b[IMAGE].length);
+             b[LIST].bytes, b[LIST].length, b[IMAGE].bytes, b[IMAGE].length, b[VECTOR].bytes, b[VECTOR].length);
 }
 
 /* ---- The checks of a call ---- */
@@ -268,7 +271,7 @@ static uint32_t run(engine *e, const struct call *c, struct state *s) {
 static bool bad_call(const struct call *c, const struct state *s) {
     return c->kind >= MPM_KINDS || rule_of(c->function) == NULL || c->process >= MPM_PROCESSES || c->count < 1 ||
            c->count > MPM_MAX_COUNT || s->of[FCB].length != MPM_FCB_LEN || s->of[DMA].length != MPM_DMA_LEN ||
-           s->of[LIST].length != MPM_LIST_LEN;
+           s->of[LIST].length != MPM_LIST_LEN || s->of[VECTOR].length != mpm_vector_len(c->kind);
 }
 
 static void check_answer(const struct call *c, const struct state *before) {
@@ -296,6 +299,33 @@ static uint32_t check_kind(const struct call *c, uint32_t kind, const struct buf
     want(check == plain_check(kind, image->bytes, image->length), c, "the plain C version tells another entry");
     count_check(kind, code);
     return check;
+}
+
+/* Whether a buffer is the vector of an image that is sound, by the plain C version. */
+static bool agrees(uint32_t kind, const struct buffer *image, const struct buffer *vector) {
+    uint8_t due[MPM_LARGE_VECTOR_LEN];
+    size_t length = mpm_vector_len(kind);
+    return vector->length == length && plain_vector(kind, image->bytes, image->length, due, length) == MPM_OK &&
+           memcmp(due, vector->bytes, length) == 0;
+}
+
+/* 255/14 is given exactly where nothing before it is and the vector disagrees. Built in a buffer of the vector's
+   length, whatever that is: the answer and the bytes of the plain C version. */
+static void check_vector(const struct call *c, const struct state *before) {
+    const struct buffer *image = &before->of[IMAGE], *vector = &before->of[VECTOR];
+    bool judged =
+        c->answer != MPM_ERR_BAD_CALL && c->answer != MPM_ERR_BAD_IMAGE && c->answer != MPM_ERR_BAD_LIST;
+    bool due = judged && !agrees(c->kind, image, vector);
+    want((c->answer == MPM_ERR_BAD_VECTOR) == due, c, due ? "255/14 is due" : "255/14 is not due");
+    struct buffer ours = new_buffer(vector->length), plain = new_buffer(vector->length);
+    memset(ours.bytes, 0xAA, ours.length);
+    memset(plain.bytes, 0xAA, plain.length);
+    want(mpm_vector(c->kind, image->bytes, image->length, ours.bytes, ours.length) ==
+             plain_vector(c->kind, image->bytes, image->length, plain.bytes, plain.length),
+         c, "the plain C version of building gives another answer");
+    want(same_bytes(&ours, &plain), c, "the plain C version builds otherwise");
+    free(ours.memory);
+    free(plain.memory);
 }
 
 /* Two images, whatever they are: the plain C version's answer, in either order, and no byte changed. */
@@ -406,7 +436,11 @@ static void check_sound(const struct call *c, struct state *copy, const struct s
     const struct buffer *image = &after->of[IMAGE];
     copy_into(copy, after);
     want(mpm_check(c->kind, image->bytes, image->length) == MPM_CHECK_SOUND, c, "the image is not sound afterwards");
-    want(run(mpm_call, &free_space, copy) == MPM_OK, c, "the list is not sound afterwards");
+    want(run(mpm_call, &free_space, copy) == MPM_OK, c, "list or vector are not sound afterwards");
+    want(agrees(c->kind, image, &after->of[VECTOR]), c, "the vector disagrees afterwards");
+    want(mpm_get(copy->of[DMA].bytes + MPM_DMA_FREE, 3) ==
+             mpm_free_records(c->kind, image->length, after->of[VECTOR].bytes),
+         c, "46 and the vector tell another free space");
 }
 
 /* Where Look shows the record at distance i from the FCB's: nowhere, or as a record inside the image. */
@@ -498,6 +532,7 @@ static void check_call(struct call *c, struct state *s) {
     count_call(c);
     check_answer(c, &before);
     check_image(c, &before);
+    check_vector(c, &before);
     check_changes(c, &before, s);
     if (done_by(c) > 0) check_sound(c, &copy, s);
     check_look(c, s);
@@ -523,6 +558,14 @@ static uint32_t told_kind(uint32_t drive, const uint8_t *step) {
     return step[1] & OTHER_KIND ? other_kind(drive) : drive;
 }
 
+/* The vector of an image that is not sound stays as it was. */
+static void build_vector(struct state *s, uint32_t kind) {
+    struct buffer *vector = &s->of[VECTOR], *image = &s->of[IMAGE];
+    if (kind >= MPM_KINDS) return;
+    if (vector->length != mpm_vector_len(kind)) set_length(vector, mpm_vector_len(kind), 0);
+    mpm_vector(kind, image->bytes, image->length, vector->bytes, vector->length);
+}
+
 static void play_call(struct state *s, uint32_t drive, const uint8_t *step) {
     unsigned flags = step[1];
     struct call c = {told_kind(drive, step), number_at(step + 4), number_at(step + 8), number_at(step + 12), 0};
@@ -531,6 +574,7 @@ static void play_call(struct state *s, uint32_t drive, const uint8_t *step) {
     if (!(flags & WILD_COUNT)) c.count = (c.count - 1) % MPM_MAX_COUNT + 1;
     if (!(flags & KEEP_FCB)) put(&s->of[FCB], step + CONTENT, FCB_GIVEN);
     if (!(flags & KEEP_DMA)) put(&s->of[DMA], step + CONTENT + FCB_GIVEN, DMA_GIVEN);
+    if (!(flags & KEEP_VECTOR)) build_vector(s, c.kind);
     check_call(&c, s);
 }
 
@@ -564,7 +608,7 @@ static void play_length(struct state *s, uint32_t *drive, const uint8_t *step) {
     int k = step[1] % BUFFERS;
     uint32_t number = number_at(step + 4);
     bool many = step[2] & MANY;
-    size_t length = exact[k];
+    size_t length = k == VECTOR ? mpm_vector_len(*drive) : exact[k];
     if (k == IMAGE) *drive = step[3] % MPM_KINDS;
     if (step[2] & RAW) {
         length = raw_length(number, many, *drive);
@@ -588,13 +632,16 @@ static void play(struct state *s, uint32_t *drive, const uint8_t *step) {
 
 static struct state begin(void) {
     static const uint8_t head[] = {8, 4, 4};
-    static const size_t lengths[] = {MPM_FCB_LEN, MPM_DMA_LEN, MPM_LIST_LEN, 4 * MPM_SMALL_BLOCK_LEN};
+    static const size_t lengths[] = {MPM_FCB_LEN, MPM_DMA_LEN, MPM_LIST_LEN, 4 * MPM_SMALL_BLOCK_LEN,
+                                     MPM_SMALL_VECTOR_LEN};
+    static const uint8_t of_directory = 0xC0;
     struct state s;
     for (int k = 0; k < BUFFERS; k++) {
         s.of[k] = new_buffer(0);
         set_length(&s.of[k], lengths[k], k == IMAGE ? (int)MPM_EMPTY : 0);
     }
     put(&s.of[LIST], head, sizeof head);
+    put(&s.of[VECTOR], &of_directory, 1);
     return s;
 }
 

@@ -155,7 +155,8 @@ finds() { # WHAT OBJECTS..
 }
 
 selftest() {
-    local stubs=("refuses all" "accepts all" "writes before the FCB" "writes after the image" crashes "spoils images")
+    local stubs=("refuses all" "accepts all" "writes before the FCB" "writes after the image" crashes "spoils images"
+        "writes after the vector")
     local faults=("WRITES_AT_REFUSAL writes at a refusal" "LEAVES_LOCKS leaves locks" "NO_ZERO_FILL fills no zeros"
         "SHORT_LOCK locks 15 of 16" "WRONG_CODE has 4/0 for 6/0" "SHORT_FCB overreads" "OTHER_SINGLY differs singly"
         "KEEPS_OWN_OPEN leaves the open of a deleted file" "REFUSES_OWN_OPEN refuses to delete the caller's open file"
@@ -183,6 +184,14 @@ selftest() {
         "ENDS_SEARCHES ends the searches of a packed book" "POSITIONS_FREE packs whatever the positions are"
         "ALL_THE_SAME takes all books for the same" "SECOND_FIRST tells 2 before 1"
         "FIRST_RECORD_FREE does not compare a block's first record" "ATTRIBUTES_FREE does not compare attributes")
+    local vectors=("LOW_BIT_FIRST has the low bit first" "SETS_BITS_FROM_N_ON sets bits past the drive"
+        "DELETE_LEAVES_A_BIT leaves a bit of a deleted file" "WRITE_SETS_ANOTHER_BIT sets another block's bit"
+        "WRITE_SETS_NO_BIT sets no bit" "STOPPED_RUN_SETS_NO_BIT sets no bit where a run stops"
+        "REFUSAL_MENDS_IT mends the vector that it refuses" "JUDGED_BEFORE_THE_LIST has 255/14 before 255/12"
+        "JUDGED_AFTER_THE_DRIVE has 255/14 after 255/4" "NOT_JUDGED takes any vector"
+        "DIRECTORY_NOT_JUDGED takes any bits of the directory" "TAKES_A_LONGER_ONE takes a longer vector"
+        "KEEPS_OLD_BITS builds over old bits" "FORGETS_THE_DIRECTORY builds without the directory's bits"
+        "CLEARS_AT_REFUSAL clears what it does not build" "IMAGE_BEFORE_LENGTH has 255/1 before 255/13")
     local n fault
     for n in "${!stubs[@]}"; do
         compile bad.o -DSTUB=$((n + 1)) "$root/tests/pipe/stub.c"
@@ -196,6 +205,11 @@ selftest() {
     compile bad-fuzz.o -Dmpm_salvage=wrong_salvage -Dmpm_pack=wrong_pack -Dmpm_same=wrong_same "$here/fuzz.c"
     for fault in "${desks[@]}"; do
         compile bad.o -DWRONG="${fault%% *}" "$root/tests/pipe/wrong_desk.c"
+        finds "${fault#* }" bad-fuzz.o bad.o engine1.o
+    done
+    compile bad-fuzz.o -Dmpm_call=wrong_call -Dmpm_singly=wrong_singly -Dmpm_vector=wrong_vector "$here/fuzz.c"
+    for fault in "${vectors[@]}"; do
+        compile bad.o -DWRONG="${fault%% *}" "$root/tests/pipe/wrong_vector.c"
         finds "${fault#* }" bad-fuzz.o bad.o engine1.o
     done
 }

@@ -6,7 +6,7 @@
 #include "mpm.h"
 #include "steps.h"
 
-enum { MAX_STEPS = 80, PATH_LEN = 4096, NOTHING_RISES = 255 };
+enum { MAX_STEPS = 96, PATH_LEN = 4096, NOTHING_RISES = 255 };
 
 /* Three names, a mark for any, and the first as an FCB asks for unlocked and for read-only mode. */
 #define A "ORDERS  DAT"
@@ -502,6 +502,43 @@ static void bad_entries(uint32_t kind) {
         }
 }
 
+/* One bit of the vector is wrong for each call: of the directory, of a used block, of a free one, past the drive. Then
+   its length. The vector goes on from call to call. */
+static void wrong_bits(uint32_t kind) {
+    static const uint32_t functions[] = {MPM_FN_OPEN,  MPM_FN_CLOSE, MPM_FN_SEARCH_FIRST, MPM_FN_SEARCH_NEXT,
+                                         MPM_FN_DELETE, MPM_FN_MAKE, MPM_FN_RENAME,       MPM_FN_READ,
+                                         MPM_FN_WRITE, MPM_FN_SIZE,  MPM_FN_WRITE_ZEROS,  MPM_FN_TEST_WRITE,
+                                         MPM_FN_LOCK,  MPM_FN_UNLOCK, MPM_FN_FREE_SPACE,  MPM_FN_TERMINATE};
+    set_drive(kind, fewest(kind, 9));
+    call(1, MPM_FN_MAKE, A_UNLOCKED, 0, 1, 0);
+    call(1, MPM_FN_WRITE, A, 0, 1, 0)[1] = KEEP_VECTOR;
+    call(1, MPM_FN_WRITE_ZEROS, A, 130, 16, 0)[1] = KEEP_VECTOR;
+    for (size_t i = 0; i < sizeof functions / sizeof functions[0]; i++) {
+        PUT(VECTOR, (uint32_t)i * 2 % 32, 1, 1, NOTHING_RISES, "\001");
+        call(1, functions[i], A, 0, 1, 0)[1] = KEEP_VECTOR;
+    }
+    uint8_t *no_drive = call(1, MPM_FN_OPEN, A, 0, 1, 0);
+    no_drive[1] = KEEP_VECTOR;
+    no_drive[CONTENT + MPM_FCB_DRIVE] = 2;
+    LIMITS("\000\004\004");
+    call(1, MPM_FN_FREE_SPACE, A, 0, 1, 0)[1] = KEEP_VECTOR;
+    LIMITS("\010\004\004");
+    call(1, MPM_FN_FREE_SPACE, A, 0, 1, 0);
+    /* The file has the blocks 2 to 5, on a large drive 2 to 4: but for the bit of block 0 all is right, then but for
+       that of block 2. */
+    patch(VECTOR, 0, 1, 1, NOTHING_RISES, kind == MPM_KIND_SMALL ? "\174" : "\170", 1);
+    call(1, MPM_FN_FREE_SPACE, A, 0, 1, 0)[1] = KEEP_VECTOR;
+    patch(VECTOR, 0, 1, 1, NOTHING_RISES, kind == MPM_KIND_SMALL ? "\334" : "\330", 1);
+    call(1, MPM_FN_FREE_SPACE, A, 0, 1, 0)[1] = KEEP_VECTOR;
+    set_length(VECTOR, RAW, mpm_vector_len(kind) + 1);
+    call(1, MPM_FN_FREE_SPACE, A, 0, 1, 0)[1] = KEEP_VECTOR;
+    set_length(VECTOR, 0, 0);
+    call(1, MPM_FN_FREE_SPACE, A, 0, 1, 0)[1] = KEEP_VECTOR;
+    call(1, MPM_FN_DELETE, A, 0, 1, 0);
+    call(1, MPM_FN_MAKE, A_UNLOCKED, 0, 1, 0)[1] = KEEP_VECTOR;
+    save();
+}
+
 static void wrong_numbers(void) {
     set_drive(MPM_KIND_SMALL, 4);
     call(0, 271, A, 0, 1, 0)[1] = WILD_FUNCTION;
@@ -510,7 +547,7 @@ static void wrong_numbers(void) {
     for (int buffer = 0; buffer < BUFFERS; buffer++)
         for (uint32_t length = 0; length < 3000; length = 3 * length + 35) {
             set_length(buffer, RAW, length);
-            call(1, MPM_FN_MAKE, A, 0, 1, 0);
+            call(1, MPM_FN_MAKE, A, 0, 1, 0)[1] = KEEP_VECTOR;
             set_length(buffer, 0, 4);
         }
     set_length(DMA, RAW, 2 * MPM_RECORD_LEN);
@@ -530,6 +567,7 @@ static void seeds_of(uint32_t kind) {
     full_runs(kind);
     all_full(kind);
     bad_entries(kind);
+    wrong_bits(kind);
 }
 
 int main(int argc, char **argv) {

@@ -62,16 +62,18 @@ struct lent {
     size_t list_len;
     uint8_t *image;
     size_t image_len;
+    uint8_t *vector;
+    size_t vector_len;
 };
 
 typedef uint32_t engine(uint32_t kind, uint32_t function, uint32_t process, uint32_t count, uint8_t *fcb,
                         size_t fcb_len, uint8_t *dma, size_t dma_len, uint8_t *list, size_t list_len, uint8_t *image,
-                        size_t image_len);
+                        size_t image_len, uint8_t *vector, size_t vector_len);
 engine spoiled_call, spoiled_singly;
 
 static uint32_t call(const struct lent *c) {
     return mpm_call(c->kind, c->function, c->process, c->count, c->fcb, c->fcb_len, c->dma, c->dma_len, c->list,
-                    c->list_len, c->image, c->image_len);
+                    c->list_len, c->image, c->image_len, c->vector, c->vector_len);
 }
 
 static bool goes_by_records(uint32_t function) {
@@ -113,11 +115,15 @@ static void put_locks_back(uint8_t *list, const uint8_t *old) {
 /* A Delete that would take the caller's open away: on copies, a Close goes through before it, and then the Delete. */
 static bool refuses_own(struct lent c) {
     static uint8_t list[MPM_LIST_LEN], image[MPM_LARGE_MAX_BLOCKS * MPM_LARGE_BLOCK_LEN];
+    static uint8_t vector[MPM_LARGE_VECTOR_LEN];
     if (c.function != MPM_FN_DELETE || c.list_len != sizeof list || c.image_len > sizeof image) return false;
+    if (c.vector_len > sizeof vector) return false;
     memcpy(list, c.list, sizeof list);
     memcpy(image, c.image, c.image_len);
+    memcpy(vector, c.vector, c.vector_len);
     c.list = list;
     c.image = image;
+    c.vector = vector;
     c.function = MPM_FN_CLOSE;
     if (call(&c) != MPM_OK) return false;
     c.function = MPM_FN_DELETE;
@@ -336,12 +342,16 @@ static uint32_t goes_on(struct lent c) {
 
 static uint32_t all_or_none(struct lent c) {
     static uint8_t dma[MPM_DMA_LEN], image[MPM_LARGE_MAX_BLOCKS * MPM_LARGE_BLOCK_LEN];
+    static uint8_t vector[MPM_LARGE_VECTOR_LEN];
+    if (c.vector_len > sizeof vector) return call(&c);
     memcpy(dma, c.dma, c.dma_len);
     memcpy(image, c.image, c.image_len);
+    memcpy(vector, c.vector, c.vector_len);
     uint32_t answer = call(&c);
     if (answer == MPM_OK) return answer;
     memcpy(c.dma, dma, c.dma_len);
     memcpy(c.image, image, c.image_len);
+    memcpy(c.vector, vector, c.vector_len);
     return answer;
 }
 
@@ -472,16 +482,18 @@ uint32_t spoiled_check(uint32_t kind, const uint8_t *image, size_t image_len) {
 /* ---- The two engines ---- */
 
 uint32_t spoiled_call(uint32_t kind, uint32_t function, uint32_t process, uint32_t count, uint8_t *fcb, size_t fcb_len,
-                      uint8_t *dma, size_t dma_len, uint8_t *list, size_t list_len, uint8_t *image, size_t image_len) {
-    struct lent c = {kind, function, process, count, fcb, fcb_len, dma, dma_len, list, list_len, image, image_len};
+                      uint8_t *dma, size_t dma_len, uint8_t *list, size_t list_len, uint8_t *image, size_t image_len,
+                      uint8_t *vector, size_t vector_len) {
+    struct lent c = {kind,    function, process,  count, fcb,       fcb_len, dma,
+                     dma_len, list,     list_len, image, image_len, vector,  vector_len};
     return is_run(&c) ? bad_run(&c) : bad_kind(&c);
 }
 
 /* As bad as the other, so that nothing is seen by holding the two together; with OTHER_SINGLY it alone is bad. */
 uint32_t spoiled_singly(uint32_t kind, uint32_t function, uint32_t process, uint32_t count, uint8_t *fcb,
                         size_t fcb_len, uint8_t *dma, size_t dma_len, uint8_t *list, size_t list_len, uint8_t *image,
-                        size_t image_len) {
-    uint32_t answer =
-        spoiled_call(kind, function, process, count, fcb, fcb_len, dma, dma_len, list, list_len, image, image_len);
+                        size_t image_len, uint8_t *vector, size_t vector_len) {
+    uint32_t answer = spoiled_call(kind, function, process, count, fcb, fcb_len, dma, dma_len, list, list_len, image,
+                                   image_len, vector, vector_len);
     return goes_by_records(function) && SPOILED != OTHER_SINGLY ? mpm_code(answer) : answer;
 }

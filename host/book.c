@@ -6,6 +6,7 @@
      book size IMAGE [USER:]NAME..     for each file, of user 0 unless said, one line with its size
      book list IMAGE [USER]            for each file of the user, or of every user, one line with its size and its
                                        attributes, in the order of the directory
+     book free IMAGE..                 for each image one line with its free space
      book salvage IMAGE -o NEW         mends a damaged image: a line for each entry that was touched, and one with the
                                        totals. Of a sound one NEW is a copy.
      book pack IMAGE -o NEW            the same files with their entries and blocks at the lowest places: one line with
@@ -300,9 +301,11 @@ static uint32_t start_list(const struct image *image, uint32_t user, uint8_t *li
 /* A book of the image on which every process is this user. The image stays as it is: 17, 18 and 35, which are all that
    is called on it, do not write to it. */
 static uint32_t start_book(struct mpm_book *book, const struct image *image, uint32_t user) {
-    static uint8_t list[MPM_LIST_LEN];
-    *book = (struct mpm_book){image->kind, list, sizeof list, image->bytes, image->length};
-    return start_list(image, user, list);
+    static uint8_t list[MPM_LIST_LEN], vector[MPM_LARGE_VECTOR_LEN];
+    *book = (struct mpm_book){image->kind,   list,   sizeof list,               image->bytes,
+                              image->length, vector, mpm_vector_len(image->kind)};
+    uint32_t answer = start_list(image, user, list);
+    return answer == MPM_OK ? mpm_book_vector(book) : answer;
 }
 
 static void say_records(uint32_t records) {
@@ -406,6 +409,35 @@ static int list_files(int count, char **words) {
     if (mpm_check(image.kind, image.bytes, image.length) != MPM_CHECK_SOUND) return check_image(&image);
     for (uint32_t user = first; user <= last; user++) files += list_user(&image, user, &status);
     if (files == 0 && status == DONE) printf("%s: no files\n", image.path);
+    return status;
+}
+
+/* ---- Free space ---- */
+
+/* As the allocation vector tells it. */
+static int say_free(const struct image *image) {
+    uint8_t vector[MPM_LARGE_VECTOR_LEN];
+    uint32_t answer = mpm_vector(image->kind, image->bytes, image->length, vector, mpm_vector_len(image->kind));
+    if (answer != MPM_OK) return fail(image->path, mpm_answer_text(0, answer));
+    uint32_t records = mpm_free_records(image->kind, image->length, vector);
+    printf("%s: %u of %u blocks free, ", image->path, (unsigned)(records / mpm_block_records(image->kind)),
+           (unsigned)(mpm_blocks(image->kind, image->length) - MPM_DIRECTORY_BLOCKS));
+    say_records(records);
+    printf("\n");
+    return DONE;
+}
+
+/* Of an image that is not sound only that is said. */
+static int free_image(const char *path) {
+    struct image image;
+    if (!load(&image, path)) return fail(path, "cannot be read");
+    if (mpm_check(image.kind, image.bytes, image.length) != MPM_CHECK_SOUND) return check_image(&image);
+    return say_free(&image);
+}
+
+static int free_all(int count, char **words) {
+    int status = DONE;
+    for (int i = 0; i < count; i++) status = worse(status, free_image(words[i]));
     return status;
 }
 
@@ -690,6 +722,7 @@ static const struct verb {
     {"check", "IMAGE..", 1, 0, check_all},
     {"size", "IMAGE [USER:]NAME..", 2, 0, size_all},
     {"list", "IMAGE [USER]", 1, 2, list_files},
+    {"free", "IMAGE..", 1, 0, free_all},
     {"salvage", "IMAGE -o NEW", 3, 3, salvage},
     {"pack", "IMAGE -o NEW", 3, 3, pack},
     {"compare", "OLD NEW", 2, 2, compare},

@@ -1,6 +1,6 @@
 """The desk's program on images that are damaged in each way, on both kinds of drive: one line for each, as it has to
-be, and its exit status; the sizes that it tells, and its lists of files; what it mends and what it packs, to the byte;
-what it says of two books.
+be, and its exit status; the sizes and the free space that it tells, and its lists of files; what it mends and what it
+packs, to the byte; what it says of two books.
 
 book.py FOLDER BOOK..
 
@@ -264,6 +264,36 @@ def lists(desk, kind):
     desk.has_kept(path, image.bytes)
 
 
+def free_line(path, kind, blocks, used):
+    """What is said of an image of so many blocks, `used` of them by files."""
+    free = blocks - 2 - used
+    records = free * (kind.block // 128)
+    return f"{path}: {free} of {blocks - 2} blocks free, {records} records, {128 * records} bytes"
+
+
+def frees(desk, kind):
+    """The three blocks of a small drive, or the 257 of a large one, are no multiple of eight."""
+    least = 3 if kind is SMALL else 257
+    bare = bytes([0xE5]) * (kind.block * least)
+    last = bytearray(bare)
+    last[:ENTRY] = entry(0, "LAST")
+    last[16 : 16 + kind.width] = (least - 1).to_bytes(kind.width, "little")
+    gone = bytes([0xE5]) + last[1:]
+    some, empty, full, emptied = (desk.keep(content) for content in (Image(kind).bytes, bare, last, gone))
+    lines = [
+        free_line(some, kind, kind.blocks, 4),
+        free_line(empty, kind, least, 0),
+        free_line(full, kind, least, 1),
+        free_line(emptied, kind, least, 0),
+    ]
+    desk.says(["free", some, empty, full, emptied], lines, DONE)
+    bad, missing = desk.keep(Image(kind).poke(9, 15, 129).bytes), os.path.join(desk.folder, "none")
+    why = f"{bad}: entry 9, BUDGET.DAT of user 3: its record count is 129, over 128"
+    desk.says(["free", bad, some], [why, lines[0]], NOT_SO)
+    desk.says(["free", some, missing, bad], [lines[0], f"{missing}: cannot be read", why], FAILED)
+    desk.has_kept(some, Image(kind).bytes)
+
+
 class Mended:
     """A damaged image, what it has to become, and the lines that have to be said of its entries."""
 
@@ -513,6 +543,7 @@ VERBS = (
     "check IMAGE..",
     "size IMAGE [USER:]NAME..",
     "list IMAGE [USER]",
+    "free IMAGE..",
     "salvage IMAGE -o NEW",
     "pack IMAGE -o NEW",
     "compare OLD NEW",
@@ -522,6 +553,7 @@ VERBS = (
 def wrong_use(desk):
     use = "".join(f"use: book {verb}\n" for verb in VERBS)
     bad = [[], ["check"], ["chekc", "x"], ["-h"], ["size"], ["size", "x"], ["list"], ["list", "x", "0", "1"]]
+    bad.append(["free"])
     for verb in ("salvage", "pack"):
         bad += [[verb], [verb, "x"], [verb, "x", "-o"], [verb, "x", "y", "z"], [verb, "x", "-o", "y", "z"]]
     bad += [["compare"], ["compare", "x"], ["compare", "x", "y", "z"]]
@@ -538,6 +570,7 @@ def main():
     for kind in (SMALL, LARGE):
         sizes(desk, kind)
         lists(desk, kind)
+        frees(desk, kind)
         salvages(desk, kind)
         packs(desk, kind)
         compares(desk, kind)

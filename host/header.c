@@ -8,12 +8,13 @@
 #include "mpm.h"
 #include "mpm.h"
 
-#if MPM_VERSION != 6
-#error "the checks below are those of version 6"
+#if MPM_VERSION != 7
+#error "the checks below are those of version 7"
 #endif
 
 typedef uint32_t call_type(uint32_t, uint32_t, uint32_t, uint32_t, uint8_t *, size_t, uint8_t *, size_t, uint8_t *,
-                           size_t, uint8_t *, size_t);
+                           size_t, uint8_t *, size_t, uint8_t *, size_t);
+typedef uint32_t vector_type(uint32_t, const uint8_t *, size_t, uint8_t *, size_t);
 typedef uint32_t start_type(uint32_t, uint32_t, uint32_t, uint32_t, const uint8_t *, size_t, uint8_t *, size_t);
 typedef uint32_t check_type(uint32_t, const uint8_t *, size_t);
 typedef uint32_t look_type(uint32_t, uint32_t, const uint8_t *, size_t, uint32_t, const uint8_t *, size_t);
@@ -21,9 +22,11 @@ typedef uint32_t salvage_type(uint32_t, uint8_t *, size_t, uint8_t *, size_t);
 typedef uint32_t pack_type(uint32_t, const uint8_t *, size_t, const uint8_t *, size_t, uint8_t *, size_t);
 typedef uint32_t same_type(uint32_t, const uint8_t *, size_t, const uint8_t *, size_t);
 typedef uint32_t book_call_type(struct mpm_book *, uint32_t, uint32_t, uint32_t, uint8_t *, uint8_t *);
+typedef uint32_t book_vector_type(struct mpm_book *);
 
 extern call_type *const header_call;
 extern call_type *const header_singly;
+extern vector_type *const header_vector;
 extern start_type *const header_start;
 extern check_type *const header_check;
 extern look_type *const header_look;
@@ -31,8 +34,10 @@ extern salvage_type *const header_salvage;
 extern pack_type *const header_pack;
 extern same_type *const header_same;
 extern book_call_type *const header_book_call;
+extern book_vector_type *const header_book_vector;
 call_type *const header_call = mpm_call;
 call_type *const header_singly = mpm_singly;
+vector_type *const header_vector = mpm_vector;
 start_type *const header_start = mpm_start;
 check_type *const header_check = mpm_check;
 look_type *const header_look = mpm_look;
@@ -40,6 +45,7 @@ salvage_type *const header_salvage = mpm_salvage;
 pack_type *const header_pack = mpm_pack;
 same_type *const header_same = mpm_same;
 book_call_type *const header_book_call = mpm_book_call;
+book_vector_type *const header_book_vector = mpm_book_vector;
 
 /* An array type cannot have a negative size. */
 #define HOLDS(name, condition) typedef char name[(condition) ? 1 : -1]
@@ -59,10 +65,10 @@ HOLDS(record_has_entries, MPM_RECORD_ENTRIES * MPM_ENTRY_LEN == MPM_RECORD_LEN);
 HOLDS(finds_are_places, MPM_FOUND(0u) == 0u && MPM_FOUND(MPM_RECORD_ENTRIES - 1u) == 3u && MPM_NO_MATCH == 255u);
 HOLDS(entry_is_whole, MPM_ENTRY_NAME + MPM_NAME_LEN == MPM_ENTRY_EX && MPM_ENTRY_MAP + MPM_MAP_LEN == MPM_ENTRY_LEN);
 HOLDS(make_shares_a_number, MPM_ERR_NO_EMPTY_ENTRY == MPM_ERR_NOT_FOUND);
-HOLDS(highest_answer_leaves_four_bits, MPM_ERR_BAD_CALL < MPM_ANSWER(0u, 16u) && MPM_MAX_COUNT - 1u <= 15u);
+HOLDS(highest_answer_leaves_four_bits, MPM_ERR_BAD_VECTOR < MPM_ANSWER(0u, 16u) && MPM_MAX_COUNT - 1u <= 15u);
 
-/* Of each kind: its directory, a block and an entry's map are filled exactly, every block has a number, and the figure
-   of 46 has room. */
+/* Of each kind: its directory, a block and an entry's map are filled exactly, every block has a number and a bit of the
+   vector, and the figure of 46 has room. */
 #define HOLDS_OF(KIND)                                                                                                 \
     HOLDS(KIND##_directory_is_whole,                                                                                   \
           MPM_##KIND##_ENTRIES * MPM_ENTRY_LEN == MPM_DIRECTORY_BLOCKS * MPM_##KIND##_BLOCK_LEN);                      \
@@ -70,6 +76,7 @@ HOLDS(highest_answer_leaves_four_bits, MPM_ERR_BAD_CALL < MPM_ANSWER(0u, 16u) &&
     HOLDS(KIND##_map_is_whole, MPM_##KIND##_NUMBERS * MPM_##KIND##_NUMBER_LEN == MPM_MAP_LEN &&                        \
                                    MPM_##KIND##_NUMBERS * MPM_##KIND##_BLOCK_RECORDS == MPM_EXTENT_RECORDS);           \
     HOLDS(KIND##_numbers_have_room, MPM_##KIND##_MAX_BLOCKS - 1u < 1u << (8u * MPM_##KIND##_NUMBER_LEN));              \
+    HOLDS(KIND##_vector_has_room, 8u * MPM_##KIND##_VECTOR_LEN == MPM_##KIND##_MAX_BLOCKS);                            \
     HOLDS(KIND##_figure_has_room, MPM_##KIND##_MAX_BLOCKS * MPM_##KIND##_BLOCK_RECORDS < 1u << 24u);                   \
     HOLDS(KIND##_has_a_data_block, MPM_##KIND##_MIN_BLOCKS > MPM_DIRECTORY_BLOCKS &&                                   \
                                        MPM_##KIND##_MIN_BLOCKS <= MPM_##KIND##_MAX_BLOCKS)
@@ -83,6 +90,7 @@ HOLDS(report_has_room, MPM_SALVAGE_UNTOUCHED == 0u && MPM_SMALL_NUMBERS < MPM_SA
                            MPM_LARGE_NUMBERS < MPM_SALVAGE_EMPTIED && MPM_SALVAGE_EMPTIED < 256u);
 
 uint32_t header_kind(uint32_t kind, size_t image_len);
+uint32_t header_free(uint32_t kind, size_t image_len, const uint8_t *vector);
 uint32_t header_function(uint32_t number);
 uint32_t header_answer(uint32_t answer);
 uint32_t header_searched(uint32_t answer);
@@ -95,9 +103,14 @@ uint32_t header_compared(uint32_t answer);
 uint32_t header_kind(uint32_t kind, size_t image_len) {
     switch (kind) {
     case MPM_KIND_SMALL: case MPM_KIND_LARGE:
-        return mpm_blocks(kind, image_len) + mpm_block_records(kind) + mpm_entries(kind) + mpm_numbers(kind);
+        return mpm_blocks(kind, image_len) + mpm_block_records(kind) + mpm_entries(kind) + mpm_numbers(kind) +
+               mpm_vector_len(kind);
     default: return 0u;
     }
+}
+
+uint32_t header_free(uint32_t kind, size_t image_len, const uint8_t *vector) {
+    return mpm_block_used(vector, 0) ? mpm_free_records(kind, image_len, vector) : 0u;
 }
 
 uint32_t header_function(uint32_t number) {
@@ -112,7 +125,8 @@ uint32_t header_function(uint32_t number) {
 
 uint32_t header_answer(uint32_t answer) {
     switch (answer) {
-    case MPM_OK: case MPM_ERR_BAD_CALL: case MPM_ERR_BAD_IMAGE: case MPM_ERR_BAD_LIST: case MPM_ERR_BAD_DRIVE:
+    case MPM_OK: case MPM_ERR_BAD_CALL: case MPM_ERR_BAD_IMAGE: case MPM_ERR_BAD_LIST: case MPM_ERR_BAD_VECTOR:
+    case MPM_ERR_BAD_DRIVE:
     case MPM_ERR_NOT_FOUND: case MPM_ERR_READ_ONLY: case MPM_ERR_IN_USE: case MPM_ERR_CLOSE_NOT_OPEN:
     case MPM_ERR_EXISTS: case MPM_ERR_BAD_NAME: case MPM_ERR_OPEN_LIMIT: case MPM_ERR_OPEN_LIST_FULL:
     case MPM_ERR_NO_BLOCK: case MPM_ERR_DISK_FULL: case MPM_ERR_NO_EXTENT: case MPM_ERR_DIRECTORY_FULL:

@@ -126,6 +126,28 @@ static void try_kinds(void) {
     want(mpm_kind_of(8390656) == MPM_KINDS && mpm_kind_of(3073) == MPM_KINDS, "no whole drive");
 }
 
+/* A small drive of ten blocks of which 3 and 8 are used, and a large one of 300 with block 256. */
+static void try_vectors(void) {
+    static const uint8_t small[MPM_SMALL_VECTOR_LEN] = {0xD0, 0x80};
+    static uint8_t large[MPM_LARGE_VECTOR_LEN];
+    want(mpm_vector_len(MPM_KIND_SMALL) == 32 && mpm_vector_len(MPM_KIND_LARGE) == 512, "the lengths of vectors");
+    want(mpm_vector_len(MPM_KINDS) == 0 && mpm_vector_len(256) == 0, "the vector of an unknown kind");
+    for (uint32_t block = 0; block < 256; block++) {
+        int used = block == 0 || block == 1 || block == 3 || block == 8;
+        want(mpm_block_used(small, block) == used, "a block of a vector");
+    }
+    want(mpm_free_records(MPM_KIND_SMALL, 10 * 1024, small) == 6 * 8, "six free blocks of ten");
+    want(mpm_free_records(MPM_KIND_SMALL, 3 * 1024, small) == 8, "one free block of three");
+    want(mpm_free_records(MPM_KIND_SMALL, 256 * 1024, small) == 252 * 8, "252 free blocks of 256");
+    want(mpm_free_records(MPM_KIND_SMALL, 2 * 1024, small) == 0, "too few blocks");
+    want(mpm_free_records(MPM_KIND_LARGE, 10 * 1024, small) == 0, "no large drive");
+    want(mpm_free_records(MPM_KINDS, 10 * 1024, small) == 0, "no drive");
+    large[0] = 0xC0, large[32] = 0x80;
+    want(mpm_block_used(large, 256) && !mpm_block_used(large, 255) && !mpm_block_used(large, 257), "block 256");
+    want(mpm_free_records(MPM_KIND_LARGE, 300 * 2048, large) == 297 * 16, "297 free blocks of 300");
+    want(mpm_free_records(MPM_KIND_LARGE, 4096 * 2048, large) == 4093 * 16, "4,093 free blocks of 4,096");
+}
+
 /* ---- Answers ---- */
 
 /* Every answer of every function has a name and a sentence, and no two names have one sentence. */
@@ -139,7 +161,7 @@ static void try_answers(void) {
         for (uint32_t other = 0; other < answer && known; other++)
             want(strcmp(text, mpm_answer_text(MPM_FN_OPEN, other)) != 0, "two answers have one sentence");
     }
-    want(named == 24, "there are 24 numbers that are answers");
+    want(named == 25, "there are 25 numbers that are answers");
     want(strcmp(mpm_answer_name(MPM_FN_WRITE, 8 + 256 * 48), "MPM_ERR_LOCKED") == 0, "8/48 is 8/0 after three");
     want(strcmp(mpm_answer_name(MPM_FN_OPEN, 255), "MPM_ERR_NOT_FOUND") == 0, "255/0 of Open");
     want(strcmp(mpm_answer_name(MPM_FN_MAKE, 255), "MPM_ERR_NO_EMPTY_ENTRY") == 0, "255/0 of Make");
@@ -224,18 +246,36 @@ static void try_comparings(void) {
 
 /* ---- A book ---- */
 
+/* A book that has no vector gets one, and keeps image and list. */
+static void add_vector(struct mpm_book *book) {
+    static uint8_t vector[MPM_SMALL_VECTOR_LEN];
+    memset(vector, 0xA5, sizeof vector);
+    book->vector = vector;
+    book->vector_len = sizeof vector - 1;
+    want(mpm_book_vector(book) == MPM_ERR_BAD_CALL && vector[0] == 0xA5, "a short vector is built");
+    book->vector_len = sizeof vector;
+    want(mpm_book_vector(book) == MPM_OK && vector[0] == 0xC0 && vector[31] == 0, "a vector is built");
+}
+
 static void try_book(void) {
     static uint8_t image[3 * 1024], list[MPM_LIST_LEN], dma[MPM_DMA_LEN], fcb[MPM_FCB_LEN];
     static const uint8_t users[MPM_USERS_LEN] = {0};
-    struct mpm_book book = {MPM_KIND_SMALL, list, sizeof list, image, sizeof image};
+    struct mpm_book book = {MPM_KIND_SMALL, list, sizeof list, image, sizeof image, 0, 0};
     memset(image, MPM_EMPTY, sizeof image);
     want(mpm_start(book.kind, 4, 2, 2, users, sizeof users, list, sizeof list) == MPM_OK, "a list is started");
     mpm_set_fcb(fcb, "ORDERS.DAT", MPM_MODE_UNLOCKED);
+    want(mpm_book_call(&book, MPM_FN_MAKE, 3, 1, fcb, dma) == MPM_ERR_BAD_CALL, "a book without a vector is taken");
+    add_vector(&book);
     want(mpm_book_call(&book, MPM_FN_MAKE, 3, 1, fcb, dma) == MPM_OK, "a file is made in the book");
     uint32_t file_id = mpm_file_id(fcb);
     mpm_set_record(fcb, 7);
     memset(dma, 'x', MPM_RECORD_LEN);
     want(mpm_book_call(&book, MPM_FN_WRITE_ZEROS, 3, 1, fcb, dma) == MPM_OK, "a record is written");
+    want(book.vector[0] == 0xE0 && mpm_block_used(book.vector, 2), "block 2 is used");
+    want(mpm_free_records(book.kind, book.image_len, book.vector) == 0, "no block is free");
+    book.vector[31] ^= 1;
+    want(mpm_book_call(&book, MPM_FN_SIZE, 9, 1, fcb, dma) == MPM_ERR_BAD_VECTOR, "a bit past the drive is taken");
+    book.vector[31] ^= 1;
     want(mpm_look(book.kind, 0, fcb + 1, 11, 7, image, sizeof image) == 2 * 1024 + 7 * 128, "Look shows the record");
     want(mpm_book_call(&book, MPM_FN_SIZE, 9, 1, fcb, dma) == MPM_OK && mpm_size(fcb) == 8, "eight records");
     mpm_set_record(fcb, 7);
@@ -265,6 +305,7 @@ static void try_book(void) {
     want(mpm_salvage(book.kind, image, sizeof image, report, sizeof report) == MPM_SALVAGE_DONE, "it is mended");
     want(report[0] == MPM_SALVAGE_UNTOUCHED && report[1] == MPM_SALVAGE_EMPTIED, "entry 1 was emptied");
     want(mpm_check(book.kind, image, sizeof image) == MPM_CHECK_SOUND, "a mended image is sound");
+    want(mpm_book_vector(&book) == MPM_OK && book.vector[0] == 0xE0, "a mended image gets its vector");
     book.list_len++;
     want(mpm_pack(book.kind, image, sizeof image, list, sizeof list, packed, sizeof packed) == MPM_ERR_IN_USE,
          "a book is packed while a file is open");
@@ -287,6 +328,7 @@ static int make_files(struct mpm_book *book) {
     static uint8_t dma[MPM_DMA_LEN], fcb[MPM_FCB_LEN];
     char name[] = "A0";
     memset(book->image, MPM_EMPTY, book->image_len);
+    if (mpm_book_vector(book) != MPM_OK) return 0;
     if (mpm_start(book->kind, 1, 1, 1, users, sizeof users, book->list, book->list_len) != MPM_OK) return 0;
     for (uint32_t file = 0; file < 64; file++) {
         name[0] = (char)('A' + file / 8), name[1] = (char)('0' + file % 8);
@@ -328,7 +370,8 @@ static void try_capacity(void) {
     static uint8_t image[10 * 1024], list[MPM_LIST_LEN];
     static const uint32_t all[][3] = {{1, 1, 1}, {2, 1, 1},  {1, 2, 1}, {1, 1, 63}, {1, 63, 1}, {2, 16, 16},
                                       {3, 2, 5}, {4, 4, 12}, {8, 2, 6}, {16, 2, 2}, {16, 3, 1}, {16, 1, 3}};
-    struct mpm_book book = {MPM_KIND_SMALL, list, sizeof list, image, sizeof image};
+    static uint8_t vector[MPM_SMALL_VECTOR_LEN];
+    struct mpm_book book = {MPM_KIND_SMALL, list, sizeof list, image, sizeof image, vector, sizeof vector};
     want(make_files(&book), "64 files are made");
     for (size_t i = 0; i < COUNT(all); i++) {
         uint32_t processes = all[i][0], opens = all[i][1], locks = all[i][2];
@@ -349,6 +392,7 @@ int main(void) {
     try_fcb();
     try_numbers();
     try_kinds();
+    try_vectors();
     try_searches();
     try_answers();
     try_refusals();

@@ -49,7 +49,7 @@ static int fail(const char *name, const char *why) {
    unsound: if it is, the memory was spoiled, and nothing of it may be saved. A new start goes on from the file. */
 static uint32_t call(uint32_t function, uint32_t process, uint32_t count, uint8_t *fcb, uint8_t *dma) {
     uint32_t answer = mpm_book_call(&save.book, function, process, count, fcb, dma);
-    if (answer == MPM_ERR_BAD_IMAGE || answer == MPM_ERR_BAD_LIST) {
+    if (answer == MPM_ERR_BAD_IMAGE || answer == MPM_ERR_BAD_LIST || answer == MPM_ERR_BAD_VECTOR) {
         fail(save.path, mpm_answer_text(function, answer));
         exit(FAILED);
     }
@@ -105,7 +105,8 @@ static void welcome(int caller) {
 
 /* ---- Serving ---- */
 
-/* After a start every program is dead, so nobody holds anything: a new list, with the limits and users of the old. */
+/* After a start every program is dead, so nobody holds anything: a new list, with the limits and users of the old. The
+   vector was built when the book was opened. */
 static int begin(const char *path) {
     if (!save_open(&save, path)) return 0;
     const uint8_t *old = save.saved_list;
@@ -166,7 +167,7 @@ static int make_book(const char *path, const char *image_path) {
     if (!stream) return fail(image_path, "cannot be read");
     size_t length = fread(image, 1, sizeof image, stream);
     fclose(stream);
-    const struct mpm_book book = {mpm_kind_of(length), list, sizeof list, image, length};
+    const struct mpm_book book = {mpm_kind_of(length), list, sizeof list, image, length, 0, 0};
     if (book.kind == MPM_KINDS) return fail(image_path, "no drive has an image of this length");
     if (mpm_check(book.kind, image, length) != MPM_CHECK_SOUND) return fail(image_path, "the image is not sound");
     mpm_start(book.kind, CAPACITY, OPEN_LIMIT, LOCK_LIMIT, users, sizeof users, list, sizeof list);

@@ -172,9 +172,11 @@ int save_new(const char *path, const struct mpm_book *book) {
 
 static size_t records_of(const struct save *save) { return save->book.image_len / MPM_RECORD_LEN; }
 
+/* An image that is not sound has no vector: then every call is refused for the image, whatever the vector. */
 static void put_back(struct save *save) {
     memcpy(save->book.list, save->saved_list, save->book.list_len);
     memcpy(save->book.image, save->saved_image, save->book.image_len);
+    mpm_book_vector(&save->book);
 }
 
 /* Composes the change that makes what is saved into what is. Gives its length, 0 where nothing changed. */
@@ -283,11 +285,15 @@ static int take_head(struct save *save, const uint8_t *head) {
     if (book->list_len != MPM_LIST_LEN) return say(save->path, CANNOT_OPEN, "its list has another layout");
     book->list = malloc(book->list_len);
     book->image = malloc(book->image_len);
+    book->vector_len = mpm_vector_len(book->kind);
+    book->vector = malloc(book->vector_len);
     save->saved_list = malloc(book->list_len);
     save->saved_image = malloc(book->image_len);
     save->change = malloc(CHANGE_HEAD + book->list_len + records_of(save) * PART);
-    if (book->list && book->image && save->saved_list && save->saved_image && save->change) return 1;
-    return say(save->path, CANNOT_OPEN, "no memory");
+    if (!book->list || !book->image || !book->vector || !save->saved_list || !save->saved_image || !save->change)
+        return say(save->path, CANNOT_OPEN, "no memory");
+    memset(book->vector, 0, book->vector_len);
+    return 1;
 }
 
 static int read_base(struct save *save) {
@@ -368,6 +374,7 @@ int save_open(struct save *save, const char *path) {
 void save_close(struct save *save) {
     free(save->book.list);
     free(save->book.image);
+    free(save->book.vector);
     free(save->saved_list);
     free(save->saved_image);
     free(save->change);

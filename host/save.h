@@ -5,7 +5,8 @@
    has changed one of them since, each with a checksum of its own. A call is saved by one change at the end and one
    fsync, whatever the image's length. A change that was cut off is left out when the file is read: its call was never
    acknowledged. When the changes are longer than the base, a new base is written to PATH.new and renamed over the file.
-   PATH.lock is locked as long as the book is open, so that no second host opens it.
+   PATH.lock is locked as long as the book is open, so that no second host opens it. The allocation vector is not in the
+   file: it is built from the image when the book is opened, so that a file from before there was one is as good.
 
    Every function that fails says why in one line on standard error. */
 #ifndef SAVE_H
@@ -31,7 +32,8 @@ struct save {
 /* Makes the file of a new book. 0 if it cannot, or if there is such a file. */
 int save_new(const char *path, const struct mpm_book *book);
 
-/* Opens a book: gives it buffers and fills them from the file. 0 if it cannot; then there is nothing to close. */
+/* Opens a book: gives it buffers, fills list and image from the file and builds the vector, if the image is sound. 0 if
+   it cannot; then there is nothing to close. */
 int save_open(struct save *save, const char *path);
 
 /* Saves what calls have changed since it was last saved: 1 once it is on the disk. 0 if it cannot; then the book is

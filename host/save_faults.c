@@ -185,7 +185,7 @@ static void remove_files(void) {
 }
 
 static void make_book(void) {
-    struct mpm_book book = {MPM_KIND_SMALL, states[0].list, MPM_LIST_LEN, states[0].image, IMAGE_LEN};
+    struct mpm_book book = {MPM_KIND_SMALL, states[0].list, MPM_LIST_LEN, states[0].image, IMAGE_LEN, 0, 0};
     remove_files();
     how = NEVER;
     if (!save_new(book_path, &book)) exit(2);

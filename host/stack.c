@@ -12,7 +12,7 @@ enum { MOST = 16384, LONGEST = MPM_LARGE_MIN_BLOCKS * MPM_LARGE_BLOCK_LEN };
 size_t stack_of(void (*function)(void));
 
 static uint8_t fcb[MPM_FCB_LEN], dma[MPM_DMA_LEN], list[MPM_LIST_LEN], image[LONGEST], report[MPM_LARGE_ENTRIES];
-static uint8_t packed[LONGEST];
+static uint8_t packed[LONGEST], vector[MPM_LARGE_VECTOR_LEN];
 static const uint8_t users[MPM_USERS_LEN] = {0};
 static struct mpm_book book;
 static uint32_t function, process, count, answer;
@@ -25,6 +25,7 @@ static void check(void) { answer = mpm_check(book.kind, book.image, book.image_l
 static void look(void) {
     answer = mpm_look(book.kind, 0, fcb + MPM_FCB_NAME, MPM_NAME_LEN, 0, book.image, book.image_len) != 0 ? 0u : 1u;
 }
+static void build(void) { answer = mpm_book_vector(&book); }
 static void salvage(void) {
     answer = mpm_salvage(book.kind, book.image, book.image_len, report, mpm_entries(book.kind));
 }
@@ -35,7 +36,7 @@ static void same(void) { answer = mpm_same(book.kind, book.image, book.image_len
 static void call(void) { answer = mpm_book_call(&book, function, process, count, fcb, dma); }
 static void singly(void) {
     answer = mpm_singly(book.kind, function, process, count, fcb, sizeof fcb, dma, sizeof dma, book.list,
-                        book.list_len, book.image, book.image_len);
+                        book.list_len, book.image, book.image_len, book.vector, book.vector_len);
 }
 
 static int measure(const char *name, void (*job)(void)) {
@@ -67,10 +68,11 @@ static int measure_next(void) {
 
 /* The names of process 1's file: made, written, locked, read, and given up in each way. */
 static int measure_kind(uint32_t kind, size_t image_len) {
-    struct mpm_book fresh = {kind, list, sizeof list, image + sizeof image - image_len, image_len};
+    struct mpm_book fresh = {kind,      list,   sizeof list,         image + sizeof image - image_len,
+                             image_len, vector, mpm_vector_len(kind)};
     book = fresh;
     memset(book.image, MPM_EMPTY, image_len);
-    int good = measure("mpm_start", start) && measure("mpm_check", check);
+    int good = measure("mpm_start", start) && measure("mpm_check", check) && measure("mpm_vector", build);
     for_file(0, 0);
     good = good && measure_call("22 Make", MPM_FN_MAKE, 1, 1, call);
     for_file(0, 0);

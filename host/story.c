@@ -1,7 +1,8 @@
 /* The story of an order book. Clerks share the file ORDERS.DAT on one drive. One of them locks a long run of order
    lines and dies. Another is held up until the host takes back what the dead one held. A third reads a screen of
    sixteen lines in one call, and writes several in one call until it meets a line that is locked. At night the import
-   makes a work file and deletes it while it has it open, and a clerk lists the directory before and after.
+   makes a work file and deletes it while it has it open, and a clerk lists the directory before and after. A monitor
+   reads the free space from the allocation vector alone, whenever somebody asks the engine for it.
 
    story FOLDER [small|large]: makes FOLDER/ORDERS.BOOK (save.h) with a drive of that kind (small), plays the story on
    it and prints every step with its answer. The steps are the same on both, but for the numbers of lines that lie in a
@@ -26,12 +27,13 @@ enum { USER = 0, WRONG_USE = 2, PATH_LEN = 4096, WORDS_LEN = 46 };
 /* The answer where a line was refused after so many of the same call. */
 #define AFTER(lines, answer) ((answer) + MPM_ANSWER(0u, 16u * (lines)))
 
-/* The four buffers that are lent, in one struct to keep and compare them together. The image is the room's last bytes,
-   so that a sanitizer sees who passes its end. */
+/* The five buffers that are lent, in one struct to keep and compare them together. The vector and the image are the
+   last bytes of their rooms; of the image a sanitizer sees so who passes its end. */
 struct buffers {
     uint8_t fcb[MPM_FCB_LEN];
     uint8_t dma[MPM_DMA_LEN];
     uint8_t list[MPM_LIST_LEN];
+    uint8_t vector_room[MPM_LARGE_VECTOR_LEN];
     uint8_t room[ROOM];
 };
 
@@ -60,6 +62,13 @@ static uint32_t steps, faults;
 static size_t image_len(void) { return (size_t)blocks * mpm_block_len(kind); }
 
 static uint8_t *image_of(struct buffers *b) { return b->room + sizeof b->room - image_len(); }
+
+/* The vector as a drive of a kind has it; of an unknown kind none. */
+static uint8_t *vector_as(uint32_t as_kind, struct buffers *b) {
+    return b->vector_room + sizeof b->vector_room - mpm_vector_len(as_kind);
+}
+
+static uint8_t *vector_of(struct buffers *b) { return vector_as(kind, b); }
 
 /* The first line behind the morning's that lies in a new block. */
 static uint32_t new_line(void) {
@@ -154,7 +163,7 @@ static void print_head(void) {
 /* ---- Calls ---- */
 
 typedef uint32_t engine(uint32_t, uint32_t, uint32_t, uint32_t, uint8_t *, size_t, uint8_t *, size_t, uint8_t *,
-                        size_t, uint8_t *, size_t);
+                        size_t, uint8_t *, size_t, uint8_t *, size_t);
 
 static int wants_file_id(uint32_t function) { return function == MPM_FN_LOCK || function == MPM_FN_UNLOCK; }
 
@@ -200,9 +209,14 @@ static void fill_dma(const struct step *step) {
     }
 }
 
-static uint32_t lend(engine *to, uint32_t as_kind, const struct step *step, struct buffers *b) {
+/* Told as one kind, with the vector of another or of the same. */
+static uint32_t lend_as(engine *to, uint32_t as_kind, uint32_t of_kind, const struct step *step, struct buffers *b) {
     return to(as_kind, step->function, step->process, count_of(step), b->fcb, sizeof b->fcb, b->dma, sizeof b->dma,
-              b->list, sizeof b->list, image_of(b), image_len());
+              b->list, sizeof b->list, image_of(b), image_len(), vector_as(of_kind, b), mpm_vector_len(of_kind));
+}
+
+static uint32_t lend(engine *to, const struct step *step, struct buffers *b) {
+    return lend_as(to, kind, kind, step, b);
 }
 
 /* Where the line stands in the image; 0 where Look shows nothing. */
@@ -225,12 +239,18 @@ static void check_lines(void) {
     }
 }
 
-/* A book of one kind is never read as another: the call told so is refused, checks and looks tell nothing. */
+/* A book of one kind is never read as another: the call told so is refused, for its vector or, where that is as long as
+   the other kind's, for its image; checks and looks tell nothing. */
 static void check_as(uint32_t as_kind, const struct step *step) {
     uint32_t refusal = as_kind < MPM_KINDS ? MPM_ERR_BAD_IMAGE : MPM_ERR_BAD_CALL;
     told = now;
-    if (lend(mpm_call, as_kind, step, &told) != refusal) fault("a book told as another kind is taken");
+    for (uint32_t of_kind = 0; of_kind < MPM_KINDS; of_kind++) {
+        uint32_t due = of_kind == as_kind ? refusal : MPM_ERR_BAD_CALL;
+        if (lend_as(mpm_call, as_kind, of_kind, step, &told) != due) fault("a book told as another kind is taken");
+    }
     if (memcmp(&told, &now, sizeof now) != 0) fault("a book told as another kind has changed");
+    if (mpm_vector(as_kind, image_of(&now), image_len(), vector_as(as_kind, &told), mpm_vector_len(as_kind)) != refusal)
+        fault("a vector is built for another kind");
     if (mpm_check(as_kind, image_of(&now), image_len()) != MPM_CHECK_WRONG_LENGTH)
         fault("the check takes another kind");
     if (place_of(as_kind, 0) != 0) fault("Look takes another kind");
@@ -242,6 +262,24 @@ static void check_other_kinds(const struct step *step) {
     for (size_t i = 0; i < COUNT(unknown); i++) check_as(unknown[i], step);
 }
 
+/* A vector with one wrong bit, another at each step, is refused, and not mended. */
+static void check_wrong_vector(const struct step *step) {
+    uint32_t bit = 37u * steps % (8u * mpm_vector_len(kind));
+    told = now;
+    vector_of(&told)[bit / 8] ^= (uint8_t)(MPM_HIGH_BIT >> bit % 8);
+    singly = told;
+    if (lend(mpm_call, step, &told) != MPM_ERR_BAD_VECTOR) fault("a vector that disagrees is taken");
+    if (memcmp(&told, &singly, sizeof told) != 0) fault("a call with a vector that disagrees has changed something");
+}
+
+/* The vector is the one that is built from the image. */
+static void check_vector(void) {
+    uint8_t due[MPM_LARGE_VECTOR_LEN];
+    size_t length = mpm_vector_len(kind);
+    uint32_t answer = mpm_vector(kind, image_of(&now), image_len(), due, length);
+    if (answer != MPM_OK || memcmp(due, vector_of(&now), length) != 0) fault("the vector disagrees with the directory");
+}
+
 /* A refused line and those after it must leave no trace, lines done none but themselves. */
 static void check_trace(const struct step *step, uint32_t done) {
     size_t read = step->function == MPM_FN_READ ? MPM_DMA_AT(done) : 0;
@@ -250,6 +288,8 @@ static void check_trace(const struct step *step, uint32_t done) {
     if (memcmp(before.dma + read, now.dma + read, sizeof now.dma - read) != 0) fault("the DMA has changed");
     if (memcmp(before.list, now.list, sizeof now.list) != 0) fault("the list has changed");
     if (!written && memcmp(before.room, now.room, sizeof now.room) != 0) fault("the image has changed");
+    if (!written && memcmp(before.vector_room, now.vector_room, sizeof now.vector_room) != 0)
+        fault("the vector has changed");
 }
 
 /* A search must leave all as it was but the caller's position and, where it has found, one record in the DMA. */
@@ -265,11 +305,13 @@ static uint32_t call(const struct step *step) {
     fill_fcb(step);
     fill_dma(step);
     before = now;
-    singly = now;
+    check_wrong_vector(step);
     check_other_kinds(step);
-    uint32_t answer = lend(mpm_call, kind, step, &now);
+    singly = now;
+    uint32_t answer = lend(mpm_call, step, &now);
     uint32_t done = done_of(step, answer);
-    if (lend(mpm_singly, kind, step, &singly) != mpm_code(answer) || memcmp(&singly, &now, sizeof now) != 0)
+    check_vector();
+    if (lend(mpm_singly, step, &singly) != mpm_code(answer) || memcmp(&singly, &now, sizeof now) != 0)
         fault("single calls do otherwise");
     if (mpm_refused(step->function, answer) || goes_by_lines(step->function)) check_trace(step, done);
     if (searches(step->function)) check_search(step, answer);
@@ -291,10 +333,13 @@ static void show_file_id(const struct step *step) {
     expect_figure(file_id, step->file_id);
 }
 
+/* The monitor reads the same from the vector alone. */
 static void show_free_records(void) {
     uint32_t records = mpm_get(now.dma + MPM_DMA_FREE, 3);
-    printf(", %u records free\n", (unsigned)records);
+    uint32_t monitor = mpm_free_records(kind, image_len(), vector_of(&now));
+    printf(", %u records free; monitor: %u\n", (unsigned)records, (unsigned)monitor);
     expect_figure(records, free_records());
+    expect_figure(monitor, records);
 }
 
 static void show_size(void) {
@@ -405,7 +450,8 @@ static void show_list(const char *when, uint32_t expected) {
 /* ---- The book and its file ---- */
 
 static struct mpm_book book_of(struct buffers *b) {
-    struct mpm_book book = {kind, b->list, sizeof b->list, image_of(b), image_len()};
+    struct mpm_book book = {kind, b->list, sizeof b->list, image_of(b), image_len(), vector_of(b),
+                            mpm_vector_len(kind)};
     return book;
 }
 
@@ -426,6 +472,7 @@ static int read_again(const char *path) {
     int same_size = save.book.kind == kind && save.book.image_len == image_len();
     if (same_size) memcpy(now.list, save.book.list, sizeof now.list);
     if (same_size) memcpy(image_of(&now), save.book.image, image_len());
+    if (same_size) memcpy(vector_of(&now), save.book.vector, save.book.vector_len);
     save_close(&save);
     return same_size;
 }
@@ -441,10 +488,12 @@ static void check_book(const char *words) {
     if (memcmp(&before, &now, sizeof now) != 0) fault("the book read is not the book written");
 }
 
+/* The vector is not in the file: it is built when the book is read. */
 static int make_book(const char *path, const char *words) {
     struct mpm_book book = book_of(&now);
     before = now;
     if (!save_new(path, &book) || !read_again(path)) return 0;
+    memcpy(before.vector_room, now.vector_room, sizeof now.vector_room);
     check_book(words);
     return 1;
 }
@@ -478,6 +527,17 @@ static void look(uint32_t line) {
 }
 
 /* ---- The story ---- */
+
+/* Over what it was: it must come out the same. */
+static void build_vector(void) {
+    struct mpm_book book = book_of(&now);
+    memset(vector_of(&now), 0xFF, book.vector_len);
+    uint32_t answer = mpm_book_vector(&book);
+    print_answer_row("host", 0, "builds its allocation vector", answer);
+    printf("\n");
+    expect_answer(0, answer, MPM_OK);
+    if (memcmp(&before, &now, sizeof now) != 0) fault("this is another vector than that of the book read");
+}
 
 static void start_list(void) {
     static const uint8_t users[MPM_USERS_LEN]; /* every process is user 0 */
@@ -603,6 +663,7 @@ static int tell(const char *path) {
     memset(image_of(&now), MPM_EMPTY, image_len());
     snprintf(words, sizeof words, "makes ORDERS.BOOK of %u blocks; checks it", (unsigned)blocks);
     if (!make_book(path, words)) return 0;
+    build_vector();
     start_list();
     use_file(ORDERS, MPM_MODE_UNLOCKED);
     morning();

@@ -3,9 +3,10 @@
 # With the kit: mpm.h as C and as C++, its helpers; a host outside the repository, made with what install.sh installs;
 # the story on each kind of drive against expected.sh, and the story over bad engines, which it must not take for good
 # ones (the plain engine of a bad one is as bad, so that the two do not give each other away); the desk's program on
-# images damaged in each way, its sizes and lists of files, and over bad image checks, searches, salvages, packers and
-# comparisons; saving on a disk that fails and a machine that stops; the minimal host on a full disk, in a read-only
-# folder and killed 50 times. Beside the kit it wants pkg-config, python3 and, on x86-64, a C compiler.
+# images damaged in each way, its sizes, free space and lists of files, and over bad image checks, searches, vectors,
+# salvages, packers and comparisons; saving on a disk that fails and a machine that stops; the minimal host on a full
+# disk, in a read-only folder and killed 50 times. Beside the kit it wants pkg-config, python3 and, on x86-64, a C
+# compiler.
 # With ARCHIVE, an engine for this machine's own processor (of machine/native.sh, or the reference of
 # tests/pipe/exports): the header, the helpers, the story, the desk's program and saving with the system's compilers
 # (CC, CXX), under the sanitizers of addresses and undefined behaviour.
@@ -20,6 +21,7 @@ story=$work/story
 stub=$root/tests/pipe/stub.c
 spoiled=$root/fuzz/spoiled.c
 wrong_desk=$root/tests/pipe/wrong_desk.c
+wrong_vector=$root/tests/pipe/wrong_vector.c
 
 system_cc() { "${CC:-cc}" -I "$root/include" "$@"; }
 system_cxx() { "${CXX:-c++}" -I "$root/include" "$@"; }
@@ -83,6 +85,15 @@ sees_a_fault() { # SPOILED KIND
         fresh_book && ends_with 1 "$run" "$work/bad" "$work/book" "$2"
 }
 
+sees_a_bad_vector() { # WRONG KIND
+    kit_clang -std=c99 -O2 -fPIC -Dmpm_call=wrong_call -Dmpm_singly=wrong_singly -Dmpm_vector=wrong_vector \
+        -c "$here/story.c" -o "$work/bad.o" &&
+        kit_clang -std=c99 -O2 -fPIC -c "$here/save.c" -o "$work/save.o" &&
+        kit_clang -std=c99 -O2 -fPIC "${warnings[@]}" -DWRONG="$1" -c "$wrong_vector" -o "$work/wrong.o" &&
+        kit_link "$work/bad" "$work/bad.o" "$work/save.o" "$work/wrong.o" "$archive" &&
+        fresh_book && ends_with 1 "$run" "$work/bad" "$work/book" "$2"
+}
+
 try_the_story() { # RUN..
     try "the story on a small drive" tells_the_story small "$@"
     try "the story on a large drive" tells_the_story large "$@"
@@ -102,6 +113,13 @@ sees_a_bad_answer() { # SPOILED
     kit_clang -std=c99 -O2 -fPIC -Dmpm_check=spoiled_check -Dmpm_call=spoiled_call -c "$here/book.c" -o "$work/bad.o" &&
         kit_clang -std=c99 -O2 -fPIC "${warnings[@]}" -DSPOILED="$1" -c "$spoiled" -o "$work/spoiled.o" &&
         kit_link "$work/bad" "$work/bad.o" "$work/spoiled.o" "$archive" &&
+        ends_with 1 says_what_is_bad "$run" "$work/bad"
+}
+
+sees_a_bad_free_space() { # WRONG
+    kit_clang -std=c99 -O2 -fPIC -Dmpm_vector=wrong_vector -c "$here/book.c" -o "$work/bad.o" &&
+        kit_clang -std=c99 -O2 -fPIC "${warnings[@]}" -DWRONG="$1" -c "$wrong_vector" -o "$work/wrong.o" &&
+        kit_link "$work/bad" "$work/bad.o" "$work/wrong.o" "$archive" &&
         ends_with 1 says_what_is_bad "$run" "$work/bad"
 }
 
@@ -222,6 +240,12 @@ with_the_kit() {
     try "numbers of two bytes read as twice as many of one are seen" sees_a_fault SIXTEEN_NUMBERS large
     try "a large drive's free space with eight to a block is seen" sees_a_fault FREE_BY_EIGHT large
     try "a large block of which half is cleared is seen" sees_a_fault CLEARS_SEVEN large
+    try "a vector with the low bit first is seen" sees_a_bad_vector LOW_BIT_FIRST small
+    try "a vector with bits past the drive is seen" sees_a_bad_vector SETS_BITS_FROM_N_ON large
+    try "a Delete that leaves a bit is seen" sees_a_bad_vector DELETE_LEAVES_A_BIT small
+    try "a write that sets another bit is seen" sees_a_bad_vector WRITE_SETS_ANOTHER_BIT large
+    try "a vector that disagrees and is taken is seen" sees_a_bad_vector NOT_JUDGED small
+    try "a vector that is mended where it is refused is seen" sees_a_bad_vector REFUSAL_MENDS_IT large
     try "an unknown kind taken as large is seen" sees_a_fault UNKNOWN_AS_LARGE small
     try ".. on a large drive" sees_a_fault UNKNOWN_AS_LARGE large
     "$build" "$here/book.c" "$work/book-program"
@@ -239,6 +263,8 @@ with_the_kit() {
     try "a list without marks in the first byte is seen" sees_a_bad_answer NO_FIRST_MARK
     try "a list by another directory record is seen" sees_a_bad_answer NEXT_RECORD
     try "a list by ex alone is seen" sees_a_bad_answer EX_ALONE
+    try "free space by a vector with the low bit first is seen" sees_a_bad_free_space LOW_BIT_FIRST
+    try "free space by a vector without the directory is seen" sees_a_bad_free_space FORGETS_THE_DIRECTORY
     try "a salvage that does nothing is seen" sees_a_bad_desk DOES_NOTHING
     try "a salvage whose report is one entry off is seen" sees_a_bad_desk REPORT_ONE_OFF
     try "a salvage that changes byte 1 too is seen" sees_a_bad_desk BYTE_1_TOO

@@ -18,7 +18,8 @@ int save_book(struct save *save);
 uint32_t wrong_start(uint32_t kind, uint32_t capacity, uint32_t open_limit, uint32_t lock_limit, const uint8_t *users,
                      size_t users_len, uint8_t *list, size_t list_len);
 uint32_t wrong_call(uint32_t kind, uint32_t function, uint32_t process, uint32_t count, uint8_t *fcb, size_t fcb_len,
-                    uint8_t *dma, size_t dma_len, uint8_t *list, size_t list_len, uint8_t *image, size_t image_len);
+                    uint8_t *dma, size_t dma_len, uint8_t *list, size_t list_len, uint8_t *image, size_t image_len,
+                    uint8_t *vector, size_t vector_len);
 
 static int save_in_place(struct save *save) {
     if (compose_change(save) == 0) return 1;
@@ -59,7 +60,9 @@ uint32_t wrong_start(uint32_t kind, uint32_t capacity, uint32_t open_limit, uint
 }
 
 uint32_t wrong_call(uint32_t kind, uint32_t function, uint32_t process, uint32_t count, uint8_t *fcb, size_t fcb_len,
-                    uint8_t *dma, size_t dma_len, uint8_t *list, size_t list_len, uint8_t *image, size_t image_len) {
+                    uint8_t *dma, size_t dma_len, uint8_t *list, size_t list_len, uint8_t *image, size_t image_len,
+                    uint8_t *vector, size_t vector_len) {
     if (WRONG == NO_END && function == MPM_FN_TERMINATE) return MPM_OK;
-    return mpm_call(kind, function, process, count, fcb, fcb_len, dma, dma_len, list, list_len, image, image_len);
+    return mpm_call(kind, function, process, count, fcb, fcb_len, dma, dma_len, list, list_len, image, image_len,
+                    vector, vector_len);
 }

@@ -1,7 +1,8 @@
 /* The engine's C interface: the files of MP/M II programs, on one drive that sixteen processes share.
 
-   The engine is eight functions on numbers and lent bytes. It keeps nothing between two calls: the drive is the bytes
-   of the image, who has opened and locked what is the bytes of the list, and both are the host's.
+   The engine is nine functions on numbers and lent bytes. It keeps nothing between two calls: the drive is the bytes of
+   the image, who has opened and locked what is the bytes of the list, which blocks are used the bits of the vector, and
+   all three are the host's.
 
    A drive is of one of two kinds, small or large. Nothing in the image says which: every function is told, and an image
    of one kind is never read as the other, since no length is one of both.
@@ -18,7 +19,7 @@
    - Each pointer is valid for the length given with it. With a length of 0 it may be any pointer.
    - The buffers of one call do not overlap, and nobody else uses them until it returns.
 
-   Below stand the eight functions and a book in one struct, then by name the sixteen calls, the answers, the sizes and
+   Below stand the nine functions and a book in one struct, then by name the sixteen calls, the answers, the sizes and
    the places in the buffers, and last the few helpers that every host writes. docs/INTEGRATION.md tells the rest. */
 #ifndef MPM_H
 #define MPM_H
@@ -34,10 +35,12 @@ extern "C" {
    DMA has 2,048 bytes; since 3 the first parameter of every function is the kind of drive; since 4 functions have names
    that begin with MPM_FN_, refusals with MPM_ERR_ and the image check's answers with MPM_CHECK_; since 5 the image
    check tells the lowest bad entry and why; since 6 the list has 1,315 bytes, and 0/0 is not the only answer of a call
-   that was accepted. With 4 and 5 no length and no parameter moved: an archive of 3 serves a host of 4, and to one of 5
-   it tells 2 of entry 0 for every directory that is not sound. A list of 1,299 bytes becomes one of 1,315 with sixteen
-   bytes behind it that are the number of entries, mpm_entries; to an engine of 6 as it is, it is 255/13. */
-#define MPM_VERSION 6u
+   that was accepted; since 7 mpm_call and mpm_singly take an allocation vector behind the image. With 4 and 5 no length
+   and no parameter moved: an archive of 3 serves a host of 4, and to one of 5 it tells 2 of entry 0 for every directory
+   that is not sound. A list of 1,299 bytes becomes one of 1,315 with sixteen bytes behind it that are the number of
+   entries, mpm_entries; to an engine of 6 as it is, it is 255/13. A book that has no vector gets one from mpm_vector:
+   image and list stay as they are, and nobody has to let go of anything. */
+#define MPM_VERSION 7u
 
 /* ---- The lengths of the buffers, in bytes ---- */
 
@@ -51,20 +54,23 @@ extern "C" {
 
 /* One call of an MP/M II program. Gives A + 256 H.
    Numbers are taken as they come, never cut to a byte: kind 256 and function 271 are unknown. Count must be 1 to 16 for
-   all functions; 33, 34, 40, 42 and 43 use it, the others do their work once. The lengths must be 36, 2,048, 1,315 and
-   one that a drive of the kind has. A refusal leaves all four buffers as they were (mpm_refused), but for the records
-   that a 33, 34 or 40 has done (mpm_done). The FCB's record number is not moved on, and DMA bytes past the records done
-   stay. A file is a name and the user that the list gives the process. */
+   all functions; 33, 34, 40, 42 and 43 use it, the others do their work once. The lengths must be 36, 2,048, 1,315, one
+   that a drive of the kind has, and 32 or 512 by the kind (mpm_vector_len). The vector must agree with the directory,
+   and does so again after every call that was not refused. A refusal leaves all five buffers as they were
+   (mpm_refused), but for the records that a 33, 34 or 40 has done (mpm_done). The FCB's record number is not moved on,
+   and DMA bytes past the records done stay. A file is a name and the user that the list gives the process. */
 uint32_t mpm_call(uint32_t kind, uint32_t function, uint32_t process, uint32_t count,
                   uint8_t *fcb, size_t fcb_len, uint8_t *dma, size_t dma_len,
-                  uint8_t *list, size_t list_len, uint8_t *image, size_t image_len);
+                  uint8_t *list, size_t list_len, uint8_t *image, size_t image_len,
+                  uint8_t *vector, size_t vector_len);
 
 /* The plain engine, slower and kept to compare with: a 33, 34 or 40 is made as single calls one after another, up to
    the first that is refused. Its answer is that of the last single call, so it tells no number of records done:
-   mpm_code of mpm_call's answer, with the same bytes in all four buffers. Every other function as mpm_call does it. */
+   mpm_code of mpm_call's answer, with the same bytes in all five buffers. Every other function as mpm_call does it. */
 uint32_t mpm_singly(uint32_t kind, uint32_t function, uint32_t process, uint32_t count,
                     uint8_t *fcb, size_t fcb_len, uint8_t *dma, size_t dma_len,
-                    uint8_t *list, size_t list_len, uint8_t *image, size_t image_len);
+                    uint8_t *list, size_t list_len, uint8_t *image, size_t image_len,
+                  uint8_t *vector, size_t vector_len);
 
 /* Writes a fresh list for a drive of the kind: MPM_OK, whatever the list held before. Or MPM_ERR_BAD_CALL and the list
    as it was, where the kind is unknown, one of the three numbers is not 1 to 64, a user is not 0 to 15, users_len is
@@ -75,6 +81,13 @@ uint32_t mpm_start(uint32_t kind, uint32_t capacity, uint32_t open_limit, uint32
 /* Checks an image of the kind. Gives code + 256 entry: MPM_CHECK_SOUND or MPM_CHECK_WRONG_LENGTH, both of entry 0, or
    the lowest bad entry of the directory and why it is bad. Changes nothing. */
 uint32_t mpm_check(uint32_t kind, const uint8_t *image, size_t image_len);
+
+/* Builds the allocation vector of an image of the kind, whatever the vector held before: a bit for each block, the high
+   one of byte 0 for block 0, set where a file uses the block or the directory lies there, clear from the number of
+   blocks on. For a book that is begun or loaded, and after mpm_salvage and mpm_pack.
+   Gives A + 256 H: MPM_OK; or, in this order, MPM_ERR_BAD_CALL where the kind is unknown or vector_len is not
+   mpm_vector_len(kind), or MPM_ERR_BAD_IMAGE; and then the vector is as it was. */
+uint32_t mpm_vector(uint32_t kind, const uint8_t *image, size_t image_len, uint8_t *vector, size_t vector_len);
 
 /* Tells where the 128 bytes of a record begin in the image, for screens. They lie inside the image and behind the
    directory. Gives 0 where there is nothing to show: the kind is unknown, the image not sound as one of the kind, the
@@ -116,24 +129,32 @@ uint32_t mpm_same(uint32_t kind, const uint8_t *first, size_t first_len, const u
 
 /* ---- A book in one struct ---- */
 
-/* The buffers of a book that outlive a call. They belong together: a list fits the image that it was used with. Buffers
-   of later versions join at the end: fill the struct with zeros before its members, and a missing one is refused. */
+/* The buffers of a book that outlive a call. They belong together: a list and a vector fit the image that they were
+   used with. Buffers of later versions join at the end: fill the struct with zeros before its members, and a missing
+   one is refused. */
 struct mpm_book {
     uint32_t kind;
     uint8_t *list;
     size_t list_len;
     uint8_t *image;
     size_t image_len;
+    uint8_t *vector;
+    size_t vector_len;
 };
 
 /* mpm_call on a book, with an FCB of 36 bytes and a DMA of 2,048. */
 static inline uint32_t mpm_book_call(struct mpm_book *book, uint32_t function, uint32_t process, uint32_t count,
                                      uint8_t *fcb, uint8_t *dma) {
     return mpm_call(book->kind, function, process, count, fcb, MPM_FCB_LEN, dma, MPM_DMA_LEN, book->list,
-                    book->list_len, book->image, book->image_len);
+                    book->list_len, book->image, book->image_len, book->vector, book->vector_len);
 }
 
-/* ---- Functions of mpm_call. After each, its refusals in the order tested, behind the four that come first ---- */
+/* mpm_vector on a book. */
+static inline uint32_t mpm_book_vector(struct mpm_book *book) {
+    return mpm_vector(book->kind, book->image, book->image_len, book->vector, book->vector_len);
+}
+
+/* ---- Functions of mpm_call. After each, its refusals in the order tested, behind the five that come first ---- */
 
 /* 33, 34 and 40 do count records from the FCB's on, in rising order, and stop at the first that is refused. */
 
@@ -195,7 +216,7 @@ static inline uint32_t mpm_book_call(struct mpm_book *book, uint32_t function, u
    own. */
 #define MPM_FN_TERMINATE 143u
 
-/* ---- Answers of calls, mpm_start and mpm_pack: A + 256 H. After each A/H, which function gives it when ---- */
+/* ---- Answers of calls, mpm_start, mpm_vector and mpm_pack: A + 256 H. After each A/H, who gives it when ---- */
 
 #define MPM_ANSWER(a, h) ((a) + 256u * (h))
 
@@ -232,14 +253,17 @@ static inline int mpm_refused(uint32_t function, uint32_t answer) {
 }
 
 /* Tested first, in this order, before any record.
-   255/13: unknown kind of drive, unknown function, process over 15, count outside 1 to 16, FCB, DMA or list of wrong
-           length; start: unknown kind, a number or a user out of range, users or list of wrong length; pack: unknown
-           kind, list of wrong length, second buffer of another length than the image */
+   255/13: unknown kind of drive, unknown function, process over 15, count outside 1 to 16, FCB, DMA, list or vector of
+           wrong length; start: unknown kind, a number or a user out of range, users or list of wrong length; vector:
+           unknown kind, vector of wrong length; pack: unknown kind, list of wrong length, second buffer of another
+           length than the image */
 #define MPM_ERR_BAD_CALL MPM_ANSWER(255u, 13u)
 /* 255/1: image not sound, as one of the told kind; a length that this kind does not have, too */
 #define MPM_ERR_BAD_IMAGE MPM_ANSWER(255u, 1u)
 /* 255/12: list not sound */
 #define MPM_ERR_BAD_LIST MPM_ANSWER(255u, 12u)
+/* 255/14: vector not that of the image, in any of its bits */
+#define MPM_ERR_BAD_VECTOR MPM_ANSWER(255u, 14u)
 /* 255/4: FCB byte 0 is neither 0 nor 1; not for 46 and 143 */
 #define MPM_ERR_BAD_DRIVE MPM_ANSWER(255u, 4u)
 
@@ -356,8 +380,9 @@ static inline uint32_t mpm_check_entry(uint32_t check) { return check / 256u; }
 #define MPM_SMALL_MIN_BLOCKS 3u
 #define MPM_SMALL_MAX_BLOCKS 256u
 #define MPM_SMALL_ENTRIES 64u
-#define MPM_SMALL_NUMBERS 16u   /* block numbers in an entry */
-#define MPM_SMALL_NUMBER_LEN 1u /* bytes of a block number */
+#define MPM_SMALL_NUMBERS 16u    /* block numbers in an entry */
+#define MPM_SMALL_NUMBER_LEN 1u  /* bytes of a block number */
+#define MPM_SMALL_VECTOR_LEN 32u /* the allocation vector, for every number of blocks */
 
 /* The large kind: 257 to 4,096 blocks of 2,048 bytes, block numbers of two bytes, low byte first. The directory can
    name 1,024 blocks; of a longer drive the rest stays free. */
@@ -368,6 +393,7 @@ static inline uint32_t mpm_check_entry(uint32_t check) { return check / 256u; }
 #define MPM_LARGE_ENTRIES 128u
 #define MPM_LARGE_NUMBERS 8u
 #define MPM_LARGE_NUMBER_LEN 2u
+#define MPM_LARGE_VECTOR_LEN 512u
 
 /* The same by the kind's number. 0 for an unknown kind. */
 static inline uint32_t mpm_of_kind(uint32_t kind, uint32_t of_small, uint32_t of_large) {
@@ -395,6 +421,10 @@ static inline uint32_t mpm_entries(uint32_t kind) { return mpm_of_kind(kind, MPM
 
 static inline uint32_t mpm_numbers(uint32_t kind) { return mpm_of_kind(kind, MPM_SMALL_NUMBERS, MPM_LARGE_NUMBERS); }
 
+static inline uint32_t mpm_vector_len(uint32_t kind) {
+    return mpm_of_kind(kind, MPM_SMALL_VECTOR_LEN, MPM_LARGE_VECTOR_LEN);
+}
+
 /* How many blocks an image of this length has. 0 where no drive of the kind is so long: then calls answer 255/1. */
 static inline uint32_t mpm_blocks(uint32_t kind, size_t image_len) {
     size_t block_len = mpm_block_len(kind);
@@ -408,6 +438,19 @@ static inline uint32_t mpm_kind_of(size_t image_len) {
     uint32_t kind = 0u;
     while (kind < MPM_KINDS && mpm_blocks(kind, image_len) == 0u) kind++;
     return kind;
+}
+
+/* Whether a block is used, by a vector that has a bit for it. */
+static inline int mpm_block_used(const uint8_t *vector, uint32_t block) {
+    return (((uint32_t)vector[block / 8u] >> (7u - block % 8u)) & 1u) != 0u;
+}
+
+/* The number of free records, by the vector of an image of this length: what 46 tells. For a monitor, which reads
+   neither the directory nor the list. 0 where no drive of the kind is so long. */
+static inline uint32_t mpm_free_records(uint32_t kind, size_t image_len, const uint8_t *vector) {
+    uint32_t blocks = mpm_blocks(kind, image_len), free_blocks = 0u, block;
+    for (block = 0u; block < blocks; block++) free_blocks += mpm_block_used(vector, block) ? 0u : 1u;
+    return free_blocks * mpm_block_records(kind);
 }
 
 /* The list has 64 places, of which it uses those below its capacity. */
@@ -624,6 +667,7 @@ static inline uint32_t mpm_set_search(uint8_t *fcb, const char *text, int all_ex
     OF(MPM_ERR_BAD_CALL, "The host's call is wrong: its kind, function, process, count or a buffer's length.")         \
     OF(MPM_ERR_BAD_IMAGE, "The drive's image is damaged, or is none of this kind of drive.")                           \
     OF(MPM_ERR_BAD_LIST, "The lock list is damaged, or is not the one that belongs to this image.")                    \
+    OF(MPM_ERR_BAD_VECTOR, "The allocation vector is not that of this image.")                                         \
     OF(MPM_ERR_BAD_DRIVE, "There is no such drive.")                                                                   \
     OF(MPM_ERR_NOT_FOUND, "There is no such file.")                                                                    \
     OF(MPM_ERR_READ_ONLY, "The file is read-only, or this program has opened it so.")                                  \
@@ -646,7 +690,8 @@ static inline uint32_t mpm_set_search(uint8_t *fcb, const char *text, int all_ex
     OF(MPM_ERR_LOCK_LIST_FULL, "The lock list is full: there is no room for these locks.")
 
 /* The name of an answer and one plain sentence for it, whatever number of records it tells. The function is asked for
-   since Make's 255/0 is another than Open's and 1/0 of a search is no refusal; for mpm_start and mpm_pack it is 0. */
+   since Make's 255/0 is another than Open's and 1/0 of a search is no refusal; for mpm_start, mpm_vector and mpm_pack
+   it is 0. */
 static inline const char *mpm_answer_name(uint32_t function, uint32_t answer) {
     if (function == MPM_FN_MAKE && answer == MPM_ERR_NO_EMPTY_ENTRY) return "MPM_ERR_NO_EMPTY_ENTRY";
     if ((function == MPM_FN_SEARCH_FIRST || function == MPM_FN_SEARCH_NEXT) && !mpm_refused(function, answer))

@@ -1,5 +1,5 @@
 #!/usr/bin/env bash
-# Compares the archive that ships with the second program over a pipe: the answer and every byte of the four buffers, of
+# Compares the archive that ships with the second program over a pipe: the answer and every byte of the five buffers, of
 # mpm_call and of the same call made by mpm_singly.
 # engine.sh [COMPARE OPTIONS]: 200,000 calls with seed 1 unless said, as in `tests/engine.sh --seed 7 --seconds 600`.
 set -euo pipefail

@@ -6,9 +6,9 @@ mod engines;
 mod report;
 
 use crate::books::{Book, Call, Drive, Filling, BY_RECORDS, FUNCTIONS, MOST};
-use crate::measure::{all_calls, book, stack, Shelf, Trial, BOOKS};
+use crate::measure::{all_calls, book, stack, Outcome, Shelf, Trial, BOOKS};
 use crate::shelves;
-use engines::{kinds_before, Version, BEFORE, BOTH, NOW};
+use engines::{keeps_vectors_before, kinds_before, Version, BEFORE, BOTH, NOW};
 use std::path::Path;
 
 /// What is done on the books of a shelf.
@@ -81,9 +81,20 @@ fn is_known(trial: &mut Trial, call: &Call) -> bool {
     trial.outcome(BEFORE, call).0 != BAD_CALL
 }
 
+/// What both can be asked for: an engine from before there was a vector leaves it as it was.
+fn shared((answer, mut left): Outcome) -> Outcome {
+    if !keeps_vectors_before() {
+        left[5].clear();
+    }
+    (answer, left)
+}
+
 /// The same answer and the same bytes after it, of single calls too.
 fn is_done_alike(trial: &mut Trial, call: &Call) -> bool {
-    let mut same = |[before, now]: Both<Version>| trial.outcome(before, call) == trial.outcome(now, call);
+    let mut same = |versions: Both<Version>| {
+        let [before, now] = versions.map(|version| shared(trial.outcome(version, call)));
+        before == now
+    };
     same(BOTH) && same(BOTH.map(Version::plain_side))
 }
 

@@ -1,6 +1,7 @@
 //! The books that calls are timed on, and the call of each function on them.
 
 use compare::build::{lock_item, open_item, put_entry, put_item, Entry, Fcb, LIST, POSITIONS};
+use compare::faults::vector_of;
 use compare::random::Random;
 use reference::calls::DMA_LENGTH;
 use reference::kind::{Kind, ENTRY};
@@ -150,6 +151,7 @@ pub struct Book {
     pub kind: Kind,
     pub list: Vec<u8>,
     pub image: Vec<u8>,
+    pub vector: Vec<u8>,
     names: Vec<[u8; 11]>,
     /// How many records of the file with the locks have a block, from record 0 on.
     records: u32,
@@ -190,10 +192,12 @@ pub fn book(filling: Filling, drive: Drive, random: &mut Random) -> Book {
     let owners = owners(filling, drive);
     let order = order(filling, drive, owners.len(), random);
     let records = records(drive.kind, &owners);
+    let image = image(drive, &names, &owners, &order, random);
     Book {
         kind: drive.kind,
         list: list(filling, drive.kind, &names, records),
-        image: image(drive, &names, &owners, &order, random),
+        vector: vector_of(drive.kind, &image),
+        image,
         names,
         records,
     }

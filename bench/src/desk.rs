@@ -9,6 +9,7 @@ use compare::desk::linked::by_linked;
 use compare::desk::packs::{fresh_list, packed_once};
 use compare::desk::What;
 use compare::engine::Engine;
+use compare::faults::vector_of;
 use compare::linked::Linked;
 use reference::calls::{Buffers, Numbers, DMA_LENGTH};
 use reference::kind::Kind;
@@ -195,7 +196,7 @@ fn salvages(kind: Kind, rounds: usize) -> Vec<Row> {
 
 // ---- Packing ----
 
-/// The image check and the list check, as a call makes them that does nothing else: 143 of a process that holds
+/// The checks of image, list and vector, as a call makes them that does nothing else: 143 of a process that holds
 /// nothing.
 fn both_checks(drive: Drive, books: &[Vec<u8>], list: &[u8], rounds: usize) -> f64 {
     let numbers = Numbers {
@@ -205,15 +206,18 @@ fn both_checks(drive: Drive, books: &[Vec<u8>], list: &[u8], rounds: usize) -> f
         count: 1,
     };
     let (mut fcb, mut dma, mut list) = (vec![0; 36], vec![0; DMA_LENGTH], list.to_vec());
+    let with_vector = |image: &Vec<u8>| (image.clone(), vector_of(drive.kind, image));
+    let fresh: Vec<(Vec<u8>, Vec<u8>)> = books.iter().map(with_vector).collect();
     quickest(
         rounds,
-        || books.to_vec(),
-        |image| {
+        || fresh.clone(),
+        |(image, vector)| {
             let buffers = Buffers {
                 fcb: &mut fcb,
                 dma: &mut dma,
                 list: &mut list,
                 image,
+                vector,
             };
             assert_eq!(
                 std::hint::black_box(Linked.call(numbers, buffers)),

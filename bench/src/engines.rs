@@ -1,6 +1,6 @@
 //! The three that are timed and the engine's plain side, called in one way.
 
-use crate::books::Call;
+use crate::books::{Book, Call};
 use compare::engine::{Engine, Reference};
 use compare::linked::Linked;
 use reference::calls::{Buffers, Numbers};
@@ -11,6 +11,8 @@ pub type CCall = unsafe extern "C" fn(
     u32,
     u32,
     u32,
+    *mut u8,
+    usize,
     *mut u8,
     usize,
     *mut u8,
@@ -35,12 +37,14 @@ extern "C" {
         list_len: usize,
         image: *mut u8,
         image_len: usize,
+        vector: *mut u8,
+        vector_len: usize,
     ) -> u32;
 }
 
-/// What is timed: it answers a call on a list and an image.
+/// What is timed: it answers a call on a book.
 pub trait Timed: Copy {
-    fn answer(self, call: &mut Call, list: &mut [u8], image: &mut [u8]) -> u32;
+    fn answer(self, call: &mut Call, book: &mut Book) -> u32;
 }
 
 #[derive(Clone, Copy)]
@@ -55,13 +59,13 @@ pub enum Who {
 pub const THREE: [Who; 3] = [Who::Engine, Who::Plain, Who::Reference];
 
 impl Timed for Who {
-    fn answer(self, call: &mut Call, list: &mut [u8], image: &mut [u8]) -> u32 {
+    fn answer(self, call: &mut Call, book: &mut Book) -> u32 {
         match self {
-            Who::Engine => Linked.call(numbers(call), buffers(call, list, image)),
-            Who::Plain => through(plain_call, call, list, image),
-            Who::Reference => Reference::default().call(numbers(call), buffers(call, list, image)),
+            Who::Engine => Linked.call(numbers(call), buffers(call, book)),
+            Who::Plain => through(plain_call, call, book),
+            Who::Reference => Reference::default().call(numbers(call), buffers(call, book)),
             Who::Singly => Linked
-                .singly(numbers(call), buffers(call, list, image))
+                .singly(numbers(call), buffers(call, book))
                 .expect("the engine has a plain side"),
         }
     }
@@ -76,16 +80,17 @@ fn numbers(call: &Call) -> Numbers {
     }
 }
 
-fn buffers<'a>(call: &'a mut Call, list: &'a mut [u8], image: &'a mut [u8]) -> Buffers<'a> {
+fn buffers<'a>(call: &'a mut Call, book: &'a mut Book) -> Buffers<'a> {
     Buffers {
         fcb: &mut call.fcb,
         dma: &mut call.dma,
-        list,
-        image,
+        list: &mut book.list,
+        image: &mut book.image,
+        vector: &mut book.vector,
     }
 }
 
-pub fn through(function: CCall, call: &mut Call, list: &mut [u8], image: &mut [u8]) -> u32 {
+pub fn through(function: CCall, call: &mut Call, book: &mut Book) -> u32 {
     // SAFETY: each pointer comes with the length of the slice it is taken from, and the slices are separate.
     unsafe {
         function(
@@ -97,10 +102,12 @@ pub fn through(function: CCall, call: &mut Call, list: &mut [u8], image: &mut [u
             call.fcb.len(),
             call.dma.as_mut_ptr(),
             call.dma.len(),
-            list.as_mut_ptr(),
-            list.len(),
-            image.as_mut_ptr(),
-            image.len(),
+            book.list.as_mut_ptr(),
+            book.list.len(),
+            book.image.as_mut_ptr(),
+            book.image.len(),
+            book.vector.as_mut_ptr(),
+            book.vector.len(),
         )
     }
 }

@@ -47,9 +47,10 @@ pub struct Shelf {
     fresh: Vec<Fresh>,
 }
 
-/// A book's list and parts of its image, as they were.
+/// A book's list, its vector and parts of its image, as they were.
 struct Fresh {
     list: Vec<u8>,
+    vector: Vec<u8>,
     parts: Vec<(Range<usize>, Vec<u8>)>,
 }
 
@@ -58,12 +59,14 @@ impl Fresh {
         let bytes = |part: Range<usize>| (part.clone(), book.image[part].to_vec());
         Fresh {
             list: book.list.clone(),
+            vector: book.vector.clone(),
             parts: parts.into_iter().map(bytes).collect(),
         }
     }
 
     fn restore(&self, book: &mut Book) {
         book.list.copy_from_slice(&self.list);
+        book.vector.copy_from_slice(&self.vector);
         for (part, bytes) in &self.parts {
             book.image[part.clone()].copy_from_slice(bytes);
         }
@@ -183,7 +186,7 @@ impl Shelf {
         self.restore();
         let began = Instant::now();
         for (call, book) in calls.iter_mut().zip(&mut self.books) {
-            std::hint::black_box(who.answer(call, &mut book.list, &mut book.image));
+            std::hint::black_box(who.answer(call, book));
         }
         began.elapsed().as_nanos() as f64 / BOOKS as f64
     }
@@ -205,7 +208,7 @@ impl Shelf {
         self.restore();
         let (mut book, mut call) = (self.books[0].clone(), call.clone());
         stack(move || {
-            who.answer(&mut call, &mut book.list, &mut book.image);
+            who.answer(&mut call, &mut book);
         })
     }
 }
@@ -227,8 +230,9 @@ fn only(answers: impl Iterator<Item = u32>) -> u32 {
 
 // ---- What calls leave ----
 
-/// The answer to a call, and what it leaves: FCB, DMA, list, directory and the blocks of the file that it names.
-pub type Outcome = (u32, [Vec<u8>; 5]);
+/// The answer to a call, and what it leaves: FCB, DMA, list, directory, the blocks of the file that it names, and the
+/// vector.
+pub type Outcome = (u32, [Vec<u8>; 6]);
 
 /// A copy of a book for many calls. What a call may change is compared and put back after it; what it may not, once
 /// behind all of them, since a large drive is long.
@@ -247,12 +251,13 @@ impl<'a> Trial<'a> {
 
     pub fn outcome(&mut self, who: impl Timed, call: &Call) -> Outcome {
         let mut call = call.clone();
-        let answer = who.answer(&mut call, &mut self.used.list, &mut self.used.image);
+        let answer = who.answer(&mut call, &mut self.used);
         let parts = self.parts(&call);
         let bytes = |part: &Range<usize>| &self.used.image[part.clone()];
         let blocks: Vec<u8> = parts.iter().flat_map(bytes).copied().collect();
         let directory = self.used.image[self.used.directory()].to_vec();
-        let left = [call.fcb, call.dma, self.used.list.clone(), directory, blocks];
+        let (list, vector) = (self.used.list.clone(), self.used.vector.clone());
+        let left = [call.fcb, call.dma, list, directory, blocks, vector];
         self.restore(parts);
         (answer, left)
     }
@@ -271,7 +276,9 @@ impl<'a> Trial<'a> {
 
     /// No call has changed what none may.
     pub fn is_whole(&self) -> bool {
-        self.used.list == self.book.list && self.used.image == self.book.image
+        self.used.list == self.book.list
+            && self.used.image == self.book.image
+            && self.used.vector == self.book.vector
     }
 
     fn agreed_answer(&mut self, call: &Call) -> u32 {

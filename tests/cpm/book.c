@@ -5,7 +5,7 @@
    has user 0, process 1 user 1 and so on: a command's user is its process too.
 
      check                             prints what the image check answers: sound, wrong length, or code and entry
-     free                              prints the number of free records (46)
+     free                              prints the number of free records (46); the allocation vector must tell the same
      make USER NAME                    22
      open USER NAME                    15, locked
      close USER NAME                   16
@@ -43,6 +43,7 @@ struct command {
 static uint8_t fcb[MPM_FCB_LEN];
 static uint8_t dma[MPM_DMA_LEN];
 static uint8_t list[MPM_LIST_LEN];
+static uint8_t vector[MPM_LARGE_VECTOR_LEN];
 static uint8_t image[ROOM], loaded[ROOM], bytes[ROOM];
 static size_t image_len;
 static uint32_t kind;
@@ -112,7 +113,8 @@ static void fill_fcb(const uint8_t *name, uint32_t record) {
 }
 
 static uint32_t call_for(uint32_t function, uint32_t user, uint32_t count) {
-    return mpm_call(kind, function, user, count, fcb, sizeof fcb, dma, sizeof dma, list, sizeof list, image, image_len);
+    return mpm_call(kind, function, user, count, fcb, sizeof fcb, dma, sizeof dma, list, sizeof list, image, image_len,
+                    vector, mpm_vector_len(kind));
 }
 
 static uint32_t call(uint32_t function, uint32_t user) { return call_for(function, user, 1); }
@@ -147,8 +149,10 @@ static int free_space(const struct command *command, char **operands) {
         printf("free: %u/%u\n", (unsigned)mpm_a(answer), (unsigned)mpm_h(answer));
         return REFUSED;
     }
-    printf("%u\n", dma[MPM_DMA_FREE] + 256u * dma[MPM_DMA_FREE + 1] + 65536u * dma[MPM_DMA_FREE + 2]);
-    return DONE;
+    uint32_t records = mpm_get(dma + MPM_DMA_FREE, 3), by_vector = mpm_free_records(kind, image_len, vector);
+    printf("%u\n", (unsigned)records);
+    if (records != by_vector) printf("free: the vector tells %u\n", (unsigned)by_vector);
+    return records == by_vector ? DONE : REFUSED;
 }
 
 static int whole_file(const struct command *command, char **operands) {
@@ -310,6 +314,8 @@ int main(int argc, char **argv) {
         printf("the list does not start\n");
         return REFUSED;
     }
+    /* Of an image that is not sound there is none, and every call is refused for that. */
+    mpm_vector(kind, image, image_len, vector, mpm_vector_len(kind));
     int status = run_all(argc - 3, argv + 3);
     if (status == DONE && memcmp(loaded, image, image_len) != 0 && !save(path, image, image_len)) return wrong(path);
     return status;

@@ -148,6 +148,8 @@ same_free() { # FORMAT IMAGE; with less than three files cpmls -D says nothing
     local kilobytes
     kilobytes=$(tool cpmls "$1" -D "$2" | sed -n 's/.* \([0-9]*\)K Free\.$/\1/p')
     expect "free records of $2" $((8 * kilobytes)) "$(book "$2" free)"
+    expect "the desk's program on the free space of $2" $((8 * kilobytes)) \
+        "$(bash "$root/machine/run.sh" "$work/desk" free "$2" | sed 's/.* blocks free, \([0-9]*\) records, .*/\1/')"
 }
 
 # cpmls tells bytes, 35 the records that have them: the last extent of each of these files tells its size.

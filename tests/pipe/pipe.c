@@ -25,9 +25,12 @@ void *memcpy(void *, const void *, size);
 void *memset(void *, int, size);
 
 u32 mpm_call(u32 kind, u32 function, u32 process, u32 count, u8 *fcb, size fcb_len, u8 *dma,
-             size dma_len, u8 *list, size list_len, u8 *image, size image_len);
+             size dma_len, u8 *list, size list_len, u8 *image, size image_len, u8 *vector,
+             size vector_len);
 u32 mpm_singly(u32 kind, u32 function, u32 process, u32 count, u8 *fcb, size fcb_len, u8 *dma,
-               size dma_len, u8 *list, size list_len, u8 *image, size image_len);
+               size dma_len, u8 *list, size list_len, u8 *image, size image_len, u8 *vector,
+               size vector_len);
+u32 mpm_vector(u32 kind, const u8 *image, size image_len, u8 *vector, size vector_len);
 u32 mpm_start(u32 kind, u32 capacity, u32 open_limit, u32 lock_limit, const u8 *users,
               size users_len, u8 *list, size list_len);
 u32 mpm_check(u32 kind, const u8 *image, size image_len);
@@ -38,6 +41,7 @@ enum {
     GUARD = 64,
     MAX_IMAGE = 4098 * 2048,
     MAX_LIST = 4096,
+    MAX_VECTOR = 4096,
     MAX_DMA = 4096,
     MAX_SMALL = 1024,
     BATCH = 65536,
@@ -52,7 +56,7 @@ enum {
     MOST_RECORDS = 16,
     RECORD = 128,
     FCB = 36,
-    AREAS = 4,
+    AREAS = 5,
     ANSWER_APART = 1 << AREAS,
     WITHOUT_DONE = 0x0FFF,
     MALFORMED = 3,
@@ -73,16 +77,19 @@ static u8 small_room[GUARD + MAX_SMALL + GUARD], small_before[MAX_SMALL];
 static u8 dma_room[GUARD + MAX_DMA + GUARD], dma_before[MAX_DMA];
 static u8 list_room[GUARD + MAX_LIST + GUARD], list_before[MAX_LIST];
 static u8 image_room[GUARD + MAX_IMAGE + GUARD], image_before[MAX_IMAGE];
+static u8 vector_room[GUARD + MAX_VECTOR + GUARD], vector_before[MAX_VECTOR];
 
 static u8 small_plain[sizeof small_room], dma_plain[sizeof dma_room];
 static u8 list_plain[sizeof list_room], image_plain[sizeof image_room];
+static u8 vector_plain[sizeof vector_room];
 
-/* The users, the FCB or the name; the DMA; the list; the image: in the order of a reply. */
+/* The users, the FCB or the name; the DMA; the list; the image; the vector: in the order of a reply. */
 static struct area small = {small_room, small_before, small_plain, MAX_SMALL, 0};
 static struct area dma = {dma_room, dma_before, dma_plain, MAX_DMA, 0};
 static struct area list = {list_room, list_before, list_plain, MAX_LIST, 0};
 static struct area image = {image_room, image_before, image_plain, MAX_IMAGE, 0};
-static struct area *const areas[AREAS] = {&small, &dma, &list, &image};
+static struct area vector = {vector_room, vector_before, vector_plain, MAX_VECTOR, 0};
+static struct area *const areas[AREAS] = {&small, &dma, &list, &image, &vector};
 
 static u8 batch[BATCH];
 static size batch_length, batch_at;
@@ -277,7 +284,7 @@ static void put_changes(struct area *area) {
     }
 }
 
-/* A bit for each area whose guards were overwritten, and four more for the plain side's. */
+/* A bit for each area whose guards were overwritten, and as many more for the plain side's. */
 static u32 broken_guards(void) {
     u32 broken = 0;
     for (u32 i = 0; i < AREAS; i++) {
@@ -301,39 +308,45 @@ static int is_apart(struct area *area) {
     return apart;
 }
 
-/* A bit for each area in which the plain side is apart. The image comes last, and its parts stay. */
+/* The image's parts, to be taken up when its turn comes. */
+static struct part parts_of_image[MAX_PARTS];
+static size parts_of_image_count;
+
+static void keep_parts_of_image(void) {
+    memcpy(parts_of_image, parts, sizeof parts);
+    parts_of_image_count = part_count;
+}
+
+/* Sets the parts of an area: those kept of the image, and the whole of every other one. */
+static void take_parts(const struct area *area) {
+    whole_area(area);
+    if (area != &image) return;
+    memcpy(parts, parts_of_image, sizeof parts);
+    part_count = parts_of_image_count;
+}
+
+/* A bit for each area in which the plain side is apart. Called with the image's parts set, and they stay. */
 static u32 areas_apart(void) {
-    struct part of_image[MAX_PARTS];
-    size number = part_count;
     u32 apart = 0;
-    memcpy(of_image, parts, sizeof parts);
+    keep_parts_of_image();
     for (u32 i = 0; i < AREAS; i++) {
-        whole_area(areas[i]);
-        if (areas[i] == &image) {
-            memcpy(parts, of_image, sizeof parts);
-            part_count = number;
-        }
+        take_parts(areas[i]);
         if (is_apart(areas[i])) apart |= 1u << i;
     }
+    take_parts(&image);
     return apart;
 }
 
 /* Called with the image's parts set. */
 static void reply_apart(u32 answer, u32 apart, u32 plain_answer) {
-    struct part of_image[MAX_PARTS];
-    size number = part_count;
-    memcpy(of_image, parts, sizeof parts);
+    keep_parts_of_image();
     put_number('A', 1);
-    put_number(broken_guards(), 1);
+    put_number(broken_guards(), 2);
     put_number(answer, 4);
     put_number(apart, 1);
     if (apart != 0) put_number(plain_answer, 4);
     for (u32 i = 0; i < AREAS; i++) {
-        whole_area(areas[i]);
-        if (areas[i] == &image) {
-            memcpy(parts, of_image, sizeof parts);
-            part_count = number;
-        }
+        take_parts(areas[i]);
         put_changes(areas[i]);
     }
 }
@@ -404,10 +417,11 @@ static void serve_call(void) {
     take_into(&small);
     take_dma();
     u32 answer = mpm_call(kind, function, process, count, data(&small), small.length, data(&dma),
-                          dma.length, data(&list), list.length, data(&image), image.length);
-    u32 singly =
-        mpm_singly(kind, function, process, count, plain(&small), small.length, plain(&dma),
-                   dma.length, plain(&list), list.length, plain(&image), image.length);
+                          dma.length, data(&list), list.length, data(&image), image.length,
+                          data(&vector), vector.length);
+    u32 singly = mpm_singly(kind, function, process, count, plain(&small), small.length, plain(&dma),
+                            dma.length, plain(&list), list.length, plain(&image), image.length,
+                            plain(&vector), vector.length);
     if (beginning_of_image()) add_blocks_of_call(kind, count);
     u32 apart = areas_apart();
     if (singly != wanted_of_plain(function, answer)) apart |= ANSWER_APART;
@@ -419,6 +433,13 @@ static void serve_check(void) {
     hold(&small, batch, 0);
     hold(&dma, batch, 0);
     reply(mpm_check(kind, data(&image), image.length));
+}
+
+static void serve_vector(void) {
+    u32 kind = take_number(4);
+    hold(&small, batch, 0);
+    hold(&dma, batch, 0);
+    reply(mpm_vector(kind, data(&image), image.length, data(&vector), vector.length));
 }
 
 static void serve_look(void) {
@@ -441,9 +462,12 @@ static void serve_step(void) {
     case 'i': serve_patch(&image); break;
     case 'L': serve_resize(&list); break;
     case 'l': serve_patch(&list); break;
+    case 'B': serve_resize(&vector); break;
+    case 'b': serve_patch(&vector); break;
     case 'S': serve_start(); break;
     case 'C': serve_call(); break;
     case 'K': serve_check(); break;
+    case 'M': serve_vector(); break;
     case 'V': serve_look(); break;
     case 'W': serve_whole(); break;
     default: exit(MALFORMED);
@@ -473,10 +497,7 @@ static int read_batch(void) {
 }
 
 int main(void) {
-    set_guards(&small);
-    set_guards(&dma);
-    set_guards(&list);
-    set_guards(&image);
+    for (u32 i = 0; i < AREAS; i++) set_guards(areas[i]);
     while (read_batch()) {
         while (batch_at < batch_length) serve_step();
         flush();

@@ -1,8 +1,8 @@
 #!/usr/bin/env bash
-# Tries pipe.c: over the reference it must compare the same, over each bad stub, each wrong plain side, each engine that
-# is wrong about the kind of drive and each that is wrong about the bad entry different. Then desk.c likewise, over the
-# reference, over plain C and over wrong desks. Needs a C compiler (CC, else cc) and the built `compare` and
-# `compare-desk`.
+# Tries pipe.c: over the reference and over plain C it must compare the same, over each bad stub, each wrong plain side,
+# each engine that is wrong about the kind of drive, about the bad entry or about the vector different. Then desk.c
+# likewise, over the reference, over plain C and over wrong desks. Needs a C compiler (CC, else cc) and the built
+# `compare` and `compare-desk`.
 set -euo pipefail
 here=$(cd "$(dirname "${BASH_SOURCE[0]}")" && pwd -P)
 compare=$here/../target/release/compare
@@ -45,21 +45,22 @@ cargo build --quiet --release --offline -j1 -p exports --manifest-path "$here/..
 }
 echo "pipe over the reference: $(head -n 1 "$work/out")"
 
-for stub in 1 2 3 4 5 6; do
+for stub in {1..7}; do
     "${CC:-cc}" "${flags[@]}" -DSTUB="$stub" "$here/pipe.c" "$here/stub.c" -o "$work/engine"
     must_differ "stub $stub" '^different'
 done
-echo "pipe over six bad stubs: all seen"
+echo "pipe over seven bad stubs: all seen"
 
-for wrong in 1 2 3 4 5 6 7 8 9; do
+for wrong in {1..11}; do
     case $wrong in
-        7) words='guards broken: 00100000' ;;
+        7) words='guards broken: 0001000000' ;;
+        11) words='guards broken: 1000000000' ;;
         *) words='mpm_singly has done otherwise' ;;
     esac
     build_wrong "$wrong" wrong.c singly
     must_differ "wrong plain side $wrong" "$words"
 done
-echo "pipe over nine wrong plain sides: all seen"
+echo "pipe over eleven wrong plain sides: all seen"
 
 for wrong in {1..12}; do
     build_wrong "$wrong" wrong_kind.c call singly start check look
@@ -76,6 +77,16 @@ for wrong in 1 2 3 4 5; do
     must_differ "wrong about the bad entry $wrong" '^different'
 done
 echo "pipe over five image checks wrong about the bad entry: all seen"
+
+for wrong in {1..17}; do
+    build_wrong "$wrong" wrong_vector.c call singly vector
+    must_differ "wrong about the vector $wrong" '^different'
+    if grep -q 'mpm_singly has done otherwise' "$work/out"; then
+        echo "wrong about the vector $wrong: seen by the plain side, which has the same fault"
+        exit 1
+    fi
+done
+echo "pipe over 17 engines wrong about the vector: all seen"
 
 desk=$here/../target/release/compare-desk
 plain=$here/../plain
@@ -110,6 +121,13 @@ compile_plain small.o plain.c -DKIND=SMALL
 compile_plain large.o plain.c -DKIND=LARGE
 compile_plain call.o plain_call.c
 compile_plain mpm.o mpm.c
+"${CC:-cc}" "${flags[@]}" "$here/pipe.c" "$work"/{small,large,call,mpm}.o -o "$work/pipe"
+"$compare" --seconds "$seconds" --failures "$work/failures" -- "$work/pipe" >"$work/out" 2>/dev/null || {
+    cat "$work/out"
+    echo "pipe over plain C: different"
+    exit 1
+}
+echo "pipe over plain C: $(head -n 1 "$work/out")"
 desk_is_same "the reference" "$archive"
 desk_is_same "plain C" "$work"/{small,large,call,mpm}.o
 

@@ -11,6 +11,7 @@ typedef __SIZE_TYPE__ size;
 #define WRITE_AFTER_IMAGE 4
 #define CRASH 5
 #define SPOIL_THE_IMAGE 6
+#define WRITE_AFTER_VECTOR 7
 
 #ifndef STUB
 #define STUB REFUSE_ALL
@@ -19,9 +20,12 @@ typedef __SIZE_TYPE__ size;
 #define REFUSED (255u + 256u * 13u)
 
 u32 mpm_call(u32 kind, u32 function, u32 process, u32 count, u8 *fcb, size fcb_len, u8 *dma,
-             size dma_len, u8 *list, size list_len, u8 *image, size image_len);
+             size dma_len, u8 *list, size list_len, u8 *image, size image_len, u8 *vector,
+             size vector_len);
 u32 mpm_singly(u32 kind, u32 function, u32 process, u32 count, u8 *fcb, size fcb_len, u8 *dma,
-               size dma_len, u8 *list, size list_len, u8 *image, size image_len);
+               size dma_len, u8 *list, size list_len, u8 *image, size image_len, u8 *vector,
+               size vector_len);
+u32 mpm_vector(u32 kind, const u8 *image, size image_len, u8 *vector, size vector_len);
 u32 mpm_start(u32 kind, u32 capacity, u32 open_limit, u32 lock_limit, const u8 *users,
               size users_len, u8 *list, size list_len);
 u32 mpm_check(u32 kind, const u8 *image, size image_len);
@@ -53,6 +57,14 @@ u32 mpm_check(u32 kind, const u8 *image, size image_len) {
     return image_len % 1024 != 0;
 }
 
+u32 mpm_vector(u32 kind, const u8 *image, size image_len, u8 *vector, size vector_len) {
+    (void)image, (void)image_len;
+    if (kind > 1 || vector_len != (kind == 1 ? 512 : 32)) return REFUSED;
+    for (size i = 0; i < vector_len; i++) vector[i] = 0;
+    vector[0] = 0xC0;
+    return 0;
+}
+
 u32 mpm_look(u32 kind, u32 user, const u8 *name, size name_len, u32 record, const u8 *image,
              size image_len) {
     (void)kind, (void)user, (void)name, (void)name_len, (void)record, (void)image, (void)image_len;
@@ -76,9 +88,11 @@ u32 mpm_same(u32 kind, const u8 *first, size first_len, const u8 *second, size s
 }
 
 u32 mpm_call(u32 kind, u32 function, u32 process, u32 count, u8 *fcb, size fcb_len, u8 *dma,
-             size dma_len, u8 *list, size list_len, u8 *image, size image_len) {
+             size dma_len, u8 *list, size list_len, u8 *image, size image_len, u8 *vector,
+             size vector_len) {
     (void)kind, (void)function, (void)process, (void)count, (void)fcb, (void)fcb_len, (void)dma;
-    (void)dma_len, (void)list, (void)list_len, (void)image, (void)image_len;
+    (void)dma_len, (void)list, (void)list_len, (void)image, (void)image_len, (void)vector;
+    (void)vector_len;
 #if STUB == ACCEPT_ALL
     return 0;
 #elif STUB == WRITE_BEFORE_FCB
@@ -86,6 +100,9 @@ u32 mpm_call(u32 kind, u32 function, u32 process, u32 count, u8 *fcb, size fcb_l
     return 0;
 #elif STUB == WRITE_AFTER_IMAGE
     image[image_len] ^= 1;
+    return 0;
+#elif STUB == WRITE_AFTER_VECTOR
+    vector[vector_len] ^= 1;
     return 0;
 #elif STUB == CRASH
     __builtin_trap();
@@ -98,7 +115,8 @@ u32 mpm_call(u32 kind, u32 function, u32 process, u32 count, u8 *fcb, size fcb_l
 }
 
 u32 mpm_singly(u32 kind, u32 function, u32 process, u32 count, u8 *fcb, size fcb_len, u8 *dma,
-               size dma_len, u8 *list, size list_len, u8 *image, size image_len) {
+               size dma_len, u8 *list, size list_len, u8 *image, size image_len, u8 *vector,
+               size vector_len) {
     return mpm_call(kind, function, process, count, fcb, fcb_len, dma, dma_len, list, list_len,
-                    image, image_len);
+                    image, image_len, vector, vector_len);
 }

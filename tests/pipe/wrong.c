@@ -14,6 +14,8 @@ typedef __SIZE_TYPE__ size;
 #define WRITES_BEHIND_THE_DMA 7
 #define ANSWERS_ANOTHER_46 8
 #define SPOILS_A_FAR_BLOCK 9
+#define SPOILS_THE_VECTOR 10
+#define WRITES_BEHIND_THE_VECTOR 11
 
 #ifndef WRONG
 #define WRONG TELLS_RECORDS_DONE
@@ -22,21 +24,24 @@ typedef __SIZE_TYPE__ size;
 enum { READ = 33, WRITE = 34, FREE_SPACE = 46, FCB = 36, DMA = 2048, RECORD = 128, LIST = 1315 };
 
 u32 mpm_singly(u32 kind, u32 function, u32 process, u32 count, u8 *fcb, size fcb_len, u8 *dma,
-               size dma_len, u8 *list, size list_len, u8 *image, size image_len);
+               size dma_len, u8 *list, size list_len, u8 *image, size image_len, u8 *vector,
+               size vector_len);
 u32 wrong_singly(u32 kind, u32 function, u32 process, u32 count, u8 *fcb, size fcb_len, u8 *dma,
-                 size dma_len, u8 *list, size list_len, u8 *image, size image_len);
+                 size dma_len, u8 *list, size list_len, u8 *image, size image_len, u8 *vector,
+                 size vector_len);
 
 u32 wrong_singly(u32 kind, u32 function, u32 process, u32 count, u8 *fcb, size fcb_len, u8 *dma,
-                 size dma_len, u8 *list, size list_len, u8 *image, size image_len) {
+                 size dma_len, u8 *list, size list_len, u8 *image, size image_len, u8 *vector,
+                 size vector_len) {
     u32 answer = mpm_singly(kind, function, process, count, fcb, fcb_len, dma, dma_len, list,
-                            list_len, image, image_len);
+                            list_len, image, image_len, vector, vector_len);
 #if WRONG == TELLS_RECORDS_DONE
     if (function == READ && answer == 1 && count == 16) answer += 16u * 256u;
 #elif WRONG == GOES_ON_BEHIND_A_REFUSAL
     if (function == WRITE && answer == 8 && fcb[33] < 255) {
         fcb[33]++;
         mpm_singly(kind, function, process, 1, fcb, fcb_len, dma, dma_len, list, list_len, image,
-                   image_len);
+                   image_len, vector, vector_len);
         fcb[33]--;
     }
 #elif WRONG == ADVANCES_THE_FCB
@@ -54,6 +59,10 @@ u32 wrong_singly(u32 kind, u32 function, u32 process, u32 count, u8 *fcb, size f
     if (function == FREE_SPACE && answer == 0) answer = FCB;
 #elif WRONG == SPOILS_A_FAR_BLOCK
     if (function == FREE_SPACE && answer == 0 && kind == 1) image[image_len - 1] ^= 1;
+#elif WRONG == SPOILS_THE_VECTOR
+    if (function == WRITE && answer == 0) vector[vector_len - 1] ^= 1;
+#elif WRONG == WRITES_BEHIND_THE_VECTOR
+    if (function == FREE_SPACE && answer == 0) vector[vector_len] ^= 1;
 #endif
     return answer;
 }

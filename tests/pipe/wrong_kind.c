@@ -27,7 +27,8 @@ enum { SEARCH_FIRST = 17, SEARCH_NEXT = 18, NO_MATCH = 255, POSITIONS = 1299 };
 enum { WRITE_ZEROS = 40, FREE_SPACE = 46, BLOCK = 2048, RECORD = 128, LEAST = 257, MOST = 4096 };
 
 typedef u32 call(u32 kind, u32 function, u32 process, u32 count, u8 *fcb, size fcb_len, u8 *dma,
-                 size dma_len, u8 *list, size list_len, u8 *image, size image_len);
+                 size dma_len, u8 *list, size list_len, u8 *image, size image_len, u8 *vector,
+                 size vector_len);
 typedef u32 start(u32 kind, u32 capacity, u32 open_limit, u32 lock_limit, const u8 *users,
                   size users_len, u8 *list, size list_len);
 typedef u32 check(u32 kind, const u8 *image, size image_len);
@@ -95,10 +96,11 @@ static void do_wrong(u32 kind, u32 function, u32 answer, u8 *dma, u8 *image, siz
 }
 
 static u32 make(call *real, u32 kind, u32 function, u32 process, u32 count, u8 *fcb, size fcb_len,
-                u8 *dma, size dma_len, u8 *list, size list_len, u8 *image, size image_len) {
+                u8 *dma, size dma_len, u8 *list, size list_len, u8 *image, size image_len, u8 *vector,
+                size vector_len) {
     size length = taken_length(kind, image_len);
     u32 answer = real(taken_kind(kind, image_len), function, process, count, fcb, fcb_len, dma,
-                      dma_len, list, list_len, image, length);
+                      dma_len, list, list_len, image, length, vector, vector_len);
     do_wrong(kind, function, answer, dma, image, length);
 #if WRONG == ENDS_SEARCHES_AT_64
     end_search_at_64(kind, function, process, answer, list);
@@ -107,15 +109,17 @@ static u32 make(call *real, u32 kind, u32 function, u32 process, u32 count, u8 *
 }
 
 u32 wrong_call(u32 kind, u32 function, u32 process, u32 count, u8 *fcb, size fcb_len, u8 *dma,
-               size dma_len, u8 *list, size list_len, u8 *image, size image_len) {
+               size dma_len, u8 *list, size list_len, u8 *image, size image_len, u8 *vector,
+               size vector_len) {
     return make(mpm_call, kind, function, process, count, fcb, fcb_len, dma, dma_len, list,
-                list_len, image, image_len);
+                list_len, image, image_len, vector, vector_len);
 }
 
 u32 wrong_singly(u32 kind, u32 function, u32 process, u32 count, u8 *fcb, size fcb_len, u8 *dma,
-                 size dma_len, u8 *list, size list_len, u8 *image, size image_len) {
+                 size dma_len, u8 *list, size list_len, u8 *image, size image_len, u8 *vector,
+               size vector_len) {
     return make(mpm_singly, kind, function, process, count, fcb, fcb_len, dma, dma_len, list,
-                list_len, image, image_len);
+                list_len, image, image_len, vector, vector_len);
 }
 
 u32 wrong_start(u32 kind, u32 capacity, u32 open_limit, u32 lock_limit, const u8 *users,

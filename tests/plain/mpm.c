@@ -16,8 +16,10 @@ static uint8_t *read_only(const uint8_t *bytes) {
 }
 
 uint32_t mpm_call(uint32_t kind, uint32_t function, uint32_t process, uint32_t count, uint8_t *fcb, size_t fcb_len,
-                  uint8_t *dma, size_t dma_len, uint8_t *list, size_t list_len, uint8_t *image, size_t image_len) {
-    return plain_call(kind, function, process, count, fcb, fcb_len, dma, dma_len, list, list_len, image, image_len);
+                  uint8_t *dma, size_t dma_len, uint8_t *list, size_t list_len, uint8_t *image, size_t image_len,
+                  uint8_t *vector, size_t vector_len) {
+    return plain_call(kind, function, process, count, fcb, fcb_len, dma, dma_len, list, list_len, image, image_len,
+                      vector, vector_len);
 }
 
 static int is_run(uint32_t function, uint32_t count, size_t fcb_len, size_t dma_len) {
@@ -26,9 +28,11 @@ static int is_run(uint32_t function, uint32_t count, size_t fcb_len, size_t dma_
 }
 
 uint32_t mpm_singly(uint32_t kind, uint32_t function, uint32_t process, uint32_t count, uint8_t *fcb, size_t fcb_len,
-                    uint8_t *dma, size_t dma_len, uint8_t *list, size_t list_len, uint8_t *image, size_t image_len) {
+                    uint8_t *dma, size_t dma_len, uint8_t *list, size_t list_len, uint8_t *image, size_t image_len,
+                    uint8_t *vector, size_t vector_len) {
     if (!is_run(function, count, fcb_len, dma_len))
-        return mpm_call(kind, function, process, count, fcb, fcb_len, dma, dma_len, list, list_len, image, image_len);
+        return mpm_call(kind, function, process, count, fcb, fcb_len, dma, dma_len, list, list_len, image, image_len,
+                        vector, vector_len);
     uint32_t answer = MPM_OK;
     for (uint32_t i = 0; i < count && answer == MPM_OK; i++) {
         uint8_t own_fcb[MPM_FCB_LEN], own_dma[MPM_DMA_LEN] = {0};
@@ -36,7 +40,7 @@ uint32_t mpm_singly(uint32_t kind, uint32_t function, uint32_t process, uint32_t
         mpm_set_record(own_fcb, mpm_record(fcb) + i);
         memcpy(own_dma, dma + MPM_DMA_AT(i), MPM_RECORD_LEN);
         answer = mpm_call(kind, function, process, 1, own_fcb, sizeof own_fcb, own_dma, sizeof own_dma, list, list_len,
-                          image, image_len);
+                          image, image_len, vector, vector_len);
         memcpy(dma + MPM_DMA_AT(i), own_dma, MPM_RECORD_LEN);
     }
     return answer;
@@ -62,6 +66,10 @@ uint32_t mpm_start(uint32_t kind, uint32_t capacity, uint32_t open_limit, uint32
 
 uint32_t mpm_check(uint32_t kind, const uint8_t *image, size_t image_len) {
     return plain_check(kind, read_only(image), image_len);
+}
+
+uint32_t mpm_vector(uint32_t kind, const uint8_t *image, size_t image_len, uint8_t *vector, size_t vector_len) {
+    return plain_vector(kind, read_only(image), image_len, vector, vector_len);
 }
 
 uint32_t mpm_look(uint32_t kind, uint32_t user, const uint8_t *name, size_t name_len, uint32_t record,

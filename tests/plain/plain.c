@@ -14,7 +14,7 @@
 
 enum { ENTRIES = OF(KIND, ENTRIES), MAP = OF(KIND, NUMBERS), WIDTH = OF(KIND, NUMBER_LEN) };
 enum { BLOCK = OF(KIND, BLOCK_LEN), BLOCK_RECORDS = OF(KIND, BLOCK_RECORDS) };
-enum { MIN_BLOCKS = OF(KIND, MIN_BLOCKS), MAX_BLOCKS = OF(KIND, MAX_BLOCKS) };
+enum { MIN_BLOCKS = OF(KIND, MIN_BLOCKS), MAX_BLOCKS = OF(KIND, MAX_BLOCKS), VECTOR = OF(KIND, VECTOR_LEN) };
 enum { ENTRY = 32, MAP_AT = 16, PLACES = 64, PLACE = 20, HEAD = 19, NAME = 11, LAST_RECORD = 262143 };
 enum { POSITIONS = HEAD + PLACES * PLACE };
 enum { EMPTY, OPEN, LOCK, NO_MARK }; /* what a place holds */
@@ -45,6 +45,7 @@ struct locks {
 struct drive {
     uint8_t *bytes;
     size_t blocks;
+    uint8_t *vector; /* a bit for each block, set where it is used; the calls have one, what only reads an image none */
 };
 
 /* Where a record is to be written. */
@@ -145,29 +146,48 @@ static size_t block_of(const struct drive *d, const struct file *f, uint32_t rec
     return block_in(d, entry_of(d, f, record / 128), record);
 }
 
-static void mark_used(const struct drive *d, bool used[MAX_BLOCKS]) {
-    memset(used, 0, MAX_BLOCKS);
-    for (size_t e = 0; e < ENTRIES; e++) {
-        const uint8_t *entry = entry_at(d, e);
-        if (entry[0] == MPM_EMPTY) continue;
-        for (size_t k = 0; k < MAP; k++) used[number_at(entry, k)] = true;
+/* ---- The vector ---- */
+
+static uint8_t bit_of(size_t b) { return (uint8_t)(MPM_HIGH_BIT >> b % 8); }
+
+static void set_bits(const uint8_t *entry, uint8_t *vector) {
+    for (size_t k = 0; k < MAP; k++) {
+        size_t b = number_at(entry, k);
+        vector[b / 8] |= bit_of(b);
     }
 }
 
+/* No number is none, and 0 is the directory's first block: its bit is set anyway. */
+static void build_vector(const struct drive *d, uint8_t vector[VECTOR]) {
+    memset(vector, 0, VECTOR);
+    vector[0] = bit_of(0) | bit_of(1);
+    for (size_t e = 0; e < ENTRIES; e++)
+        if (entry_at(d, e)[0] != MPM_EMPTY) set_bits(entry_at(d, e), vector);
+}
+
+static bool agrees(const struct drive *d) {
+    uint8_t due[VECTOR];
+    build_vector(d, due);
+    return memcmp(due, d->vector, VECTOR) == 0;
+}
+
 static size_t free_block(const struct drive *d) {
-    bool used[MAX_BLOCKS];
-    mark_used(d, used);
     size_t b = 2;
-    while (b < d->blocks && used[b]) b++;
+    while (b < d->blocks && d->vector[b / 8] & bit_of(b)) b++;
     return b;
 }
 
 static size_t free_blocks(const struct drive *d) {
-    bool used[MAX_BLOCKS];
-    mark_used(d, used);
     size_t free = 0;
-    for (size_t b = 2; b < d->blocks; b++) free += !used[b];
+    for (size_t b = 2; b < d->blocks; b++) free += !(d->vector[b / 8] & bit_of(b));
     return free;
+}
+
+static void give_blocks_back(const struct drive *d, const uint8_t *entry) {
+    for (size_t k = 0; k < MAP; k++) {
+        size_t b = number_at(entry, k);
+        if (b != 0) d->vector[b / 8] &= (uint8_t)~bit_of(b);
+    }
 }
 
 /* ---- The image check ---- */
@@ -646,8 +666,12 @@ static uint32_t delete_file(struct job *j) {
     if (e == ENTRIES) return MPM_ERR_NOT_FOUND;
     if (open_by_other(j)) return MPM_ERR_IN_USE;
     if (entry_at(&j->drive, e)[9] >= 128) return MPM_ERR_READ_ONLY;
-    for (e = 0; e < ENTRIES; e++)
-        if (is_of(entry_at(&j->drive, e), &j->file)) entry_at(&j->drive, e)[0] = MPM_EMPTY;
+    for (e = 0; e < ENTRIES; e++) {
+        uint8_t *entry = entry_at(&j->drive, e);
+        if (!is_of(entry, &j->file)) continue;
+        give_blocks_back(&j->drive, entry);
+        entry[0] = MPM_EMPTY;
+    }
     if (own_open(j) != PLACES) give_up_file(j);
     return MPM_OK;
 }
@@ -774,7 +798,10 @@ static void fill_spot(const struct job *j, const struct spot *w, size_t first, u
         entry[12] = (uint8_t)(record / 128 % 32);
         entry[14] = (uint8_t)(record / 128 / 32);
     }
-    if (w->taken) set_number(entry, number_of(record), w->block);
+    if (w->taken) {
+        set_number(entry, number_of(record), w->block);
+        j->drive.vector[w->block / 8] |= bit_of(w->block);
+    }
     raise_count(entry, record);
     if (zeros && w->taken) memset(j->drive.bytes + BLOCK * w->block, 0, BLOCK);
 }
@@ -964,16 +991,30 @@ static uint32_t serve(uint32_t function, struct job *j) {
     }
 }
 
+/* A drive of which no vector is asked. */
+static struct drive read_drive(uint8_t *image, size_t image_len) {
+    struct drive d = {image, image_len / BLOCK, 0};
+    return d;
+}
+
 #define NAMED_OF(what, kind) plain_##what##_##kind
 #define NAMED(what, kind) NAMED_OF(what, kind)
 
 uint32_t NAMED(check, KIND)(uint8_t *image, size_t image_len) {
-    struct drive d = {image, image_len / BLOCK};
+    struct drive d = read_drive(image, image_len);
     return check_drive(&d, image_len);
 }
 
+uint32_t NAMED(vector, KIND)(uint8_t *image, size_t image_len, uint8_t *vector, size_t vector_len) {
+    struct drive d = read_drive(image, image_len);
+    if (vector_len != VECTOR) return MPM_ERR_BAD_CALL;
+    if (check_drive(&d, image_len) != MPM_CHECK_SOUND) return MPM_ERR_BAD_IMAGE;
+    build_vector(&d, vector);
+    return MPM_OK;
+}
+
 uint32_t NAMED(salvage, KIND)(uint8_t *image, size_t image_len, uint8_t *report, size_t report_len) {
-    struct drive d = {image, image_len / BLOCK};
+    struct drive d = read_drive(image, image_len);
     if (!good_length(image_len)) return MPM_SALVAGE_WRONG_LENGTH;
     if (report_len != ENTRIES) return MPM_SALVAGE_WRONG_REPORT;
     salvage_directory(&d, report);
@@ -982,7 +1023,7 @@ uint32_t NAMED(salvage, KIND)(uint8_t *image, size_t image_len, uint8_t *report,
 
 uint32_t NAMED(pack, KIND)(uint8_t *image, size_t image_len, const uint8_t *list, size_t list_len, uint8_t *packed,
                            size_t packed_len) {
-    struct drive d = {image, image_len / BLOCK};
+    struct drive d = read_drive(image, image_len);
     struct locks l;
     if (list_len != MPM_LIST_LEN || packed_len != image_len) return MPM_ERR_BAD_CALL;
     if (check_drive(&d, image_len) != MPM_CHECK_SOUND) return MPM_ERR_BAD_IMAGE;
@@ -995,7 +1036,7 @@ uint32_t NAMED(pack, KIND)(uint8_t *image, size_t image_len, const uint8_t *list
 }
 
 uint32_t NAMED(same, KIND)(uint8_t *first, size_t first_len, uint8_t *second, size_t second_len) {
-    struct drive one = {first, first_len / BLOCK}, other = {second, second_len / BLOCK};
+    struct drive one = read_drive(first, first_len), other = read_drive(second, second_len);
     if (check_drive(&one, first_len) != MPM_CHECK_SOUND) return MPM_SAME_BAD_FIRST;
     if (check_drive(&other, second_len) != MPM_CHECK_SOUND) return MPM_SAME_BAD_SECOND;
     return has_all(&other, &one) && has_all(&one, &other) ? MPM_SAME_BOOK : MPM_SAME_DIFFERENT;
@@ -1003,7 +1044,7 @@ uint32_t NAMED(same, KIND)(uint8_t *first, size_t first_len, uint8_t *second, si
 
 /* Where a record begins, or 0; the image is sound. */
 uint32_t NAMED(look, KIND)(uint32_t user, const uint8_t *name, uint32_t record, uint8_t *image, size_t image_len) {
-    struct drive d = {image, image_len / BLOCK};
+    struct drive d = read_drive(image, image_len);
     struct file f = file_from((uint8_t)user, name);
     if (user > 15 || !legal_name(name) || record > LAST_RECORD) return 0;
     return (uint32_t)(BLOCK * block_of(&d, &f, record)) +
@@ -1012,15 +1053,17 @@ uint32_t NAMED(look, KIND)(uint32_t user, const uint8_t *name, uint32_t record, 
 
 uint32_t NAMED(call, KIND)(uint32_t function, uint32_t process, uint32_t count, uint8_t *fcb, size_t fcb_len,
                            uint8_t *dma, size_t dma_len, uint8_t *list, size_t list_len, uint8_t *image,
-                           size_t image_len) {
+                           size_t image_len, uint8_t *vector, size_t vector_len) {
     if (!is_known(function) || process > 15 || count < 1 || count > 16) return MPM_ERR_BAD_CALL;
     if (fcb_len != MPM_FCB_LEN || dma_len != MPM_DMA_LEN || list_len != MPM_LIST_LEN) return MPM_ERR_BAD_CALL;
+    if (vector_len != VECTOR) return MPM_ERR_BAD_CALL;
     struct job j;
-    j.drive = (struct drive){image, image_len / BLOCK};
+    j.drive = (struct drive){image, image_len / BLOCK, vector};
     if (check_drive(&j.drive, image_len) != MPM_CHECK_SOUND) return MPM_ERR_BAD_IMAGE;
     if (!all_zero(list)) return MPM_ERR_BAD_LIST;
     unpack(&j.locks, list);
     if (!sound_locks(&j.drive, &j.locks)) return MPM_ERR_BAD_LIST;
+    if (!agrees(&j.drive)) return MPM_ERR_BAD_VECTOR;
     if (fcb[0] > 1 && reads_drive(function)) return MPM_ERR_BAD_DRIVE;
     j.process = (uint8_t)process;
     j.count = count;

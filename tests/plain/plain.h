@@ -8,15 +8,23 @@
 /* As mpm_call. */
 uint32_t plain_call(uint32_t kind, uint32_t function, uint32_t process, uint32_t count,
                     uint8_t *fcb, size_t fcb_len, uint8_t *dma, size_t dma_len,
-                    uint8_t *list, size_t list_len, uint8_t *image, size_t image_len);
+                    uint8_t *list, size_t list_len, uint8_t *image, size_t image_len,
+                    uint8_t *vector, size_t vector_len);
 
 /* The same on a drive of the one kind. */
 uint32_t plain_call_SMALL(uint32_t function, uint32_t process, uint32_t count,
                           uint8_t *fcb, size_t fcb_len, uint8_t *dma, size_t dma_len,
-                          uint8_t *list, size_t list_len, uint8_t *image, size_t image_len);
+                          uint8_t *list, size_t list_len, uint8_t *image, size_t image_len,
+                          uint8_t *vector, size_t vector_len);
 uint32_t plain_call_LARGE(uint32_t function, uint32_t process, uint32_t count,
                           uint8_t *fcb, size_t fcb_len, uint8_t *dma, size_t dma_len,
-                          uint8_t *list, size_t list_len, uint8_t *image, size_t image_len);
+                          uint8_t *list, size_t list_len, uint8_t *image, size_t image_len,
+                          uint8_t *vector, size_t vector_len);
+
+/* As mpm_vector. The image is only read. */
+uint32_t plain_vector(uint32_t kind, uint8_t *image, size_t image_len, uint8_t *vector, size_t vector_len);
+uint32_t plain_vector_SMALL(uint8_t *image, size_t image_len, uint8_t *vector, size_t vector_len);
+uint32_t plain_vector_LARGE(uint8_t *image, size_t image_len, uint8_t *vector, size_t vector_len);
 
 /* As mpm_check. The image is only read. */
 uint32_t plain_check(uint32_t kind, uint8_t *image, size_t image_len);

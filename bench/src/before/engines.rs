@@ -22,6 +22,8 @@ macro_rules! declare {
                 list_len: usize,
                 image: *mut u8,
                 image_len: usize,
+                vector: *mut u8,
+                vector_len: usize,
             ) -> u32;)*
             $(fn $check(kind: u32, image: *const u8, image_len: usize) -> u32;)*
         }
@@ -30,12 +32,19 @@ macro_rules! declare {
 
 extern "C" {
     fn before_kinds() -> u32;
+    fn before_keeps_vectors() -> u32;
 }
 
 /// How many kinds of drive the earlier engine knows.
 pub fn kinds_before() -> u32 {
     // SAFETY: it gives a constant.
     unsafe { before_kinds() }
+}
+
+/// The earlier engine takes a vector and keeps it.
+pub fn keeps_vectors_before() -> bool {
+    // SAFETY: it gives a constant.
+    unsafe { before_keeps_vectors() != 0 }
 }
 
 declare!(calls: before_call before_singly now_call now_singly; checks: before_check now_check);
@@ -62,8 +71,8 @@ pub const NOW: Version = Version {
 pub const BOTH: [Version; 2] = [BEFORE, NOW];
 
 impl Timed for Version {
-    fn answer(self, call: &mut Call, list: &mut [u8], image: &mut [u8]) -> u32 {
-        through(self.call, call, list, image)
+    fn answer(self, call: &mut Call, book: &mut Book) -> u32 {
+        through(self.call, call, book)
     }
 }
 

@@ -1,3 +1,5 @@
 -- The proofs of `calls`.
 pub mod Passing
 pub mod Serving
+pub mod Within
+pub mod Fives

@@ -1,5 +1,5 @@
 -- What passing the refusals that all calls share says. Assumes nothing.
-use Prim.Native.Nat.{ℕ, _*_, _≤_, _<_}
+use Prim.Native.Nat.{ℕ, _<_}
 use mathlib.Core.Path.{_≡_, refl, sym, ap, _∙_}
 use mathlib.Core.Bool.{Bool, true, false, not}
 use mathlib.Core.List.{List}
@@ -7,26 +7,25 @@ use mathlib.Core.Logic.{⊎-elim}
 use native.Mathlib.Omega.{arith}
 use lib.ListN.{length}
 use lib.Dec.{eqb}
-use borrow.Author.Tests.{eqb-true}
+use borrow.Author.Tests.{eqb-true, not-false}
 use Rattle.words.specs.Tests.{_and_, _or_, _if_else_}
 use Rattle.words.specs.Tables.{firstOf}
-use Rattle.words.proofs.Tests.{either, equal?}
-use Rattle.words.proofs.Tables.{zero-none}
-use Rattle.words.proofs.Sets.{row-yes, row-no}
+use Rattle.words.proofs.Tests.{either, or-fst, or-snd}
 use Rattle.rules.specs.declared.routine.Routine.{Routine}
 use Rattle.rules.specs.declared.routine.Routine.the-variants.{Open, Close, SearchFirst, SearchNext, Delete, Make, Rename, Read, Write, Size, WriteZeros, TestWrite, Lock, Unlock, FreeSpace, Terminate}
 use Rattle.rules.specs.declared.routine.Chosen.{Chosen}
 use Rattle.rules.specs.declared.routine.Chosen.the-variants.{Call, Unknown}
-use Rattle.rules.specs.Serves.{Buffers, Did, buffers, outcome, functionOf, chosen, isUnknown}
-use Rattle.rules.specs.Codes.{badNumbers, badDrive, rowsInside, rowsAll}
+use Rattle.rules.specs.Serves.{Buffers, outcome, functionOf, chosen, isUnknown}
+use Rattle.rules.specs.Codes.{rowsAll}
 use Rattle.rules.specs.Call.{served, call}
 use Rattle.rules.specs.Several.{servesRun}
-use Rattle.rules.proofs.Tables.{nonzero-all, call-refused, call-served}
-use Rattle.rules.proofs.Passed.{GoodNumbers, Passed, good-numbers, passed, drive-good}
-use Rattle.rules.proofs.Several.{run-plain, run-refused, run-told}
-use Rattle.rules.proofs.Ends.{did-as, did-none}
+use Rattle.rules.proofs.Tables.{call-refused, call-served}
+use Rattle.rules.proofs.Passed.{GoodNumbers, good-numbers}
+use Rattle.rules.proofs.Several.{run-first, run-plain, run-told}
 use Rattle.calls.specs.Calls.{callBy, servedBy}
 use Rattle.calls.specs.Drives.{readsDrive}
+use Rattle.calls.specs.Five.{badLengths}
+use Rattle.rules.specs.Kinds.{vectorSize}
 use Rattle.rules.specs.declared.kind.Kind.{Kind}
 
 -- ---- the chosen routine
@@ -82,11 +81,15 @@ drive-by Terminate = refl
 pub drive-told : (n : ℕ) (k : Routine) (t : Bool) → chosen n ≡ Call k → t ≡ readsDrive k → t ≡ (not (eqb n 46) and not (eqb n 143))
 drive-told n k t h e = e ∙ drive-by k ∙ ap (λ (m : ℕ). not (eqb m 46) and not (eqb m 143)) (sym (chosen-number n k h))
 
--- ---- good numbers
+-- ---- good numbers and lengths
 
-module _ (n p c : ℕ) (fcb dma list : List ℕ) (r : Bool) (e : r ≡ badNumbers n p c fcb dma list) (t : r ≡ false) where
-  pub numbers : GoodNumbers n p c fcb dma list
-  numbers = good-numbers n p c fcb dma list (sym e ∙ t)
+module _ (kind : Kind) (n p c : ℕ) (fcb dma list v : List ℕ) (r : Bool) (e : r ≡ badLengths kind n p c fcb dma list v) (t : r ≡ false) where
+  numbers : GoodNumbers n p c fcb dma list
+  unfolding badLengths
+  numbers = good-numbers n p c fcb dma list (or-fst _ _ (sym e ∙ t))
+
+  pub few-processes : p < 16
+  few-processes = numbers .process-fits
 
   pub fcb-there : length fcb ≡ 36
   fcb-there = numbers .fcb-long
@@ -94,42 +97,24 @@ module _ (n p c : ℕ) (fcb dma list : List ℕ) (r : Bool) (e : r ≡ badNumber
   pub list-there : length list ≡ 1315
   list-there = numbers .list-long
 
-  module _ (kind : Kind) (image : List ℕ) (code : ℕ) (h : code ≡ firstOf (rowsInside kind n fcb list image)) where
-    pub all-rows : code ≡ firstOf (rowsAll kind n p c (buffers fcb dma list image))
-    unfolding rowsAll rowsInside
-    all-rows = row-no code 3583 _ _ (sym e ∙ t) h
+  pub vector-there : length v ≡ vectorSize kind
+  unfolding badLengths
+  vector-there = eqb-true _ _ (not-false _ (or-snd _ _ (sym e ∙ t)))
 
-    -- no row applies
-    pub all-passed : code ≡ 0 → (Passed kind p c (buffers fcb dma list image)) × (badDrive n fcb ≡ false)
-    all-passed z =
-        let q = zero-none (rowsAll kind n p c (buffers fcb dma list image)) (nonzero-all kind n p c (buffers fcb dma list image)) (sym all-rows ∙ z) in
-        (passed kind n p c (buffers fcb dma list image) q, drive-good kind n p c (buffers fcb dma list image) q)
-
--- ---- the ends of the general table, and of a call by the fast path and by the plain engine
-
-module _ (kind : Kind) (n p c : ℕ) (b : Buffers) where
-  -- an unknown function
-  pub code-unknown : (r : Chosen) → r ≡ chosen n → r ≡ Unknown → 3583 ≡ firstOf (rowsAll kind n p c b)
-  unfolding rowsAll badNumbers isUnknown firstOf _or_ _if_else_
-  code-unknown r g u = let h : chosen n ≡ Unknown = sym g ∙ u in rw h
-
-  -- bad numbers
-  pub code-bad : (r : Bool) → r ≡ badNumbers n p c (b .fcb) (b .dma) (b .list) → r ≡ true → 3583 ≡ firstOf (rowsAll kind n p c b)
-  unfolding rowsAll
-  code-bad r e t = row-yes 3583 3583 _ _ (sym e ∙ t) refl
+-- ---- a call by the fast path and by the plain engine, behind the general table
 
 module _ (kind : Kind) (z : Bool) (n p c : ℕ) (b : Buffers) where
-  by-refused : (firstOf (rowsAll kind n p c b) ≡ 0 → ⊥) → callBy kind z n p c b ≡ outcome (firstOf (rowsAll kind n p c b)) b
+  -- a general refusal
+  pub by-refused : (firstOf (rowsAll kind n p c b) ≡ 0 → ⊥) → callBy kind z n p c b ≡ outcome (firstOf (rowsAll kind n p c b)) b
   unfolding callBy
   by-refused h = each z
     where
       each : (y : Bool) → callBy kind y n p c b ≡ outcome (firstOf (rowsAll kind n p c b)) b
       each false = call-refused kind n p c b h
-      each true =
-          ⊎-elim (λ (q : servesRun n ≡ true). run-refused kind n p c b q h)
-          (λ (q : servesRun n ≡ false). run-plain kind n p c b q ∙ call-refused kind n p c b h) (either (servesRun n))
+      each true = run-first kind n p c b h
 
-  by-served : (k : Routine) → chosen n ≡ Call k → firstOf (rowsAll kind n p c b) ≡ 0 → callBy kind z n p c b ≡ servedBy kind z n k p c b
+  -- none
+  pub by-served : (k : Routine) → chosen n ≡ Call k → firstOf (rowsAll kind n p c b) ≡ 0 → callBy kind z n p c b ≡ servedBy kind z n k p c b
   unfolding callBy servedBy _if_else_
   by-served k g h = each z
     where
@@ -141,28 +126,3 @@ module _ (kind : Kind) (z : Bool) (n p c : ℕ) (b : Buffers) where
       each true =
           ⊎-elim (λ (q : servesRun n ≡ true). rw q (run-told kind n p c b q h))
           (λ (q : servesRun n ≡ false). rw q (run-plain kind n p c b q ∙ plain)) (either (servesRun n))
-
-  refused : (code : ℕ) → code ≡ firstOf (rowsAll kind n p c b) → (code ≡ 0 → ⊥) → Did (callBy kind z n p c b) code b
-  refused code e t =
-      did-as _ _ _ _ (ap (λ (a : ℕ). outcome a b) e ∙ sym (by-refused (λ q. t (e ∙ q)))) (did-none code b)
-
-  pub ends-unknown : (r : Chosen) → r ≡ chosen n → r ≡ Unknown → Did (callBy kind z n p c b) 3583 b
-  ends-unknown r g u = refused 3583 (code-unknown kind n p c b r g u) (λ q. omega arith)
-
-  module _ (r : Bool) (e : r ≡ badNumbers n p c (b .fcb) (b .dma) (b .list)) where
-    pub ends-bad : r ≡ true → Did (callBy kind z n p c b) 3583 b
-    ends-bad t = refused 3583 (code-bad kind n p c b r e t) (λ q. omega arith)
-
-    module _ (t : r ≡ false) (code : ℕ) (h : code ≡ firstOf (rowsInside kind n (b .fcb) (b .list) (b .image))) where
-      table : code ≡ firstOf (rowsAll kind n p c b)
-      table = all-rows n p c (b .fcb) (b .dma) (b .list) r e t kind (b .image) code h
-
-      -- another general refusal
-      pub ends-refused : (code ≡ 0 → ⊥) → Did (callBy kind z n p c b) code b
-      ends-refused = refused code table
-
-      -- the call is served
-      pub ends-served : (q : Chosen) (k : Routine) (a : ℕ) (left : Buffers) → code ≡ 0 → q ≡ chosen n
-          → Did (servedBy kind z n k p c b) a left → q ≡ Call k → Did (callBy kind z n p c b) a left
-      ends-served q k a left y g d m =
-          did-as _ _ a left (sym (by-served k (sym g ∙ m) (sym table ∙ y))) d

@@ -1,5 +1,5 @@
 use crate::choose::routine_of;
-use crate::refuse::bad_numbers;
+use crate::refuse::bad_lengths;
 use crate::refuse::refusal;
 use crate::serve::serve_by;
 use locklist::unpack::unpack;
@@ -8,9 +8,10 @@ use rules::kind::Kind;
 use rules::routine::Chosen;
 ghost use mathlib.Core.Path.{_≡_};
 ghost use Rattle.words.specs.Tables.{firstOf};
-ghost use Rattle.rules.specs.Serves.{Did, buffers};
-ghost use Rattle.rules.specs.Codes.{rowsAll};
-ghost use Rattle.calls.specs.Calls.{callBy};
+ghost use Rattle.rules.specs.Serves.{buffers};
+ghost use Rattle.rules.specs.Vector.{DidFive};
+ghost use Rattle.calls.specs.Calls.{fiveBy};
+ghost use Rattle.calls.specs.Five.{rowsFive};
 
 // A call on the buffers: the general refusals, then the routine. `several`: count serves 33, 34 and 40 too; else they take one record.
 pub fn answer(
@@ -23,18 +24,29 @@ pub fn answer(
     dma: &mut [u8],
     list: &mut [u8],
     image: &mut [u8],
+    vector: &mut [u8],
 ) -> u32
-    ensures { λ r. ⌜ Did (callBy kind several function process count (buffers (now (fcb .entry)) (now (dma .entry)) (now (list .entry)) (now (image .entry)))) r (buffers (now (fcb .exit)) (now (dma .exit)) (now (list .exit)) (now (image .exit))) ⌝ }
+    ensures { λ r. ⌜ DidFive (fiveBy kind several function process count (now (vector .entry)) (buffers (now (fcb .entry)) (now (dma .entry)) (now (list .entry)) (now (image .entry)))) r (buffers (now (fcb .exit)) (now (dma .exit)) (now (list .exit)) (now (image .exit))) (now (vector .exit)) ⌝ }
 {
     let chosen = routine_of(function);
     let Chosen::Call(routine) = chosen else {
         return BAD_CALL;
     };
-    if bad_numbers(function, routine, process, count, &*fcb, &*dma, &*list) {
+    if bad_lengths(
+        kind,
+        function,
+        routine,
+        process,
+        count,
+        &*fcb,
+        &*dma,
+        &*list,
+        &*vector,
+    ) {
         return BAD_CALL;
     }
     let l = unpack(&*list);
-    let code = refusal(kind, function, routine, l, &*fcb, &*list, &*image);
+    let code = refusal(kind, function, routine, l, &*fcb, &*list, &*image, &*vector);
     if code != 0 {
         return code;
     }
@@ -50,6 +62,7 @@ pub fn answer(
         dma,
         list,
         image,
+        vector,
     )
 }
 
@@ -63,15 +76,35 @@ pub fn general_refusal(
     dma: &[u8],
     list: &[u8],
     image: &[u8],
+    vector: &[u8],
 ) -> u32
-    ensures { λ c. ⌜ c ≡ firstOf (rowsAll kind function process count (buffers (now (fcb .entry)) (now (dma .entry)) (now (list .entry)) (now (image .entry)))) ⌝ }
+    ensures { λ c. ⌜ c ≡ firstOf (rowsFive kind function process count (now (vector .entry)) (buffers (now (fcb .entry)) (now (dma .entry)) (now (list .entry)) (now (image .entry)))) ⌝ }
 {
     let chosen = routine_of(function);
     let Chosen::Call(routine) = chosen else {
         return BAD_CALL;
     };
-    if bad_numbers(function, routine, process, count, fcb, dma, list) {
+    if bad_lengths(
+        kind,
+        function,
+        routine,
+        process,
+        count,
+        fcb,
+        dma,
+        list,
+        vector,
+    ) {
         return BAD_CALL;
     }
-    refusal(kind, function, routine, unpack(list), fcb, list, image)
+    refusal(
+        kind,
+        function,
+        routine,
+        unpack(list),
+        fcb,
+        list,
+        image,
+        vector,
+    )
 }

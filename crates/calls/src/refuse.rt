@@ -1,20 +1,25 @@
-use drive::check::sound_index;
+use drive::vector::sound_vector;
 use listcheck::check::sound_list;
 use rules::code::BAD_DRIVE;
 use rules::code::BAD_IMAGE;
 use rules::code::BAD_LIST;
+use rules::code::BAD_VECTOR;
 use rules::kind::Kind;
+use rules::kind::vector_size;
 use rules::list::LockList;
 use rules::routine::Routine;
+use words::compare::same;
 ghost use mathlib.Core.Path.{_≡_};
 ghost use mathlib.Core.Bool.{true, false};
-ghost use lib.ListN.{length};
+ghost use lib.ListN.{length, replicate};
 ghost use Rattle.words.specs.Tables.{firstOf};
 ghost use Rattle.rules.specs.Serves.{chosen};
 ghost use Rattle.rules.specs.declared.routine.Chosen.the-variants.{Call};
 ghost use Rattle.rules.specs.Locks.{unpack};
-ghost use Rattle.rules.specs.Codes.{badNumbers, badDrive, rowsInside};
+ghost use Rattle.rules.specs.Kinds.{vectorSize};
+ghost use Rattle.rules.specs.Codes.{badNumbers, badDrive};
 ghost use Rattle.calls.specs.Drives.{readsDrive};
+ghost use Rattle.calls.specs.Five.{badLengths, rowsWithin};
 
 // 255/13 for a known function: process over 15, count outside 1 to 16, FCB, DMA or list of wrong length.
 pub fn bad_numbers(
@@ -45,6 +50,27 @@ pub fn bad_numbers(
         return true;
     }
     list.len() != 1315
+}
+
+// The same, or a vector of wrong length.
+pub fn bad_lengths(
+    kind: Kind,
+    function: u32,
+    routine: Routine,
+    process: u32,
+    count: u32,
+    fcb: &[u8],
+    dma: &[u8],
+    list: &[u8],
+    vector: &[u8],
+) -> bool
+    requires { ⌜ chosen function ≡ Call routine ⌝ }
+    ensures { λ t. ⌜ t ≡ badLengths kind function process count (now (fcb .entry)) (now (dma .entry)) (now (list .entry)) (now (vector .entry)) ⌝ }
+{
+    if bad_numbers(function, routine, process, count, fcb, dma, list) {
+        return true;
+    }
+    vector.len() != vector_size(kind)
 }
 
 // FCB byte 0 is looked at by all calls but 46 and 143.
@@ -82,7 +108,39 @@ fn bad_drive(function: u32, routine: Routine, fcb: &[u8]) -> bool
     reads_drive(routine)
 }
 
-// The code of the first refusal that all calls share once the numbers are good, or 0; `l` is the list, unpacked.
+// The code of the first refusal that all calls share once the numbers are good, or 0; `l` is the list, unpacked; the vector of the
+// image is built in `seen`, all zeros before.
+fn refusal_in(
+    kind: Kind,
+    function: u32,
+    routine: Routine,
+    l: LockList,
+    fcb: &[u8],
+    list: &[u8],
+    image: &[u8],
+    vector: &[u8],
+    seen: &mut [u8],
+) -> u32
+    requires { ⌜ (chosen function ≡ Call routine) × (l ≡ unpack (now list)) × (length (now fcb) ≡ 36) × (length (now list) ≡ 1315) × (length (now vector) ≡ vectorSize kind) × (now seen ≡ replicate (vectorSize kind) 0) ⌝ }
+    ensures { λ c. ⌜ c ≡ firstOf (rowsWithin kind function (now (fcb .entry)) (now (list .entry)) (now (image .entry)) (now (vector .entry))) ⌝ }
+{
+    let mut hints = [255u8; 256];
+    if !sound_vector(kind, image, &mut *seen, &mut hints) {
+        return BAD_IMAGE;
+    }
+    if !sound_list(kind, l, list, image, &hints) {
+        return BAD_LIST;
+    }
+    if !same(vector, &*seen) {
+        return BAD_VECTOR;
+    }
+    if bad_drive(function, routine, fcb) {
+        return BAD_DRIVE;
+    }
+    0
+}
+
+// The same in an array of its own.
 pub fn refusal(
     kind: Kind,
     function: u32,
@@ -91,19 +149,22 @@ pub fn refusal(
     fcb: &[u8],
     list: &[u8],
     image: &[u8],
+    vector: &[u8],
 ) -> u32
-    requires { ⌜ (chosen function ≡ Call routine) × (l ≡ unpack (now list)) × (length (now fcb) ≡ 36) × (length (now list) ≡ 1315) ⌝ }
-    ensures { λ c. ⌜ c ≡ firstOf (rowsInside kind function (now (fcb .entry)) (now (list .entry)) (now (image .entry))) ⌝ }
+    requires { ⌜ (chosen function ≡ Call routine) × (l ≡ unpack (now list)) × (length (now fcb) ≡ 36) × (length (now list) ≡ 1315) × (length (now vector) ≡ vectorSize kind) ⌝ }
+    ensures { λ c. ⌜ c ≡ firstOf (rowsWithin kind function (now (fcb .entry)) (now (list .entry)) (now (image .entry)) (now (vector .entry))) ⌝ }
 {
-    let mut hints = [255u8; 256];
-    if !sound_index(kind, image, &mut hints) {
-        return BAD_IMAGE;
-    }
-    if !sound_list(kind, l, list, image, &hints) {
-        return BAD_LIST;
-    }
-    if bad_drive(function, routine, fcb) {
-        return BAD_DRIVE;
-    }
-    0
+    let mut seen = [0u8; 512];
+    let n = vector_size(kind);
+    refusal_in(
+        kind,
+        function,
+        routine,
+        l,
+        fcb,
+        list,
+        image,
+        vector,
+        &mut seen[0..n],
+    )
 }

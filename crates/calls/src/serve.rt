@@ -4,12 +4,13 @@ use rules::routine::Routine;
 ghost use mathlib.Core.Path.{_≡_};
 ghost use mathlib.Core.Bool.{false};
 ghost use Prim.Native.Nat.{_≤_, _<_};
-ghost use Rattle.rules.specs.Serves.{Did, buffers, chosen};
+ghost use Rattle.rules.specs.Serves.{buffers, chosen};
+ghost use Rattle.rules.specs.Vector.{vectorOf};
 ghost use Rattle.rules.specs.Codes.{badDrive};
 ghost use Rattle.rules.specs.Locks.{unpack};
 ghost use Rattle.rules.specs.declared.routine.Chosen.the-variants.{Call};
 ghost use Rattle.rules.specs.Call.{Ready, served};
-ghost use Rattle.calls.specs.Calls.{servedBy};
+ghost use Rattle.calls.specs.Calls.{DidBeside, servedBy};
 
 // The call's routine; the list comes unpacked too.
 pub fn serve(
@@ -22,9 +23,10 @@ pub fn serve(
     dma: &mut [u8],
     list: &mut [u8],
     image: &mut [u8],
+    vector: &mut [u8],
 ) -> u32
-    requires { ⌜ (l ≡ unpack (now list)) × (1 ≤ count) × (count ≤ 16) × Ready kind (buffers (now fcb) (now dma) (now list) (now image)) ⌝ }
-    ensures { λ c. ⌜ Did (served kind (Call routine) p count (buffers (now (fcb .entry)) (now (dma .entry)) (now (list .entry)) (now (image .entry)))) c (buffers (now (fcb .exit)) (now (dma .exit)) (now (list .exit)) (now (image .exit))) ⌝ }
+    requires { ⌜ (l ≡ unpack (now list)) × (p < 16) × (1 ≤ count) × (count ≤ 16) × Ready kind (buffers (now fcb) (now dma) (now list) (now image)) × (now vector ≡ vectorOf kind (now image)) ⌝ }
+    ensures { λ c. ⌜ DidBeside kind (served kind (Call routine) p count (buffers (now (fcb .entry)) (now (dma .entry)) (now (list .entry)) (now (image .entry)))) c (buffers (now (fcb .exit)) (now (dma .exit)) (now (list .exit)) (now (image .exit))) (now (vector .exit)) ⌝ }
 {
     match routine {
         Routine::Open => files::open::open_file(kind, p, l, fcb, &*dma, list, &*image),
@@ -47,11 +49,29 @@ pub fn serve(
             list,
             &*image,
         ),
-        Routine::Delete => files::delete::delete_file(kind, p, l, &*fcb, &*dma, list, image),
+        Routine::Delete => files::delete::delete_file(
+            kind,
+            p,
+            l,
+            &*fcb,
+            &*dma,
+            list,
+            image,
+            vector,
+        ),
         Routine::Make => files::make::make_file(kind, p, l, fcb, &*dma, list, image),
         Routine::Rename => files::rename::rename_file(kind, p, l, &*fcb, &*dma, &*list, image),
         Routine::Read => records::read::read_random(kind, p, l, &*fcb, dma, &*list, &*image),
-        Routine::Write => records::write::write_random(kind, p, l, &*fcb, &*dma, &*list, image),
+        Routine::Write => records::write::write_random(
+            kind,
+            p,
+            l,
+            &*fcb,
+            &*dma,
+            &*list,
+            image,
+            vector,
+        ),
         Routine::Size => files::size::file_size(kind, p, l, fcb, &*dma, &*list, &*image),
         Routine::WriteZeros => records::write::write_zero_fill(
             kind,
@@ -61,8 +81,18 @@ pub fn serve(
             &*dma,
             &*list,
             image,
+            vector,
         ),
-        Routine::TestWrite => records::test::test_write(kind, p, l, &*fcb, &*dma, &*list, image),
+        Routine::TestWrite => records::test::test_write(
+            kind,
+            p,
+            l,
+            &*fcb,
+            &*dma,
+            &*list,
+            image,
+            &*vector,
+        ),
         Routine::Lock => locking::lock::lock_records(
             kind,
             p,
@@ -83,7 +113,15 @@ pub fn serve(
             list,
             &*image,
         ),
-        Routine::FreeSpace => records::space::free_space(kind, p, &*fcb, dma, &*list, &*image),
+        Routine::FreeSpace => records::space::free_space(
+            kind,
+            p,
+            &*fcb,
+            dma,
+            &*list,
+            &*image,
+            &*vector,
+        ),
         Routine::Terminate => locking::terminate::terminate(
             kind,
             p,
@@ -109,21 +147,44 @@ pub fn serve_by(
     dma: &mut [u8],
     list: &mut [u8],
     image: &mut [u8],
+    vector: &mut [u8],
 ) -> u32
-    requires { ⌜ (chosen function ≡ Call routine) × (p < 16) × (l ≡ unpack (now list)) × (1 ≤ count) × (count ≤ 16) × (badDrive function (now fcb) ≡ false) × Ready kind (buffers (now fcb) (now dma) (now list) (now image)) ⌝ }
-    ensures { λ c. ⌜ Did (servedBy kind several function routine p count (buffers (now (fcb .entry)) (now (dma .entry)) (now (list .entry)) (now (image .entry)))) c (buffers (now (fcb .exit)) (now (dma .exit)) (now (list .exit)) (now (image .exit))) ⌝ }
+    requires { ⌜ (chosen function ≡ Call routine) × (p < 16) × (l ≡ unpack (now list)) × (1 ≤ count) × (count ≤ 16) × (badDrive function (now fcb) ≡ false) × Ready kind (buffers (now fcb) (now dma) (now list) (now image)) × (now vector ≡ vectorOf kind (now image)) ⌝ }
+    ensures { λ c. ⌜ DidBeside kind (servedBy kind several function routine p count (buffers (now (fcb .entry)) (now (dma .entry)) (now (list .entry)) (now (image .entry)))) c (buffers (now (fcb .exit)) (now (dma .exit)) (now (list .exit)) (now (image .exit))) (now (vector .exit)) ⌝ }
 {
     if !several {
-        return serve(kind, routine, p, count, l, fcb, dma, list, image);
+        return serve(kind, routine, p, count, l, fcb, dma, list, image, vector);
     }
     if function == 33 {
         return several::read::read_several(kind, p, l, count, &*fcb, dma, &*list, &*image);
     }
     if function == 34 {
-        return several::write::write_several(kind, false, p, l, count, &*fcb, &*dma, &*list, image);
+        return several::write::write_several(
+            kind,
+            false,
+            p,
+            l,
+            count,
+            &*fcb,
+            &*dma,
+            &*list,
+            image,
+            vector,
+        );
     }
     if function == 40 {
-        return several::write::write_several(kind, true, p, l, count, &*fcb, &*dma, &*list, image);
+        return several::write::write_several(
+            kind,
+            true,
+            p,
+            l,
+            count,
+            &*fcb,
+            &*dma,
+            &*list,
+            image,
+            vector,
+        );
     }
-    serve(kind, routine, p, count, l, fcb, dma, list, image)
+    serve(kind, routine, p, count, l, fcb, dma, list, image, vector)
 }

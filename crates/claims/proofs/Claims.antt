@@ -1,25 +1,29 @@
 -- All that is claimed holds. Assumes nothing.
 use Prim.Native.Nat.{ℕ, _%_, _<_}
 use mathlib.Core.Path.{_≡_, refl, sym, ap, _∙_}
-use mathlib.Core.Bool.{true}
+use mathlib.Core.Bool.{true, false, not}
 use mathlib.Core.List.{List}
 use mathlib.Core.Logic.{inl, inr, ⊎-elim}
 use native.Mathlib.Omega.{arith}
 use lib.ListN.{length, replicate}
-use borrow.Author.Tests.{ne-eqb, lt-ltb}
+use borrow.Author.Tests.{eq-eqb, ne-eqb, lt-ltb}
 use Rattle.words.specs.Tests.{_if_else_}
-use Rattle.words.specs.Tables.{_∕_}
+use Rattle.words.specs.Tables.{_∕_, anyRow}
+use Rattle.words.proofs.Tests.{either}
+use Rattle.words.proofs.Sets.{or-none}
 use Rattle.words.proofs.AreBytes.{byte-small}
 use Rattle.rules.specs.declared.kind.Kind.{Kind}
 use Rattle.rules.specs.declared.kind.Kind.the-variants.{Small, Large}
 use Rattle.rules.specs.declared.kind.Told.{Told}
 use Rattle.rules.specs.declared.kind.Told.the-variants.{Known, Other}
-use Rattle.rules.specs.Kinds.{toldKind}
+use Rattle.rules.specs.Kinds.{toldKind, vectorSize}
 use Rattle.rules.specs.Serves.{Outcome, outcome}
 use Rattle.rules.specs.Drive.{lookUp, soundImage, imageCheck, imageNumber, imageEntry, imageTold}
 use Rattle.rules.specs.Locks.{start}
 use Rattle.rules.specs.Several.{callRun}
-use Rattle.rules.specs.Told.{callTold, checkTold, lookTold}
+use Rattle.rules.specs.Vector.{Built, five, callFive, build, rowsBuild}
+use Rattle.rules.proofs.Vector.{vector-bit, build-refused, build-accepted}
+use Rattle.rules.specs.Told.{fiveTold, buildTold, checkTold, lookTold}
 use Rattle.rules.proofs.Tables.{accepted, accepted-zero, refused, zero-accepted, did-is}
 use Rattle.rules.proofs.Several.{same-left, same-code}
 use Rattle.rules.proofs.OneRecord.{one-record}
@@ -32,7 +36,7 @@ use Rattle.rules.proofs.Highest.{highest-most}
 use Rattle.listing.proofs.Searches.{searches}
 use Rattle.listing.proofs.Shown.{lists-matching}
 use Rattle.soundness.proofs.SizedCalls.{made-zero, size-written, size-rewritten, size-renamed}
-use Rattle.rules.proofs.Told.{other-call, other-check, other-look}
+use Rattle.rules.proofs.Told.{other-check, other-look, other-five}
 use Rattle.session.specs.Open.{rules}
 use Rattle.session.specs.Session.{firstList}
 use Rattle.session.proofs.Session.{the-session}
@@ -52,10 +56,12 @@ use Rattle.packing.specs.Same.{sameTold}
 use Rattle.packing.proofs.Decides.{same-sym}
 use Rattle.packing.proofs.Accepted.{same-refl, same-then, accepted-so, accepted-of, first-unsound, second-unsound, different, packed-accepted, accepted-packed}
 use Rattle.repair.proofs.Outcome.{refused-nothing, good-answered, salvaged-twice}
-use Rattle.history.specs.History.{Ask, State, Engine, isWord, isPossible, isKept, lent, outcomeOf, withCount}
+use Rattle.history.specs.History.{Ask, State, Engine, isWord, isLendable, isPossible, isKept, lent, outcomeOf, withCount}
 use Rattle.history.specs.Deeds.{doneIn}
 use Rattle.history.specs.Demands.{NoTrace, Demand1, Demand2}
-use Rattle.claims.specs.Claims.{Claims, KeepsContract, Refuses, ToldClaims, TheSession, LookClaims, CheckClaims, SizeClaims, SalvageClaims, PackClaims, SameClaims, AllClaims}
+use Rattle.claims.specs.Five.{FiveEngine, fiveOf, four}
+use Rattle.claims.proofs.Five.{four-serves, vector-claims}
+use Rattle.claims.specs.Claims.{BuildClaims, Claims, KeepsContract, Refuses, ToldClaims, TheSession, LookClaims, CheckClaims, SizeClaims, SalvageClaims, PackClaims, SameClaims, AllClaims}
 use Rattle.history.proofs.First.{leaves-no-trace, counted-possible, fewer-possible}
 use Rattle.history.proofs.Alike.{meets-third}
 use Rattle.history.proofs.Unlocks.{unlock-order}
@@ -99,34 +105,37 @@ module _ (kind : Kind) (e : Engine) (serves : Demand2 kind e) where
 
 -- ---- of an engine that keeps the contract, told the kind by a number
 
-module _ (e : ℕ → Engine) (keeps : KeepsContract e) where
-  told-so : (k : ℕ) → isWord k ≡ true → (before : List Ask) (q : Ask) (s : State) → isPossible q ≡ true → isKept s ≡ true
-      → outcomeOf (e k before) q s ≡ callTold (toldKind k) (q .function) (q .process) (q .count) (lent q s)
+module _ (e : ℕ → FiveEngine) (keeps : KeepsContract e) where
+  told-so : (k : ℕ) → isWord k ≡ true → (before : List Ask) (q : Ask) (s : State) (v : List ℕ) → isPossible q ≡ true → isKept s ≡ true → isLendable v ≡ true
+      → fiveOf (e k) before q s v ≡ fiveTold (toldKind k) (q .function) (q .process) (q .count) v (lent q s)
   unfolding KeepsContract
-  told-so k word before q s may h = did-is _ _ _ (keeps k word before q s may h)
+  told-so k word before q s v may h b = let w = keeps k word before q s v may h b in
+      λ j. record { did = did-is _ _ _ (w .outcome-so) j; vector = w .vector-so j }
 
-  of-kind : (k : ℕ) (kind : Kind) → isWord k ≡ true → toldKind k ≡ Known kind → Demand2 kind (e k)
-  unfolding Demand2 callTold outcomeOf
-  of-kind k kind word told before q s may h =
-      told-so k word before q s may h ∙ ap (λ (t : Told). callTold t (q .function) (q .process) (q .count) (lent q s)) told
+  of-kind : (k : ℕ) (kind : Kind) → isWord k ≡ true → toldKind k ≡ Known kind → (before : List Ask) (q : Ask) (s : State) (v : List ℕ)
+      → isPossible q ≡ true → isKept s ≡ true → isLendable v ≡ true
+      → fiveOf (e k) before q s v ≡ callFive kind (q .function) (q .process) (q .count) v (lent q s)
+  unfolding fiveTold
+  of-kind k kind word told before q s v may h b =
+      told-so k word before q s v may h b ∙ ap (λ (t : Told). fiveTold t (q .function) (q .process) (q .count) v (lent q s)) told
 
   other-kind : (k : ℕ) → (k ≡ 0 → ⊥) → (k ≡ 1 → ⊥) → toldKind k ≡ Other
   unfolding toldKind _if_else_
   other-kind k a b = rw (ne-eqb k 0 a, ne-eqb k 1 b)
 
-  unknown : (k : ℕ) → (k ≡ 0 → ⊥) → (k ≡ 1 → ⊥) → isWord k ≡ true → (before : List Ask) (q : Ask) (s : State)
-      → isPossible q ≡ true → isKept s ≡ true → outcomeOf (e k before) q s ≡ outcome (255 ∕ 13) (lent q s)
-  unfolding callTold
-  unknown k a b word before q s may h =
-      told-so k word before q s may h ∙ ap (λ (t : Told). callTold t (q .function) (q .process) (q .count) (lent q s)) (other-kind k a b)
+  unknown : (k : ℕ) → (k ≡ 0 → ⊥) → (k ≡ 1 → ⊥) → isWord k ≡ true → (before : List Ask) (q : Ask) (s : State) (v : List ℕ)
+      → isPossible q ≡ true → isKept s ≡ true → isLendable v ≡ true → fiveOf (e k) before q s v ≡ five (outcome (255 ∕ 13) (lent q s)) v
+  unfolding fiveTold
+  unknown k a b word before q s v may h y =
+      told-so k word before q s v may h y ∙ ap (λ (t : Told). fiveTold t (q .function) (q .process) (q .count) v (lent q s)) (other-kind k a b)
 
   -- a book of one kind, told the other
-  refuses : (own kind : Kind) (k : ℕ) → isWord k ≡ true → (own ≡ kind → ⊥) → toldKind k ≡ Known kind → (before : List Ask) (q : Ask) (s : State)
-      → isPossible q ≡ true → isKept s ≡ true → soundImage own (s .image) ≡ true → Refuses e k before q s
-  unfolding Refuses Demand2 outcomeOf
-  refuses own kind k word other told before q s may h sound =
-      let r = of-kind k kind word told before q s may h in
-      ⊎-elim (λ z. inl (r ∙ z)) (λ z. inr (r ∙ z)) (other-call own kind other (s .image) sound (q .function) (q .process) (q .count) (lent q s) refl)
+  refuses : (own kind : Kind) (k : ℕ) → isWord k ≡ true → (own ≡ kind → ⊥) → toldKind k ≡ Known kind → (before : List Ask) (q : Ask) (s : State) (v : List ℕ)
+      → isPossible q ≡ true → isKept s ≡ true → isLendable v ≡ true → soundImage own (s .image) ≡ true → Refuses e k before q s v
+  unfolding Refuses
+  refuses own kind k word other told before q s v may h b sound =
+      let r = of-kind k kind word told before q s v may h b in
+      ⊎-elim (λ z. inl (r ∙ z)) (λ z. inr (r ∙ z)) (other-five own kind other (s .image) sound (q .function) (q .process) (q .count) (lent q s) refl v)
 
   first-told : toldKind 0 ≡ Known Small
   unfolding toldKind _if_else_
@@ -149,14 +158,36 @@ module _ (e : ℕ → Engine) (keeps : KeepsContract e) where
 
   told-claims : ToldClaims e
   told-claims = record {
-    first-kind = claims Small (e 0) (of-kind 0 Small (word 0 (omega arith)) first-told);
-    second-kind = claims Large (e 1) (of-kind 1 Large (word 1 (omega arith)) second-told);
+    first-kind = claims Small (four Small (e 0)) (four-serves Small (e 0) (of-kind 0 Small (word 0 (omega arith)) first-told));
+    second-kind = claims Large (four Large (e 1)) (four-serves Large (e 1) (of-kind 1 Large (word 1 (omega arith)) second-told));
+    first-vector = vector-claims Small (e 0) (of-kind 0 Small (word 0 (omega arith)) first-told);
+    second-vector = vector-claims Large (e 1) (of-kind 1 Large (word 1 (omega arith)) second-told);
     unknown-kind = unknown;
     first-as-second = refuses Small Large 1 (word 1 (omega arith)) not-large second-told;
     second-as-first = refuses Large Small 0 (word 0 (omega arith)) (λ h. not-large (sym h)) first-told;
   }
 
 -- ---- of the rules
+
+build-claims : BuildClaims
+build-claims = record {
+  refused = unbuilt;
+  done = λ kind s v sound long. unfold buildTold in build-accepted kind s v (quiet kind s v sound long);
+  bit = λ kind s b low. vector-bit kind s b low;
+}
+  where
+    quiet : (kind : Kind) (s v : List ℕ) → soundImage kind s ≡ true → length v ≡ vectorSize kind → anyRow (rowsBuild kind s v) ≡ false
+    quiet kind s v sound long = unfold rowsBuild anyRow in or-none _ _ (ap not (eq-eqb _ _ long)) (or-none _ _ (ap not sound) refl)
+
+    known : (kind : Kind) (s v : List ℕ) → (build kind s v .answer ≡ 0 → ⊥) → build kind s v .vector ≡ v
+    known kind s v z =
+        ⊎-elim (λ (h : anyRow (rowsBuild kind s v) ≡ true). ap (λ (x : Built). x .vector) (build-refused kind s v h))
+        (λ (h : anyRow (rowsBuild kind s v) ≡ false). absurd (z (ap (λ (x : Built). x .answer) (build-accepted kind s v h))))
+        (either (anyRow (rowsBuild kind s v)))
+
+    unbuilt : (told : Told) (s v : List ℕ) → (buildTold told s v .answer ≡ 0 → ⊥) → buildTold told s v .vector ≡ v
+    unbuilt (Known kind) s v z = unfold buildTold in known kind s v z
+    unbuilt Other s v z = unfold buildTold in refl
 
 session-claims : TheSession
 session-claims = record { first-list = started; as-listed = the-session }
@@ -239,6 +270,7 @@ same-claims = record {
 -- every promise, of every engine that keeps the contract, and of the rules
 pub all-claims : AllClaims
 all-claims = record {
+  builds = build-claims;
   engine = told-claims;
   wrong-fall = record {
     refusing-differs = refusing-differs;

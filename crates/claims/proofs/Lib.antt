@@ -1,3 +1,4 @@
 -- All that is claimed holds, and the wrong engines fall. Assumes nothing.
 pub mod Wrong
+pub mod Five
 pub mod Claims

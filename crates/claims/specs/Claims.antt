@@ -3,11 +3,12 @@
 use Prim.Native.Nat.{ℕ, _+_, _*_, _%_, _≤_, _<_}
 use mathlib.Core.Path.{_≡_}
 use mathlib.Core.Bool.{true, false}
-use mathlib.Core.List.{List}
+use mathlib.Core.List.{List, []}
 use mathlib.Core.Logic.{_⊎_}
 use lib.ListN.{length, replicate}
 use lib.Dec.{leb}
 use Rattle.words.specs.Bytes.{byte, areBytes}
+use Rattle.words.specs.Bits.{isSet}
 use Rattle.words.specs.Tables.{_∕_, firstOf, anyRow}
 use Rattle.rules.specs.declared.kind.Kind.{Kind}
 use Rattle.rules.specs.declared.kind.Kind.the-variants.{Small, Large}
@@ -16,8 +17,8 @@ use Rattle.rules.specs.declared.file.File.{File}
 use Rattle.rules.specs.declared.routine.Routine.the-variants.{SearchFirst, SearchNext, Delete, Make, Rename, Write, Size, WriteZeros, TestWrite}
 use Rattle.rules.specs.declared.routine.Chosen.the-variants.{Call}
 use Rattle.rules.specs.declared.kind.Told.the-variants.{Known, Other}
-use Rattle.rules.specs.Kinds.{toldKind, entries}
-use Rattle.rules.specs.Serves.{Buffers, outcome, Did, chosen, isSearch, listSize}
+use Rattle.rules.specs.Kinds.{toldKind, entries, most, vectorSize}
+use Rattle.rules.specs.Serves.{Buffers, outcome, chosen, isSearch, listSize}
 use Rattle.rules.specs.declared.answer.ImageAnswer.{ImageAnswer}
 use Rattle.rules.specs.Drive.{entrySize, recordSize, goodLength, fileFrom, entryByte, extentAt, isOf, noEntry, entryOf, lookUp, isFree, freeBlocks, blocksInUse, soundImage, imageCheck, imageTold}
 use Rattle.rules.specs.Checks.{CheckTells}
@@ -27,7 +28,8 @@ use Rattle.rules.specs.Asks.{callerFile, newFile, recordOf}
 use Rattle.rules.specs.Effects.{fileSize}
 use Rattle.rules.specs.Several.{callSingly, callRun}
 use Rattle.rules.specs.Look.{lookAt, look}
-use Rattle.rules.specs.Told.{callTold, checkTold, lookTold}
+use Rattle.rules.specs.Vector.{five, built, DidFive, isTaken, vectorOf, rowsVector}
+use Rattle.rules.specs.Told.{fiveTold, buildTold, checkTold, lookTold}
 use Rattle.session.specs.Session.{AsListed, session, firstImage, firstList}
 use Rattle.unlocking.specs.Unlocks.{locksTold, unlocksTold, Unlocking}
 use Rattle.unlocking.specs.Wrong.{WrongUnlocks}
@@ -38,10 +40,11 @@ use Rattle.repair.specs.Mends.{Mends}
 use Rattle.packing.specs.Packed.{packed}
 use Rattle.packing.specs.Packs.{rowsPack, packs, packTold}
 use Rattle.packing.specs.Same.{SameBook, sameTold}
-use Rattle.history.specs.History.{Ask, State, Engine, isWord, EachCall, lent, outcomeOf, withCount}
+use Rattle.history.specs.History.{Ask, State, Engine, Begun, isWord, arePossible, EachCall, lent, outcomeOf, withCount, firstState, after}
 use Rattle.history.specs.Demands.{Demand1, Demand2, Demand3}
 use Rattle.history.specs.Unlocks.{UnlockOrder}
 use Rattle.history.specs.Sizing.{NobodyTurnedAway}
+use Rattle.claims.specs.Five.{FiveEngine, EachFive, fiveOf, four, beside, besideAfter}
 use Rattle.claims.specs.Wrong.{refusing, accepting, idle, pretending, madeUp, unbitted, lavish, promoting}
 
 -- ---- Of an engine on drives of one kind
@@ -69,25 +72,43 @@ pub record Claims (kind : Kind) (e : Engine) : Type 0 where
 -- ---- Of an engine that is told the kind by a number
 
 -- What `mpm_call` promises, word for word, of numbers of 32 bits and buffers of bytes.
-unfoldable pub KeepsContract : (ℕ → Engine) → Type 0
-KeepsContract e = (k : ℕ) → isWord k ≡ true → EachCall (λ (before : List Ask) (q : Ask) (s : State).
-    Did (callTold (toldKind k) (q .function) (q .process) (q .count) (lent q s)) (outcomeOf (e k before) q s .answer)
-    (outcomeOf (e k before) q s .left))
+unfoldable pub KeepsContract : (ℕ → FiveEngine) → Type 0
+KeepsContract e = (k : ℕ) → isWord k ≡ true → EachFive (λ (before : List Ask) (q : Ask) (s : State) (v : List ℕ).
+    DidFive (fiveTold (toldKind k) (q .function) (q .process) (q .count) v (lent q s)) (fiveOf (e k) before q s v .did .answer)
+    (fiveOf (e k) before q s v .did .left) (fiveOf (e k) before q s v .vector))
 
--- told the number k, it refuses the call, with 255/13 or 255/1, and leaves all buffers as they were
-unfoldable pub Refuses : (ℕ → Engine) → ℕ → List Ask → Ask → State → Type 0
-Refuses e k before q s = (outcomeOf (e k before) q s ≡ outcome (255 ∕ 13) (lent q s)) ⊎ (outcomeOf (e k before) q s ≡ outcome (255 ∕ 1) (lent q s))
+-- told the number k, it refuses the call, with 255/13 or 255/1, and leaves all five buffers as they were
+unfoldable pub Refuses : (ℕ → FiveEngine) → ℕ → List Ask → Ask → State → List ℕ → Type 0
+Refuses e k before q s v =
+    (fiveOf (e k) before q s v ≡ five (outcome (255 ∕ 13) (lent q s)) v) ⊎ (fiveOf (e k) before q s v ≡ five (outcome (255 ∕ 1) (lent q s)) v)
 
-pub record ToldClaims (e : ℕ → Engine) : Type 0 where
-  -- T-09: "0 the first, 1 this one"
-  pub first-kind : Claims Small (e 0)
-  pub second-kind : Claims Large (e 1)
+-- T-04, "An allocation vector beside the image", of an engine on drives of one kind
+pub record VectorClaims (kind : Kind) (e : FiveEngine) : Type 0 where
+  -- "every accepted call leaves it agreeing with the directory": + every call does that is lent one that agrees, one refused after some records too
+  pub agrees-again : EachCall (λ (before : List Ask) (q : Ask) (s : State).
+      fiveOf e before q s (vectorOf kind (s .image)) .vector ≡ vectorOf kind (fiveOf e before q s (vectorOf kind (s .image)) .did .left .image))
+  -- "255/13 also for its length; 255/14, after 255/12, where it disagrees"; "unchanged on refusal"
+  pub refused : EachFive (λ (before : List Ask) (q : Ask) (s : State) (v : List ℕ).
+      anyRow (rowsVector kind (q .function) (q .process) (q .count) v (lent q s)) ≡ true
+      → fiveOf e before q s v ≡ five (outcome (firstOf (rowsVector kind (q .function) (q .process) (q .count) v (lent q s))) (lent q s)) v)
+  -- + a history that begins with the vector that the building routine gives: list and image are those of the engine of four buffers, of which
+  -- demands 1 to 3 are claimed, and the vector is always that of the image
+  pub history : (g : Begun kind) (qs : List Ask) → arePossible qs ≡ true
+      → besideAfter e [] qs (beside (firstState kind g) (vectorOf kind (g .image)))
+      ≡ beside (after kind (four kind e) g qs) (vectorOf kind (after kind (four kind e) g qs .image))
+
+pub record ToldClaims (e : ℕ → FiveEngine) : Type 0 where
+  -- T-09: "0 the first, 1 this one". T-04: "Demands 2 and 3 read as before": of the engine lent a vector that agrees
+  pub first-kind : Claims Small (four Small (e 0))
+  pub second-kind : Claims Large (four Large (e 1))
+  pub first-vector : VectorClaims Small (e 0)
+  pub second-vector : VectorClaims Large (e 1)
   -- "255/13 also for an unknown kind"
   pub unknown-kind : (k : ℕ) → (k ≡ 0 → ⊥) → (k ≡ 1 → ⊥) → isWord k ≡ true
-      → EachCall (λ (before : List Ask) (q : Ask) (s : State). outcomeOf (e k before) q s ≡ outcome (255 ∕ 13) (lent q s))
+      → EachFive (λ (before : List Ask) (q : Ask) (s : State) (v : List ℕ). fiveOf (e k) before q s v ≡ five (outcome (255 ∕ 13) (lent q s)) v)
   -- "A book of one kind must never be read as the other"
-  pub first-as-second : EachCall (λ (before : List Ask) (q : Ask) (s : State). soundImage Small (s .image) ≡ true → Refuses e 1 before q s)
-  pub second-as-first : EachCall (λ (before : List Ask) (q : Ask) (s : State). soundImage Large (s .image) ≡ true → Refuses e 0 before q s)
+  pub first-as-second : EachFive (λ (before : List Ask) (q : Ask) (s : State) (v : List ℕ). soundImage Small (s .image) ≡ true → Refuses e 1 before q s v)
+  pub second-as-first : EachFive (λ (before : List Ask) (q : Ask) (s : State) (v : List ℕ). soundImage Large (s .image) ≡ true → Refuses e 0 before q s v)
 
 -- ---- Of the rules
 
@@ -201,6 +222,14 @@ pub record SalvageClaims : Type 0 where
   pub twice : (kind : Kind) (s r : List ℕ) → goodLength kind s ≡ true → length r ≡ entries kind
       → salvageTold (Known kind) (repaired kind s) r ≡ salvaged 0 (repaired kind s) (replicate (entries kind) 0)
 
+-- T-04, the building routine, of what `mpm_vector` promises; s is the image, v the vector as lent.
+pub record BuildClaims : Type 0 where
+  -- "255/13 for the vector's length, then 255/1, the vector unchanged"; an unknown kind is refused too
+  pub refused : (told : Told) (s v : List ℕ) → (buildTold told s v .answer ≡ 0 → ⊥) → buildTold told s v .vector ≡ v
+  pub done : (kind : Kind) (s v : List ℕ) → soundImage kind s ≡ true → length v ≡ vectorSize kind → buildTold (Known kind) s v ≡ built (0 ∕ 0) (vectorOf kind s)
+  -- "the high bit of byte 0 standing for block 0, a bit set where a block is used or belongs to the directory, bits from n on clear"
+  pub bit : (kind : Kind) (s : List ℕ) (b : ℕ) → b < most kind → isSet (vectorOf kind s) b ≡ isTaken kind s b
+
 -- T-12, "Packing a book", of what `mpm_pack` promises; s is the image, list the list, out the second buffer as lent.
 pub record PackClaims : Type 0 where
   -- "Refusals: .. the second buffer unchanged": it is done exactly where the kind is known and no row applies (image and list are only read)
@@ -248,7 +277,8 @@ pub record SameClaims : Type 0 where
 -- ---- All of it
 
 pub record AllClaims : Type 0 where
-  pub engine : (e : ℕ → Engine) → KeepsContract e → ToldClaims e
+  pub engine : (e : ℕ → FiveEngine) → KeepsContract e → ToldClaims e
+  pub builds : BuildClaims
   pub wrong-fall : WrongFall
   pub the-session : TheSession
   pub tables : Tables

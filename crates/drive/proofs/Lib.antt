@@ -3,3 +3,4 @@ pub mod Walks
 pub mod Marks
 pub mod Begun
 pub mod Looking
+pub mod Taken

@@ -1,5 +1,5 @@
 -- Laws of the marks. Assumes nothing.
-use Prim.Native.Nat.{ℕ, _+_, _*_, _/_, _≤_, _<_}
+use Prim.Native.Nat.{ℕ, _+_, _*_, _≤_, _<_}
 use mathlib.Core.Path.{_≡_, refl, sym, ap, _∙_}
 use mathlib.Core.List.{List, [], _∷_}
 use mathlib.Core.Bool.{Bool, true, false, not, true≢false}
@@ -9,34 +9,40 @@ use native.Mathlib.Omega.{arith}
 use lib.Dec.{eqb, leb, ltb}
 use lib.ListN.{length, replicate, length-replicate}
 use borrow.Author.Needs.{needs}
-use borrow.Author.Tests.{eq-eqb, ne-eqb, leb-true, leb-false, ltb-true, not-true, not-false}
+use borrow.Author.Tests.{eq-eqb, ne-eqb, ltb-true, not-false}
 use Rattle.words.specs.Tests.{_and_, _or_, _if_else_, all, any, lowest, count}
 use Rattle.words.specs.Tables.{_when_, firstOf, noneZero}
 use Rattle.words.specs.Bits.{isSet, isClear, withBit}
-use Rattle.words.proofs.Tests.{either, equal?, and-snd, or-so, all-none, all-more, all-at, any-none, any-skip, any-here, lowest-ext}
-use Rattle.words.proofs.Counts.{count-ext}
-use Rattle.words.proofs.Sets.{all-stops, all-ends, all-stops-as, all-ends-as, any-goes, is-no, if-yes, if-no, or-first, row-yes, row-no, row-none, part-first, part-then, answers}
-use Rattle.words.proofs.Bitwise.{length-bit, set-here, set-there, set-stays, set-none}
+use Rattle.words.proofs.Tests.{equal?, and-snd, or-so, all-none, all-more, all-at, any-none, any-skip, any-here}
+use Rattle.words.proofs.Sets.{all-stops, all-ends, all-stops-as, all-ends-as, any-goes, if-yes, if-no, row-yes, row-no, row-none, part-first, part-then, answers}
+use Rattle.words.proofs.AreBytes.{bytes-replicate}
+use Rattle.words.proofs.Bitwise.{length-bit, set-here, set-there, set-none, bytes-bit}
 use Rattle.words.specs.Hints.{Hints}
 use Rattle.rules.specs.declared.kind.Kind.{Kind}
 use Rattle.rules.specs.declared.kind.Kind.the-variants.{Small, Large}
 use Rattle.rules.specs.declared.answer.ImageAnswer.{ImageAnswer}
 use Rattle.rules.specs.declared.answer.ImageAnswer.the-variants.{Sound}
 use Rattle.rules.specs.Kinds.{most, entries, numbers}
-use Rattle.rules.specs.Drive.{blocks, nameAt, legalName, goodUser, goodNumbers, goodFields, inRange, isEmpty, mapNumber, holdsNumber, namesBlock, namedBefore, isFirst, goodEntry, isUsed, isFree, freeBlock, freeBlocks, isRepeat, reasons, reason, badFor, isBad, judged, isSound}
-use Rattle.rules.proofs.Sizes.{most-some}
+use Rattle.rules.specs.Drive.{blocks, nameAt, legalName, goodUser, goodNumbers, goodFields, inRange, isEmpty, mapNumber, holdsNumber, namesBlock, namedBefore, isFirst, goodEntry, freeBlock, freeBlocks, isRepeat, reasons, reason, badFor, isBad, judged, isSound, directoryAnswer}
+use Rattle.rules.specs.Vector.{vectorOf}
+use Rattle.rules.proofs.Sizes.{vector-bits}
+use Rattle.rules.proofs.Vector.{vector-long, lowest-free, count-free}
 use Rattle.rules.proofs.Checks.{reason-good, bad-reason, judged-none, judged-at}
 use Rattle.index.specs.Slots.{slotAt, inUse}
 use Rattle.index.proofs.Slots.{known-empty}
-use Rattle.drive.specs.Marks.{Marks, Marked, fieldReasons, Judged, InUse}
-use Rattle.drive.specs.Walks.{Repeats, Answered}
+use Rattle.drive.specs.Marks.{Marks, Marked, fieldReasons, Judged}
+use Rattle.drive.specs.Walks.{Repeats, Answered, Surveyed}
 use Rattle.drive.proofs.Walks.{entry-byte}
 
 -- ---- zeros
 
-zeros : (kind : Kind) (low : ℕ) (s : List ℕ) (n : ℕ) → 8 * n ≡ most kind → Marks kind low s 0 0 (replicate n 0)
+pub zeros : (kind : Kind) (low : ℕ) (s : List ℕ) (n : ℕ) → 8 * n ≡ most kind → Marks kind low s 0 0 (replicate n 0)
 unfolding namedBefore any _or_
-zeros kind low s n h = record { long = rw (length-replicate {A = ℕ} n 0) h; mark = λ x p l. set-none n x (omega arith) }
+zeros kind low s n h = record {
+  long = rw (length-replicate {A = ℕ} n 0) h;
+  bytes = bytes-replicate n 0 (omega arith);
+  mark = λ x p l. set-none n x (omega arith);
+}
 
 pub small-none : (low : ℕ) (s : List ℕ) → Marks Small low s 0 0 (replicate 32 0)
 unfolding most
@@ -61,18 +67,16 @@ module _ (kind : Kind) (low : ℕ) (s : List ℕ) (e k : ℕ) (seen : List ℕ) 
   unfolding namedBefore holdsNumber
   other x q = or-more _ _ _ (sym (any-skip (holdsNumber kind s x e) k (ne-eqb _ _ (λ z. q (sym z ∙ sym is)))))
 
-  -- it has no mark: it is below the lowest block that has one, or past all of them
+  -- it has no mark: it is below the lowest block that has one
   below : b < low → Marks kind low s e (k + 1) seen
-  below z = record { long = m .long; mark = λ x p l. m .mark x p l ∙ other x (λ q. omega arith) }
-
-  past : most kind ≤ b → Marks kind low s e (k + 1) seen
-  past z = record { long = m .long; mark = λ x p l. m .mark x p l ∙ other x (λ q. omega arith) }
+  below z = record { long = m .long; bytes = m .bytes; mark = λ x p l. m .mark x p l ∙ other x (λ q. omega arith) }
 
   -- its mark is set
   pub marks-set : (t : List ℕ) → t ≡ withBit b seen → b < most kind → Marks kind low s e (k + 1) t
   unfolding namedBefore holdsNumber
   marks-set t h f = rw h (record {
     long = rw (length-bit seen b) (m .long);
+    bytes = bytes-bit seen b (m .bytes);
     mark = λ x p l.
         ⊎-elim
         (λ (q : x ≡ b). rw q (set-here seen b (omega (arith, m .long)) ∙ or-here _ _ (any-here (holdsNumber kind s b e) k (eq-eqb _ _ (sym is)))))
@@ -138,7 +142,7 @@ unfolding _or_
 or-off true y e = refl
 or-off false y e = e
 
-to-next : (kind : Kind) (s : List ℕ) (x e : ℕ) → namedBefore kind s x e 0 ≡ any (namesBlock kind s x) e
+pub to-next : (kind : Kind) (s : List ℕ) (x e : ℕ) → namedBefore kind s x e 0 ≡ any (namesBlock kind s x) e
 unfolding namedBefore
 to-next kind s x e = or-off _ _ (any-empty (holdsNumber kind s x e))
 
@@ -148,6 +152,7 @@ pub marks-empty : (kind : Kind) (low : ℕ) (s : List ℕ) (e : ℕ) (seen : Lis
 unfolding namesBlock _and_
 marks-empty kind low s e seen r m h t = record {
   long = m .long;
+  bytes = m .bytes;
   mark = λ x p l.
       m .mark x p l ∙ to-next kind s x e
       ∙ sym (any-skip (namesBlock kind s x) e (let q : isEmpty s e ≡ true = sym h ∙ t in rw q)) ∙ sym (to-next kind s x (e + 1));
@@ -167,6 +172,7 @@ pub marks-used : (kind : Kind) (low : ℕ) (s : List ℕ) (e k : ℕ) (seen : Li
 unfolding namedBefore
 marks-used kind low s e k seen m q u = record {
   long = m .long;
+  bytes = m .bytes;
   mark = λ x p l.
       m .mark x p l ∙ ap (λ (j : ℕ). any (namesBlock kind s x) e or any (holdsNumber kind s x e) j) q
       ∙ any-as (namesBlock kind s x) e (any (holdsNumber kind s x e) (numbers kind)) (names-as kind s x e u) ∙ sym (to-next kind s x (e + 1));
@@ -249,102 +255,36 @@ module _ (kind : Kind) (s : List ℕ) (e : ℕ) (seen hints : List ℕ) where
 
     -- the walk ends at the first bad entry, ..
     pub answered-bad : (m : ℕ) (r : ImageAnswer) → m ≡ entries kind → e < m → any (isBad kind s) e ≡ false → (why ≡ 0 → ⊥) → r ≡ badFor why e
-        → Answered (judged kind s) s (entries kind) r hints
+        → Surveyed (judged kind s) kind s r seen hints
     unfolding isBad
     answered-bad m r q l h n g =
         let b = judged-no n in
         let a : r ≡ badFor (reason kind s e) e = g ∙ ap (λ (w : ℕ). badFor w e) (j .told) in
+        let u : isSound r ≡ false = ap isSound a ∙ bad-reason kind s e b .bad in
         record {
-          answer = a ∙ judged-at kind s e (omega arith) h (ap not b);
-          knows = λ z. absurd (true≢false (sym z ∙ ap isSound a ∙ bad-reason kind s e b .bad));
+          walk = record { answer = a ∙ judged-at kind s e (omega arith) h (ap not b); knows = λ z. absurd (true≢false (sym z ∙ u)) };
+          marks = λ z. absurd (true≢false (sym z ∙ u));
         }
 
 -- .. or after all of them
-pub answered-all : (kind : Kind) (s : List ℕ) (e m : ℕ) (hints : List ℕ) → m ≡ entries kind → any (isBad kind s) e ≡ false → m ≤ e → e ≤ m
-    → Hints (slotAt s) (inUse s) e hints → Answered (judged kind s) s (entries kind) Sound hints
-answered-all kind s e m hints q h g l k =
-    let z : e ≡ entries kind = omega arith in record { answer = judged-none kind s (rw z at h); knows = λ y. rw z at k }
+pub answered-all : (kind : Kind) (s : List ℕ) (e m : ℕ) (seen hints : List ℕ) → m ≡ entries kind → any (isBad kind s) e ≡ false → m ≤ e → e ≤ m
+    → Marks kind 1 s e 0 seen → Hints (slotAt s) (inUse s) e hints → Surveyed (judged kind s) kind s Sound seen hints
+answered-all kind s e m seen hints q h g l v k =
+    let z : e ≡ entries kind = omega arith in
+    record { walk = record { answer = judged-none kind s (rw z at h); knows = λ y. rw z at k }; marks = λ y. rw z at v }
 
--- ---- the blocks in use
+-- ---- free blocks, from the vector
 
--- the directory's alone
-pub used-none : (kind : Kind) (s v u : List ℕ) → Marks kind 2 s 0 0 v → u ≡ withBit 1 (withBit 0 v) → InUse kind s 0 0 u
-used-none kind s v u m g =
-    let some = most-some kind in
-    let t = withBit 0 v in
-    let o : length t ≡ length v = length-bit v 0 in
-    rw g (record {
-      directory = λ x l.
-          ⊎-elim (λ (q : x ≡ 1). rw q (set-here t 1 (omega (arith, m .long))))
-          (λ (q : x ≡ 1 → ⊥). let z : x ≡ 0 = omega arith in rw z (set-stays t 1 0 (omega (arith, m .long)) (set-here v 0 (omega (arith, m .long)))))
-          (equal? x 1);
-      named = record {
-        long = rw (length-bit t 1, o) (m .long);
-        mark = λ x p l.
-            set-there t 1 x (λ q. omega arith) (omega (arith, m .long))
-            ∙ set-there v 0 x (λ q. omega arith) (omega (arith, m .long)) ∙ m .mark x p l;
-      };
-    })
+module _ (kind : Kind) (s v : List ℕ) (n : ℕ) (few : blocks kind s ≤ most kind) (h : v ≡ vectorOf kind s) (e : n ≡ blocks kind s) where
+  -- a drive has no more blocks than its vector has bits
+  pub vector-room : n ≤ 8 * length v
+  vector-room = let a = ap length h ∙ vector-long kind s in let b = vector-bits kind in omega arith
 
-pub none-long : (kind : Kind) (s v : List ℕ) → Marks kind 2 s 0 0 v → 1 < 8 * length v
-none-long kind s v m = let some = most-some kind in omega (arith, m .long)
+  pub vector-lowest : (r : ℕ) → r ≡ lowest (isClear v) n → r ≡ freeBlock kind s
+  vector-lowest r q = q ∙ lowest-free kind s few v n h e
 
--- the first two bits, one after the other
-pub next-long : (v t : List ℕ) → t ≡ withBit 0 v → 1 < 8 * length v → 1 < 8 * length t
-next-long v t h l = rw (h, length-bit v 0) l
-
-pub both-set : (v t u : List ℕ) → t ≡ withBit 0 v → u ≡ withBit 1 t → u ≡ withBit 1 (withBit 0 v)
-both-set v t u h g = g ∙ ap (λ (w : List ℕ). withBit 1 w) h
-
-module _ (kind : Kind) (s : List ℕ) (e k : ℕ) (used : List ℕ) (u : InUse kind s e k used) where
-  pub used-set : (b : ℕ) (t : List ℕ) → b ≡ mapNumber kind s e k → t ≡ withBit b used → b / 8 < length used → InUse kind s e (k + 1) t
-  used-set b t is h f = record {
-    directory = λ x l. rw h (set-stays used b x (omega arith) (u .directory x l));
-    named = marks-set kind 2 s e k used b (u .named) is t h (omega (arith, u .named .long));
-  }
-
-  pub used-skip : (b : ℕ) → b ≡ mapNumber kind s e k → b ≡ 0 → InUse kind s e (k + 1) used
-  used-skip b is z = record { directory = u .directory; named = below kind 2 s e k used b (u .named) is (omega arith) }
-
-  pub used-past : (b : ℕ) → b ≡ mapNumber kind s e k → length used ≤ b / 8 → InUse kind s e (k + 1) used
-  used-past b is z = record { directory = u .directory; named = past kind 2 s e k used b (u .named) is (omega (arith, u .named .long)) }
-
-  pub used-full : (m : ℕ) → m ≡ numbers kind → m ≤ k → k ≤ m → isEmpty s e ≡ false → InUse kind s (e + 1) 0 used
-  used-full m is g h q = record { directory = u .directory; named = marks-used kind 2 s e k used (u .named) (omega arith) q }
-
-pub used-long : (used : List ℕ) (b : ℕ) → b / 8 < length used → b < 8 * length used
-used-long used b l = omega arith
-
-pub used-empty : (kind : Kind) (s : List ℕ) (e : ℕ) (used : List ℕ) (r : Bool) → InUse kind s e 0 used → r ≡ isEmpty s e → r ≡ true
-    → InUse kind s (e + 1) 0 used
-used-empty kind s e used r u h t = record { directory = u .directory; named = marks-empty kind 2 s e used r (u .named) h t }
-
-pub used-end : (kind : Kind) (s : List ℕ) (e n : ℕ) (used : List ℕ) → InUse kind s e 0 used → n ≡ entries kind → n ≤ e → e ≤ n
-    → InUse kind s (entries kind) 0 used
-used-end kind s e n used u is g h = let q : e ≡ entries kind = omega arith in rw q at u
-
--- a clear bit is a free block
-module _ (kind : Kind) (s used : List ℕ) (u : InUse kind s (entries kind) 0 used) where
-  clear-free : (b : ℕ) → b < most kind → isClear used b ≡ isFree kind s b
-  unfolding isClear isFree _and_ isUsed
-  clear-free b l =
-      ⊎-elim
-      (λ (h : leb 2 b ≡ true).
-      let k : isSet used b ≡ any (namesBlock kind s b) (entries kind) = u .named .mark b (leb-true _ _ h) l ∙ to-next kind s b (entries kind) in
-      rw (h, k))
-      (λ (h : leb 2 b ≡ false). rw (h, u .directory b (leb-false _ _ h))) (either (leb 2 b))
-
-  module _ (n : ℕ) (is : n ≡ blocks kind s) (few : blocks kind s ≤ most kind) where
-    pub lowest-free : (r : ℕ) → r ≡ lowest (isClear used) n → r ≡ freeBlock kind s
-    unfolding freeBlock
-    lowest-free r h = rw is at h ∙ lowest-ext (isClear used) (isFree kind s) (blocks kind s) (λ i k. clear-free i (omega arith))
-
-    pub count-free : (r : ℕ) → r ≡ count (isClear used) n → r ≡ freeBlocks kind s
-    unfolding freeBlocks
-    count-free r h = rw is at h ∙ count-ext (isClear used) (isFree kind s) (blocks kind s) (λ i k. clear-free i (omega arith))
-
-    pub free-room : n ≤ 8 * length used
-    free-room = omega (arith, u .named .long)
+  pub vector-count : (r : ℕ) → r ≡ count (isClear v) n → r ≡ freeBlocks kind s
+  vector-count r q = q ∙ count-free kind s few v n h e
 
 -- ---- what a match on the kind asks of the routine of one kind, and its answer
 
@@ -354,9 +294,6 @@ module _ (kind one : Kind) (s : List ℕ) (q : kind ≡ one) where
 
   pub one-few : blocks kind s ≤ most kind → blocks one s ≤ most one
   one-few h = rw q at h
-
-  pub one-blocks : (n : ℕ) → n ≡ blocks kind s → n ≡ blocks one s
-  one-blocks n h = rw q at h
 
   pub one-range : (e : ℕ) (r : Bool) → r ≡ all (inRange one s e) (numbers one) → r ≡ all (inRange kind s e) (numbers kind)
   one-range e r h = rw q h
@@ -370,19 +307,11 @@ module _ (kind one : Kind) (s : List ℕ) (q : kind ≡ one) where
   pub one-marked : (e : ℕ) (r : Bool) (seen : List ℕ) → Marked one s e r seen → Marked kind s e r seen
   one-marked e r seen m = rw q m
 
-  pub one-judged : (r : ImageAnswer) (hints : List ℕ) → Answered (judged one s) s (entries one) r hints → Answered (judged kind s) s (entries kind) r hints
-  one-judged r hints h = rw q h
+  pub one-answered : (r : ImageAnswer) (hints : List ℕ) → Answered (directoryAnswer one s) s (entries one) r hints
+      → Answered (directoryAnswer kind s) s (entries kind) r hints
+  one-answered r hints h = rw q h
 
-  pub one-lowest : (r : ℕ) → r ≡ freeBlock one s → r ≡ freeBlock kind s
-  one-lowest r h = rw q h
-
-  pub one-count : (r : ℕ) → r ≡ freeBlocks one s → r ≡ freeBlocks kind s
-  one-count r h = rw q h
-
-  pub one-fits : (r : ℕ) → r ≤ blocks one s → r ≤ blocks kind s
-  one-fits r h = rw q h
-
-pub ruleset one-kind = (one-long, one-few, one-blocks, one-range, all-range, one-marks, one-marked, one-judged, one-lowest, one-count, one-fits)
+pub ruleset one-kind = (one-long, one-few, one-range, all-range, one-marks, one-marked, one-answered)
 
 pub ruleset marking = (
   needs,
@@ -399,12 +328,10 @@ pub ruleset marking = (
   first-marked,
 )
 
-pub ruleset noting = (needs, is-no, small-none, large-none, none-long, used-none, used-set, used-skip, used-past, used-full, used-long, used-empty, used-end)
-
-pub ruleset freeing = (needs, one-kind, lowest-free, count-free, free-room)
-
 pub ruleset judging = (judged-empty, judged-field, judged-outside, judged-before, judged-repeat, judged-last)
 
 pub ruleset entering = (needs, any-none, any-goes, judged-marks, judged-knows, judged-yes, entry-byte, answered-bad, answered-all)
 
 pub ruleset ranging = (needs, answers, all-none, all-more, all-stops-as, all-ends-as, range-as)
+
+pub ruleset freeing = (needs, vector-room, vector-lowest, vector-count)

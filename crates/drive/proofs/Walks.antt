@@ -22,7 +22,8 @@ use Rattle.rules.specs.Drive.{extentAt, fileAt, isEntry, entryOf, isRepeat, goo
 use Rattle.rules.proofs.Checks.{answer-bad, answer-lacking, answer-sound, directory-sound}
 use Rattle.index.specs.Slots.{slotOf, slotAt, inUse}
 use Rattle.index.proofs.Slots.{known-more}
-use Rattle.drive.specs.Walks.{Repeats, Walked, Answered}
+use Rattle.drive.specs.Marks.{Marks}
+use Rattle.drive.specs.Walks.{Repeats, Walked, Answered, Surveyed, Marking}
 
 -- ---- an entry
 
@@ -50,30 +51,47 @@ begun-by kind s e d n f is q h =
 
 -- ---- all entries, then all files
 
-module _ (kind : Kind) (s : List ℕ) (told : ImageAnswer) (r : Bool) (hints : List ℕ)
-    (w : Answered (judged kind s) s (entries kind) told hints) (q : r ≡ isSound told) where
+module _ (kind : Kind) (s : List ℕ) (told : ImageAnswer) (r : Bool) (seen hints : List ℕ)
+    (w : Surveyed (judged kind s) kind s told seen hints) (q : r ≡ isSound told) where
   -- an entry is bad, ..
-  pub answered-first : not r ≡ true → Answered (directoryAnswer kind s) s (entries kind) told hints
+  pub answered-first : not r ≡ true → Surveyed (directoryAnswer kind s) kind s told seen hints
   answered-first n = record {
-    answer = w .answer ∙ answer-bad kind s (sym (ap isSound (w .answer)) ∙ sym q ∙ not-true r n);
-    knows = w .knows;
+    walk = record {
+      answer = w .walk .answer ∙ answer-bad kind s (sym (ap isSound (w .walk .answer)) ∙ sym q ∙ not-true r n);
+      knows = w .walk .knows;
+    };
+    marks = w .marks;
   }
 
   -- .. or none is, ..
   module _ (n : not r ≡ false) where
     none-bad : isSound (judged kind s) ≡ true
-    none-bad = sym (ap isSound (w .answer)) ∙ sym q ∙ not-false r n
+    none-bad = sym (ap isSound (w .walk .answer)) ∙ sym q ∙ not-false r n
 
     pub answered-knows : Hints (slotAt s) (inUse s) (entries kind) hints
-    answered-knows = w .knows (sym q ∙ not-false r n)
+    answered-knows = w .walk .knows (sym q ∙ not-false r n)
+
+    answered-marks : Marks kind 1 s (entries kind) 0 seen
+    answered-marks = w .marks (sym q ∙ not-false r n)
 
     -- .. and a file lacks extent 0, or none does
     module _ (e m : ℕ) (h : e ≡ headless kind s) (g : m ≡ entries kind) where
-      pub answered-lacking : e < m → Answered (directoryAnswer kind s) s (entries kind) (NoFirst e) hints
-      answered-lacking l = record { answer = answer-lacking kind s none-bad e h (omega arith); knows = λ z. answered-knows }
+      pub answered-lacking : e < m → Surveyed (directoryAnswer kind s) kind s (NoFirst e) seen hints
+      answered-lacking l = record {
+        walk = record { answer = answer-lacking kind s none-bad e h (omega arith); knows = λ z. answered-knows };
+        marks = λ z. answered-marks;
+      }
 
-      pub answered-sound : m ≤ e → Answered (directoryAnswer kind s) s (entries kind) Sound hints
-      answered-sound l = record { answer = answer-sound kind s none-bad e h (omega arith); knows = λ z. answered-knows }
+      pub answered-sound : m ≤ e → Surveyed (directoryAnswer kind s) kind s Sound seen hints
+      answered-sound l = record {
+        walk = record { answer = answer-sound kind s none-bad e h (omega arith); knows = λ z. answered-knows };
+        marks = λ z. answered-marks;
+      }
+
+-- what is left of it without the marks
+pub survey-walk : (told : ImageAnswer) (kind : Kind) (s : List ℕ) (r : ImageAnswer) (seen hints : List ℕ) → Surveyed told kind s r seen hints
+    → Answered told s (entries kind) r hints
+survey-walk told kind s r seen hints w = w .walk
 
 -- ---- the length, then the directory
 
@@ -92,6 +110,15 @@ module _ (kind : Kind) (s : List ℕ) (r : Bool) (hints : List ℕ) (h : r ≡ g
     answer = and-then t _ _ (sym h ∙ not-false r z) (q ∙ ap isSound (w .answer) ∙ directory-sound kind s);
     knows = λ y. w .knows (sym q ∙ y);
   }
+
+-- the same with the marks
+module _ (kind : Kind) (s : List ℕ) (r : Bool) (seen hints : List ℕ) (h : r ≡ goodLength kind s) where
+  pub marking-short : not r ≡ true → Marking kind s false seen hints
+  marking-short t = record { walk = walked-short kind s r hints h t; marks = λ z. absurd (true≢false (sym z)) }
+
+  pub marking-directory : not r ≡ false → (told : ImageAnswer) (t : Bool) → Surveyed (directoryAnswer kind s) kind s told seen hints → t ≡ isSound told
+      → Marking kind s t seen hints
+  marking-directory z told t w q = record { walk = walked-directory kind s r hints h z told t (w .walk) q; marks = λ y. w .marks (sym q ∙ y) }
 
 -- what a walk answered, and what its hints then know
 module _ (x r : Bool) (s : List ℕ) (n : ℕ) (hints : List ℕ) (w : Walked x s n r hints) where
@@ -112,3 +139,5 @@ known-none s v = hints-none (slotAt s) (inUse s) v
 pub ruleset answering = (needs, answered-first, answered-knows, answered-lacking, answered-sound)
 
 pub ruleset walking = (needs, known-none, walked-short, walked-directory, walked-answer)
+
+pub ruleset surveying = (needs, marking-short, marking-directory)

@@ -5,6 +5,7 @@ use mathlib.Core.Bool.{Bool, true, not}
 use mathlib.Core.List.{List, [], _∷_}
 use lib.ListN.{length}
 use Rattle.words.specs.Tests.{all}
+use Rattle.words.specs.Bytes.{areBytes}
 use Rattle.words.specs.Bits.{isSet}
 use Rattle.words.specs.Hints.{Hints}
 use Rattle.words.specs.Tables.{Row, _when_}
@@ -17,6 +18,7 @@ use Rattle.index.specs.Slots.{slotAt, inUse}
 -- it, or entry e before place k
 pub record Marks (kind : Kind) (low : ℕ) (s : List ℕ) (e k : ℕ) (seen : List ℕ) : Type 0 where
   pub long : 8 * length seen ≡ most kind
+  pub bytes : areBytes seen ≡ true
   pub mark : (x : ℕ) → low ≤ x → x < most kind → isSet seen x ≡ namedBefore kind s x e k
 
 -- what marking the numbers of entry e answers and leaves: a second mark is refused
@@ -37,8 +39,3 @@ pub record Judged (kind : Kind) (s : List ℕ) (e why : ℕ) (seen hints : List 
   pub told : why ≡ reason kind s e
   pub marks : why ≡ 0 → Marks kind 1 s (e + 1) 0 seen
   pub knows : why ≡ 0 → Hints (slotAt s) (inUse s) (e + 1) hints
-
--- the blocks in use: 0 and 1 are the directory, the others are marked as they are named
-pub record InUse (kind : Kind) (s : List ℕ) (e k : ℕ) (used : List ℕ) : Type 0 where
-  pub directory : (x : ℕ) → x < 2 → isSet used x ≡ true
-  pub named : Marks kind 2 s e k used

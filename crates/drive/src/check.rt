@@ -21,7 +21,7 @@ use words::bits::set;
 use words::hint::note;
 ghost use mathlib.Core.Path.{_≡_};
 ghost use mathlib.Core.Bool.{true};
-ghost use Prim.Native.Nat.{_+_, _*_, _/_, _<_, _≤_};
+ghost use Prim.Native.Nat.{_+_, _*_, _<_, _≤_};
 ghost use lib.ListN.{length};
 ghost use lib.Dec.{leb, ltb, eqb};
 ghost use Rattle.words.specs.Tests.{_and_, _or_, all, any};
@@ -32,7 +32,7 @@ ghost use Rattle.rules.specs.Kinds.{entries, numbers, most, lastModule};
 ghost use Rattle.rules.specs.Drive.{goodLength, blocks, goodNumbers, inRange, fileAt, isEntry, hasFirst, soundImage, badFor, judged, headless, directoryAnswer, imageCheck};
 ghost use Rattle.index.specs.Slots.{slotAt, inUse};
 ghost use Rattle.drive.specs.Marks.{Marks, Marked, fieldReasons, Judged};
-ghost use Rattle.drive.specs.Walks.{Repeats, Walked, Answered};
+ghost use Rattle.drive.specs.Walks.{Repeats, Walked, Answered, Surveyed, Marking};
 
 // A length that the kind of drive has.
 pub fn good_length(kind: Kind, image: &[u8]) -> bool
@@ -246,7 +246,7 @@ fn bad_for(why: u32, e: usize) -> ImageAnswer
 // The lowest bad entry and why, no block having a mark yet and no entry being known.
 fn judge_all(kind: Kind, image: &[u8], seen: &mut [u8], hints: &mut [u8; 256]) -> ImageAnswer
     requires { ⌜ (32 * entries kind ≤ length (now image)) × (blocks kind (now image) ≤ most kind) × Marks kind 1 (now image) 0 0 (now seen) × Hints (slotAt (now image)) (inUse (now image)) 0 (now hints) ⌝ }
-    ensures { λ r. ⌜ Answered (judged kind (now (image .entry))) (now (image .entry)) (entries kind) r (now (hints .exit)) ⌝ }
+    ensures { λ r. ⌜ Surveyed (judged kind (now (image .entry))) kind (now (image .entry)) r (now (seen .exit)) (now (hints .exit)) ⌝ }
 {
     let n = entries(kind);
     let mut e = 0;
@@ -258,33 +258,6 @@ fn judge_all(kind: Kind, image: &[u8], seen: &mut [u8], hints: &mut [u8; 256]) -
         e += 1;
     }
     ImageAnswer::Sound
-}
-
-// The marks are 32 bytes on a drive of the first kind, 512 on one of the second.
-fn small_entries(image: &[u8], hints: &mut [u8; 256]) -> ImageAnswer
-    requires { ⌜ (32 * entries Small ≤ length (now image)) × (blocks Small (now image) ≤ most Small) × Hints (slotAt (now image)) (inUse (now image)) 0 (now hints) ⌝ }
-    ensures { λ r. ⌜ Answered (judged Small (now (image .entry))) (now (image .entry)) (entries Small) r (now (hints .exit)) ⌝ }
-{
-    let mut seen = [0u8; 32];
-    judge_all(Kind::Small, image, &mut seen, hints)
-}
-
-fn large_entries(image: &[u8], hints: &mut [u8; 256]) -> ImageAnswer
-    requires { ⌜ (32 * entries Large ≤ length (now image)) × (blocks Large (now image) ≤ most Large) × Hints (slotAt (now image)) (inUse (now image)) 0 (now hints) ⌝ }
-    ensures { λ r. ⌜ Answered (judged Large (now (image .entry))) (now (image .entry)) (entries Large) r (now (hints .exit)) ⌝ }
-{
-    let mut seen = [0u8; 512];
-    judge_all(Kind::Large, image, &mut seen, hints)
-}
-
-fn good_entries(kind: Kind, image: &[u8], hints: &mut [u8; 256]) -> ImageAnswer
-    requires { ⌜ (32 * entries kind ≤ length (now image)) × (blocks kind (now image) ≤ most kind) × Hints (slotAt (now image)) (inUse (now image)) 0 (now hints) ⌝ }
-    ensures { λ r. ⌜ Answered (judged kind (now (image .entry))) (now (image .entry)) (entries kind) r (now (hints .exit)) ⌝ }
-{
-    match kind {
-        Kind::Small => small_entries(image, hints),
-        Kind::Large => large_entries(image, hints),
-    }
 }
 
 // The file of entry `e` has an extent 0.
@@ -327,12 +300,12 @@ fn headless(kind: Kind, image: &[u8], hints: &[u8; 256]) -> usize
     e
 }
 
-// The entries one by one, then the files; the hints know all entries of a sound directory.
-fn directory_answer(kind: Kind, image: &[u8], hints: &mut [u8; 256]) -> ImageAnswer
-    requires { ⌜ (32 * entries kind ≤ length (now image)) × (blocks kind (now image) ≤ most kind) × Hints (slotAt (now image)) (inUse (now image)) 0 (now hints) ⌝ }
-    ensures { λ r. ⌜ Answered (directoryAnswer kind (now (image .entry))) (now (image .entry)) (entries kind) r (now (hints .exit)) ⌝ }
+// The entries one by one, then the files; of a sound directory the hints know all entries and the marks say all blocks.
+fn directory_answer(kind: Kind, image: &[u8], seen: &mut [u8], hints: &mut [u8; 256]) -> ImageAnswer
+    requires { ⌜ (32 * entries kind ≤ length (now image)) × (blocks kind (now image) ≤ most kind) × Marks kind 1 (now image) 0 0 (now seen) × Hints (slotAt (now image)) (inUse (now image)) 0 (now hints) ⌝ }
+    ensures { λ r. ⌜ Surveyed (directoryAnswer kind (now (image .entry))) kind (now (image .entry)) r (now (seen .exit)) (now (hints .exit)) ⌝ }
 {
-    let told = good_entries(kind, image, &mut *hints);
+    let told = judge_all(kind, image, seen, &mut *hints);
     if !is_sound(told) {
         return told;
     }
@@ -343,6 +316,33 @@ fn directory_answer(kind: Kind, image: &[u8], hints: &mut [u8; 256]) -> ImageAns
     ImageAnswer::Sound
 }
 
+// The same with marks of its own: 32 bytes on a drive of the first kind, 512 on one of the second.
+fn small_answer(image: &[u8], hints: &mut [u8; 256]) -> ImageAnswer
+    requires { ⌜ (32 * entries Small ≤ length (now image)) × (blocks Small (now image) ≤ most Small) × Hints (slotAt (now image)) (inUse (now image)) 0 (now hints) ⌝ }
+    ensures { λ r. ⌜ Answered (directoryAnswer Small (now (image .entry))) (now (image .entry)) (entries Small) r (now (hints .exit)) ⌝ }
+{
+    let mut seen = [0u8; 32];
+    directory_answer(Kind::Small, image, &mut seen, hints)
+}
+
+fn large_answer(image: &[u8], hints: &mut [u8; 256]) -> ImageAnswer
+    requires { ⌜ (32 * entries Large ≤ length (now image)) × (blocks Large (now image) ≤ most Large) × Hints (slotAt (now image)) (inUse (now image)) 0 (now hints) ⌝ }
+    ensures { λ r. ⌜ Answered (directoryAnswer Large (now (image .entry))) (now (image .entry)) (entries Large) r (now (hints .exit)) ⌝ }
+{
+    let mut seen = [0u8; 512];
+    directory_answer(Kind::Large, image, &mut seen, hints)
+}
+
+fn own_answer(kind: Kind, image: &[u8], hints: &mut [u8; 256]) -> ImageAnswer
+    requires { ⌜ (32 * entries kind ≤ length (now image)) × (blocks kind (now image) ≤ most kind) × Hints (slotAt (now image)) (inUse (now image)) 0 (now hints) ⌝ }
+    ensures { λ r. ⌜ Answered (directoryAnswer kind (now (image .entry))) (now (image .entry)) (entries kind) r (now (hints .exit)) ⌝ }
+{
+    match kind {
+        Kind::Small => small_answer(image, hints),
+        Kind::Large => large_answer(image, hints),
+    }
+}
+
 // The image check.
 pub fn image_check(kind: Kind, image: &[u8]) -> ImageAnswer
     ensures { λ r. ⌜ r ≡ imageCheck kind (now (image .entry)) ⌝ }
@@ -351,7 +351,7 @@ pub fn image_check(kind: Kind, image: &[u8]) -> ImageAnswer
         return ImageAnswer::WrongLength;
     }
     let mut hints = [255u8; 256];
-    directory_answer(kind, image, &mut hints)
+    own_answer(kind, image, &mut hints)
 }
 
 // The image is sound; the hints then know its entries.
@@ -362,7 +362,18 @@ pub fn sound_index(kind: Kind, image: &[u8], hints: &mut [u8; 256]) -> bool
     if !good_length(kind, image) {
         return false;
     }
-    is_sound(directory_answer(kind, image, hints))
+    is_sound(own_answer(kind, image, hints))
+}
+
+// The image is sound; the hints then know its entries, and the marks, none of which was set, say its blocks.
+pub fn sound_marked(kind: Kind, image: &[u8], seen: &mut [u8], hints: &mut [u8; 256]) -> bool
+    requires { ⌜ Marks kind 1 (now image) 0 0 (now seen) × Hints (slotAt (now image)) (inUse (now image)) 0 (now hints) ⌝ }
+    ensures { λ r. ⌜ Marking kind (now (image .entry)) r (now (seen .exit)) (now (hints .exit)) ⌝ }
+{
+    if !good_length(kind, image) {
+        return false;
+    }
+    is_sound(directory_answer(kind, image, seen, hints))
 }
 
 // The image is sound.

@@ -1,4 +1,5 @@
-// The image check, free blocks, Look. Nothing here changes the image.
+// The image check, the vector of an image, free blocks, Look. Nothing here changes the image.
 pub mod check;
 pub mod free;
 pub mod look;
+pub mod vector;

@@ -1,6 +1,6 @@
 -- The outcome at each end of a function that is told the kind of drive by a number. Assumes nothing.
 use Prim.Native.Nat.{ℕ, _<_}
-use mathlib.Core.Path.{_≡_, sym, ap, _∙_}
+use mathlib.Core.Path.{_≡_, refl, sym, ap, _∙_}
 use mathlib.Core.Bool.{true}
 use mathlib.Core.List.{List}
 use mathlib.Core.Logic.{⊎-elim}
@@ -12,18 +12,19 @@ use Rattle.rules.specs.declared.kind.Told.{Told}
 use Rattle.rules.specs.declared.kind.Told.the-variants.{Known, Other}
 use Rattle.rules.specs.declared.answer.ImageAnswer.{ImageAnswer}
 use Rattle.rules.specs.Kinds.{toldKind}
-use Rattle.rules.specs.Serves.{Buffers, Outcome, Did}
+use Rattle.rules.specs.Serves.{Buffers}
 use Rattle.rules.specs.Drive.{blocks, imageCheck, imageNumber, imageEntry, imageTold}
 use Rattle.rules.specs.Locks.{Started, start}
 use Rattle.rules.specs.Look.{lookAt}
-use Rattle.rules.specs.Several.{callRun, callSingly}
-use Rattle.rules.specs.Told.{callTold, singlyTold, startTold, checkTold, lookTold}
-use Rattle.rules.proofs.Ends.{did-as, did-none}
+use Rattle.rules.specs.Told.{fiveTold, singlyFiveTold, startTold, buildTold, checkTold, lookTold}
+use Rattle.rules.specs.Vector.{DidFive, callFive, singlyFive, built, build}
+use Rattle.rules.proofs.Ends.{did-none}
 use Rattle.rules.proofs.Sizes.{most-fits, begins-below}
 use Rattle.rules.proofs.Sound.{sound-length, length-whole, length-few}
 use Rattle.rules.proofs.Look.{look-inside, look-sound}
 use Rattle.locklist.specs.Start.{DidStart}
-use Rattle.calls.specs.Calls.{callBy}
+use Rattle.calls.specs.Calls.{callBy, fiveBy}
+use Rattle.calls.proofs.Fives.{five-as}
 use Rattle.repair.specs.Salvage.{salvaged, salvage, salvageTold}
 use Rattle.packing.specs.Packs.{packs, pack, packTold}
 use Rattle.packing.specs.Same.{rowsSame, sameTold}
@@ -34,15 +35,15 @@ module _ (n : ℕ) (t : Told) (is : t ≡ toldKind n) where
     kind-is : Known kind ≡ toldKind n
     kind-is = sym known ∙ is
 
-    pub call-known : (f p c : ℕ) (b : Buffers) (a : ℕ) (left : Buffers) → Did (callBy kind true f p c b) a left
-        → Did (callTold (toldKind n) f p c b) a left
-    unfolding callTold callBy
-    call-known f p c b a left d = did-as _ _ a left (ap (λ (x : Told). callTold x f p c b) kind-is) d
+    pub call-known : (f p c : ℕ) (v : List ℕ) (b : Buffers) (a : ℕ) (left : Buffers) (u : List ℕ) → DidFive (fiveBy kind true f p c v b) a left u
+        → DidFive (fiveTold (toldKind n) f p c v b) a left u
+    unfolding fiveTold callFive fiveBy callBy
+    call-known f p c v b a left u d = five-as _ _ a left u (ap (λ (x : Told). fiveTold x f p c v b) kind-is) d
 
-    pub singly-known : (f p c : ℕ) (b : Buffers) (a : ℕ) (left : Buffers) → Did (callSingly kind f p c b) a left
-        → Did (singlyTold (toldKind n) f p c b) a left
-    unfolding singlyTold
-    singly-known f p c b a left d = did-as _ _ a left (ap (λ (x : Told). singlyTold x f p c b) kind-is) d
+    pub singly-known : (f p c : ℕ) (v : List ℕ) (b : Buffers) (a : ℕ) (left : Buffers) (u : List ℕ) → DidFive (singlyFive kind f p c v b) a left u
+        → DidFive (singlyFiveTold (toldKind n) f p c v b) a left u
+    unfolding singlyFiveTold
+    singly-known f p c v b a left u d = five-as _ _ a left u (ap (λ (x : Told). singlyFiveTold x f p c v b) kind-is) d
 
     pub start-known : (c o k : ℕ) (users list : List ℕ) (a : ℕ) (left : List ℕ) → DidStart (start kind c o k users list) a left
         → DidStart (startTold (toldKind n) c o k users list) a left
@@ -54,6 +55,10 @@ module _ (n : ℕ) (t : Told) (is : t ≡ toldKind n) where
     pub check-known : (i : ImageAnswer) (a : ℕ) (s : List ℕ) → i ≡ imageCheck kind s → a ≡ imageTold i → a ≡ checkTold (toldKind n) s
     unfolding checkTold
     check-known i a s h g = g ∙ ap imageTold h ∙ ap (λ (x : Told). checkTold x s) kind-is
+
+    pub build-known : (s v : List ℕ) (a : ℕ) (u : List ℕ) → built a u ≡ build kind s v → built a u ≡ buildTold (toldKind n) s v
+    unfolding buildTold
+    build-known s v a u h = h ∙ ap (λ (x : Told). buildTold x s v) kind-is
 
     pub look-known : (a user : ℕ) (name : List ℕ) (r : ℕ) (s : List ℕ) → a ≡ lookAt kind user name r s → a ≡ lookTold (toldKind n) user name r s
     unfolding lookTold
@@ -75,13 +80,14 @@ module _ (n : ℕ) (t : Told) (is : t ≡ toldKind n) where
     other-is : Other ≡ toldKind n
     other-is = sym other ∙ is
 
-    pub call-other : (f p c : ℕ) (b : Buffers) → Did (callTold (toldKind n) f p c b) 3583 b
-    unfolding callTold
-    call-other f p c b = did-as _ _ _ _ (ap (λ (x : Told). callTold x f p c b) other-is) (did-none 3583 b)
+    pub call-other : (f p c : ℕ) (v : List ℕ) (b : Buffers) → DidFive (fiveTold (toldKind n) f p c v b) 3583 b v
+    unfolding fiveTold
+    call-other f p c v b = five-as _ _ _ _ _ (ap (λ (x : Told). fiveTold x f p c v b) other-is) (record { outcome-so = did-none 3583 b; vector-so = refl })
 
-    pub singly-other-kind : (f p c : ℕ) (b : Buffers) → Did (singlyTold (toldKind n) f p c b) 3583 b
-    unfolding singlyTold
-    singly-other-kind f p c b = did-as _ _ _ _ (ap (λ (x : Told). singlyTold x f p c b) other-is) (did-none 3583 b)
+    pub singly-other-kind : (f p c : ℕ) (v : List ℕ) (b : Buffers) → DidFive (singlyFiveTold (toldKind n) f p c v b) 3583 b v
+    unfolding singlyFiveTold
+    singly-other-kind f p c v b =
+        five-as _ _ _ _ _ (ap (λ (x : Told). singlyFiveTold x f p c v b) other-is) (record { outcome-so = did-none 3583 b; vector-so = refl })
 
     pub start-other : (c o k : ℕ) (users list : List ℕ) → DidStart (startTold (toldKind n) c o k users list) 3583 list
     unfolding startTold
@@ -93,6 +99,10 @@ module _ (n : ℕ) (t : Told) (is : t ≡ toldKind n) where
     pub check-other : (s : List ℕ) → 1 ≡ checkTold (toldKind n) s
     unfolding checkTold imageTold imageNumber imageEntry
     check-other s = ap (λ (x : Told). checkTold x s) other-is
+
+    pub build-other : (s v : List ℕ) → built 3583 v ≡ buildTold (toldKind n) s v
+    unfolding buildTold
+    build-other s v = ap (λ (x : Told). buildTold x s v) other-is
 
     pub look-other : (user : ℕ) (name : List ℕ) (r : ℕ) (s : List ℕ) → 0 ≡ lookTold (toldKind n) user name r s
     unfolding lookTold

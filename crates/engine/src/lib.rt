@@ -2,6 +2,7 @@
 use calls::answer::answer;
 use drive::check::image_check;
 use drive::look::look_at;
+use drive::vector::build_vector;
 use locklist::start::start;
 use moving::same::FIRST_UNSOUND;
 use moving::same::same;
@@ -15,14 +16,15 @@ use salvage::mend::repair_image;
 use singles::singly::answer_singly;
 ghost use mathlib.Core.Path.{_≡_};
 ghost use Rattle.rules.specs.Kinds.{toldKind};
-ghost use Rattle.rules.specs.Serves.{Did, buffers};
-ghost use Rattle.rules.specs.Told.{callTold, singlyTold, startTold, checkTold, lookTold};
+ghost use Rattle.rules.specs.Serves.{buffers};
+ghost use Rattle.rules.specs.Told.{fiveTold, singlyFiveTold, startTold, buildTold, checkTold, lookTold};
+ghost use Rattle.rules.specs.Vector.{built, DidFive};
 ghost use Rattle.locklist.specs.Start.{DidStart};
 ghost use Rattle.repair.specs.Salvage.{salvaged, salvageTold};
 ghost use Rattle.packing.specs.Packs.{packs, packTold};
 ghost use Rattle.packing.specs.Same.{sameTold};
 
-// A call: the kind of drive, three numbers and four separate buffers in, A + 256 H out.
+// A call: the kind of drive, three numbers and five separate buffers in, A + 256 H out.
 #[no_mangle]
 pub extern "C" fn mpm_call(
     kind: u32,
@@ -33,14 +35,26 @@ pub extern "C" fn mpm_call(
     dma: &mut [u8],
     list: &mut [u8],
     image: &mut [u8],
+    vector: &mut [u8],
 ) -> u32
-    ensures { λ r. ⌜ Did (callTold (toldKind kind) function process count (buffers (now (fcb .entry)) (now (dma .entry)) (now (list .entry)) (now (image .entry)))) r (buffers (now (fcb .exit)) (now (dma .exit)) (now (list .exit)) (now (image .exit))) ⌝ }
+    ensures { λ r. ⌜ DidFive (fiveTold (toldKind kind) function process count (now (vector .entry)) (buffers (now (fcb .entry)) (now (dma .entry)) (now (list .entry)) (now (image .entry)))) r (buffers (now (fcb .exit)) (now (dma .exit)) (now (list .exit)) (now (image .exit))) (now (vector .exit)) ⌝ }
 {
     let told = told_kind(kind);
     let Told::Known(known) = told else {
         return BAD_CALL;
     };
-    answer(known, true, function, process, count, fcb, dma, list, image)
+    answer(
+        known,
+        true,
+        function,
+        process,
+        count,
+        fcb,
+        dma,
+        list,
+        image,
+        vector,
+    )
 }
 
 // The same call by the plain engine: 33, 34 and 40 as single calls one after another, the answer that of the last.
@@ -54,14 +68,25 @@ pub extern "C" fn mpm_singly(
     dma: &mut [u8],
     list: &mut [u8],
     image: &mut [u8],
+    vector: &mut [u8],
 ) -> u32
-    ensures { λ r. ⌜ Did (singlyTold (toldKind kind) function process count (buffers (now (fcb .entry)) (now (dma .entry)) (now (list .entry)) (now (image .entry)))) r (buffers (now (fcb .exit)) (now (dma .exit)) (now (list .exit)) (now (image .exit))) ⌝ }
+    ensures { λ r. ⌜ DidFive (singlyFiveTold (toldKind kind) function process count (now (vector .entry)) (buffers (now (fcb .entry)) (now (dma .entry)) (now (list .entry)) (now (image .entry)))) r (buffers (now (fcb .exit)) (now (dma .exit)) (now (list .exit)) (now (image .exit))) (now (vector .exit)) ⌝ }
 {
     let told = told_kind(kind);
     let Told::Known(known) = told else {
         return BAD_CALL;
     };
-    answer_singly(known, function, process, count, fcb, dma, list, image)
+    answer_singly(
+        known,
+        function,
+        process,
+        count,
+        fcb,
+        dma,
+        list,
+        image,
+        vector,
+    )
 }
 
 // Start: a fresh list from the kind of drive, three numbers and sixteen users, or 255/13 and the list unchanged.
@@ -93,6 +118,19 @@ pub extern "C" fn mpm_check(kind: u32, image: &[u8]) -> u32
         return 1;
     };
     image_told(image_check(known, image))
+}
+
+// Builds the allocation vector of an image: 32 bytes on a drive of the first kind, 512 on one of the second; or 255/13 for an unknown
+// kind or another length, 255/1 for an unsound image, and the vector unchanged.
+#[no_mangle]
+pub extern "C" fn mpm_vector(kind: u32, image: &[u8], vector: &mut [u8]) -> u32
+    ensures { λ r. ⌜ built r (now (vector .exit)) ≡ buildTold (toldKind kind) (now (image .entry)) (now (vector .entry)) ⌝ }
+{
+    let told = told_kind(kind);
+    let Told::Known(known) = told else {
+        return BAD_CALL;
+    };
+    build_vector(known, image, vector)
 }
 
 // Look: where the record's 128 bytes begin in the image, or 0 where there are none to show.

@@ -1,15 +1,16 @@
 -- 19 and 23: the outcome at each end of their routines. Assumes nothing.
 use Prim.Native.Nat.{ℕ, _≤_, _<_}
-use mathlib.Core.Path.{_≡_, refl, ap, _∙_}
+use mathlib.Core.Path.{_≡_, refl, sym, ap, _∙_}
 use mathlib.Core.Bool.{Bool, true, false, not}
 use mathlib.Core.List.{List}
 use native.Mathlib.Omega.{arith}
-use lib.ListN.{getD}
+use lib.ListN.{length, getD}
 use lib.Dec.{eqb}
 use borrow.Author.Tests.{lt-ltb, le-ltb}
 use Rattle.words.specs.Tests.{_and_, _or_, _if_else_, all, any}
 use Rattle.words.specs.Bytes.{lowFrom}
 use Rattle.words.specs.Lists.{tab}
+use Rattle.words.specs.Bits.{isSet}
 use Rattle.words.specs.Tables.{firstOf}
 use Rattle.words.proofs.Tests.{all-make, any-ext}
 use Rattle.words.proofs.Lists.{tab-at}
@@ -18,14 +19,21 @@ use Rattle.rules.specs.declared.file.Found.{Found}
 use Rattle.rules.specs.declared.list.LockList.{LockList}
 use Rattle.rules.specs.declared.routine.Chosen.the-variants.{Call}
 use Rattle.rules.specs.Serves.{Buffers, Did, buffers, withImage}
-use Rattle.rules.specs.Drive.{lookUp, fileFrom}
+use Rattle.rules.specs.Kinds.{entries, most, vectorSize}
+use Rattle.rules.specs.Drive.{lookUp, fileFrom, soundImage}
+use Rattle.rules.specs.Vector.{vectorOf}
 use Rattle.rules.specs.Locks.{itemAt, unpack, pack, isOpened, opensFileAt, openOf, isLow}
 use Rattle.rules.specs.Asks.{callerFile, newFile, recordOf}
 use Rattle.rules.specs.Call.{askedBy, rowsOf, effectOf, served}
+use Rattle.rules.proofs.Sound.{sound-of}
+use Rattle.rules.proofs.Vector.{vector-long, vector-bytes, vector-bit}
 use Rattle.rules.proofs.Ends.{did-as, did-refuse, did-pass, served-as, did-left}
 use Rattle.rules.specs.declared.routine.Routine.the-variants.{Delete, Rename}
 use Rattle.rules.specs.Codes.{standsAgainst, standsAgainstAt, opensElsewhereAt, stopsDelete, rows19, rows23}
 use Rattle.rules.specs.Effects.{erased, renamed, closed, closedWhere, does19, does23}
+use Rattle.soundness.specs.Taking.{isBlockOf}
+use Rattle.soundness.proofs.Vectors.{vector-erased}
+use Rattle.writing.specs.Clears.{Cleared}
 use Rattle.files.specs.By.{by19, by23}
 use Rattle.rules.specs.declared.kind.Kind.{Kind}
 
@@ -66,6 +74,18 @@ module _ (kind : Kind) (p : ℕ) (l : LockList) (o : ℕ) (f : File) (b : Buffer
   delete-done image list z h k =
       did-pass _ b _ c table 0 _ z
       (did-left refl refl refl k h)
+
+-- the vector that is lent has the length that its kind of drive asks, ..
+pub vector-size : (kind : Kind) (s v : List ℕ) → v ≡ vectorOf kind s → length v ≡ vectorSize kind
+vector-size kind s v h = ap length h ∙ vector-long kind s
+
+-- .. and with the bits of the file's blocks cleared it is that of the image left
+pub delete-vector : (kind : Kind) (s : List ℕ) (f : File) (u v t : List ℕ) → soundImage kind s ≡ true → length (f .name) ≡ 11 → u ≡ vectorOf kind s
+    → Cleared (most kind) (isBlockOf kind s f (entries kind)) u v → t ≡ erased kind f s → v ≡ vectorOf kind t
+delete-vector kind s f u v t g size hu a ht =
+    vector-erased kind s f (sound-of kind s g) size v (a .long ∙ vector-size kind s u hu) (a .bytes (rw hu (vector-bytes kind s)))
+    (λ x m. a .bit x m ∙ ap (λ (y : Bool). y and not (isBlockOf kind s f (entries kind) x)) (ap (λ (y : List ℕ). isSet y x) hu ∙ vector-bit kind s x m))
+    ∙ ap (λ (y : List ℕ). vectorOf kind y) (sym ht)
 
 pub delete-called : (kind : Kind) (p c : ℕ) (b : Buffers) (l : LockList) (f : File) (o a : ℕ) (left : Buffers) → l ≡ unpack (b .list)
     → f ≡ callerFile p l (b .fcb) → o ≡ openOf l p f → Did (by19 kind p l o f b) a left → Did (served kind (Call Delete) p c b) a left

@@ -13,6 +13,7 @@ use rules::file::Found;
 use rules::kind::Kind;
 use rules::list::LockList;
 use writing::file::erase;
+use writing::vector::release;
 ghost use mathlib.Core.Path.{_≡_};
 ghost use lib.ListN.{length};
 ghost use Rattle.words.specs.Tables.{firstOf};
@@ -24,6 +25,7 @@ ghost use Prim.Native.Nat.{_+_, _*_, _≤_};
 ghost use Rattle.rules.specs.declared.routine.Routine.the-variants.{Delete};
 ghost use Rattle.rules.specs.Codes.{stopsDelete, rows19};
 ghost use Rattle.rules.specs.Effects.{closedWhere};
+ghost use Rattle.rules.specs.Vector.{vectorOf};
 ghost use Rattle.files.specs.By.{by19};
 
 // Another process has the file open: a new locked open could not stand beside it.
@@ -72,7 +74,7 @@ fn close_where(p: u8, l: LockList, o: usize, f: File, list: &mut [u8])
     pack(l.close(p, f), list);
 }
 
-// 19 on what was found: decide first, then empty the file's entries and take the caller's items on it away.
+// 19 on what was found: decide first, then clear the bits of the file's blocks, empty its entries and take the caller's items on it away.
 fn delete_by(
     kind: Kind,
     p: u8,
@@ -83,15 +85,17 @@ fn delete_by(
     dma: &[u8],
     list: &mut [u8],
     image: &mut [u8],
+    vector: &mut [u8],
 ) -> u32
-    requires { ⌜ Ready kind (buffers (now fcb) (now dma) (now list) (now image)) ⌝ }
-    ensures { λ c. ⌜ Did (by19 kind p l o f (buffers (now (fcb .entry)) (now (dma .entry)) (now (list .entry)) (now (image .entry)))) c (buffers (now (fcb .entry)) (now (dma .entry)) (now (list .exit)) (now (image .exit))) ⌝ }
+    requires { ⌜ Ready kind (buffers (now fcb) (now dma) (now list) (now image)) × (now vector ≡ vectorOf kind (now image)) ⌝ }
+    ensures { λ c. ⌜ Did (by19 kind p l o f (buffers (now (fcb .entry)) (now (dma .entry)) (now (list .entry)) (now (image .entry)))) c (buffers (now (fcb .entry)) (now (dma .entry)) (now (list .exit)) (now (image .exit))) × (now (vector .exit) ≡ vectorOf kind (now (image .exit))) ⌝ }
 {
     let x = look_up(kind, &*image, f);
     let code = delete_refusal(kind, p, l, f, x, fcb, &*image);
     if code != 0 {
         return code;
     }
+    release(kind, &*image, f, vector);
     erase(kind, image, f);
     close_where(p, l, o, f, list);
     0
@@ -106,11 +110,12 @@ pub fn delete_file(
     dma: &[u8],
     list: &mut [u8],
     image: &mut [u8],
+    vector: &mut [u8],
 ) -> u32
-    requires { ⌜ (l ≡ unpack (now list)) × Ready kind (buffers (now fcb) (now dma) (now list) (now image)) ⌝ }
-    ensures { λ c. ⌜ Did (served kind (Call Delete) p 1 (buffers (now (fcb .entry)) (now (dma .entry)) (now (list .entry)) (now (image .entry)))) c (buffers (now (fcb .entry)) (now (dma .entry)) (now (list .exit)) (now (image .exit))) ⌝ }
+    requires { ⌜ (l ≡ unpack (now list)) × Ready kind (buffers (now fcb) (now dma) (now list) (now image)) × (now vector ≡ vectorOf kind (now image)) ⌝ }
+    ensures { λ c. ⌜ Did (served kind (Call Delete) p 1 (buffers (now (fcb .entry)) (now (dma .entry)) (now (list .entry)) (now (image .entry)))) c (buffers (now (fcb .entry)) (now (dma .entry)) (now (list .exit)) (now (image .exit))) × (now (vector .exit) ≡ vectorOf kind (now (image .exit))) ⌝ }
 {
     let f = caller_file(l, p, fcb);
     let o = l.open_of(p, f);
-    delete_by(kind, p, l, o, f, fcb, dma, list, image)
+    delete_by(kind, p, l, o, f, fcb, dma, list, image, vector)
 }

@@ -16,7 +16,8 @@ use Rattle.history.proofs.Calls.{ours}
 use Rattle.history.proofs.Demands as demands
 
 module _ (kind : Kind) (g : Begun kind) where
-  first-kept : isKept (firstState kind g) ≡ true
+  -- what stands at the beginning can be lent
+  pub first-kept : isKept (firstState kind g) ≡ true
   unfolding isKept
   first-kept = and-both _ _ (lendable-so _ (begun-bytes kind g) (let k = begun-sound kind g .list-long in omega arith)) (g .lendable)
 

@@ -69,10 +69,10 @@ module _ (kind : Kind) (q : Ask) (s : State) (g : List Item) (t : Tally (unpack 
     -- the caller's open is held, in its mode
     open-held : openBy p b < 64 → isAmong (freshOpen p (f .name) (modeBy p b)) g ≡ true
     open-held m =
-        let o = own-open kind (s .image) p c b ok (shape-of kind p c b ok) (list-of kind p c b ok) m in
+        let o = own-open kind (s .image) p b (shape-of kind p c b ok) (list-of kind p c b ok) m in
         let z : itemAt l (openBy p b) .number ≡ 0 = ⊎-elim (λ (v : GoodOpen kind (s .image) l (itemAt l (openBy p b))). v .number-zero)
         (λ (v : GoodLock kind (s .image) l (itemAt l (openBy p b))). let a = v .kind-two in let d = o .kind-one in absurd (omega arith))
-        (own-good kind (s .image) p c b ok (shape-of kind p c b ok) (list-of kind p c b ok) m .good) in
+        (own-good kind (s .image) p b (shape-of kind p c b ok) (list-of kind p c b ok) m .good) in
         held-listed l g t (freshOpen p (f .name) (modeBy p b)) (open-some p (f .name) (modeBy p b)) (openBy p b) m
         (alike-so _ _ (record { kinds = sym (o .kind-one); processes = sym (o .by); names = name-sym _ _ (o .named); modes = refl; numbers = sym z }))
 
@@ -101,7 +101,7 @@ module _ (kind : Kind) (q : Ask) (s : State) (g : List Item) (t : Tally (unpack 
     -- the caller's open is the only one of its name
     mode-only : openBy p b < 64 → (i : ℕ) → i < 64 → IsOpen p (f .name) (itemAt l i) → itemAt l i .mode ≡ modeBy p b
     mode-only m i k o =
-        let w = own-open kind (s .image) p c b ok (shape-of kind p c b ok) (list-of kind p c b ok) m in
+        let w = own-open kind (s .image) p b (shape-of kind p c b ok) (list-of kind p c b ok) m in
         let e = one-open kind l (s .image) i (openBy p b) p (f .name) (list-of kind p c b ok) k m (open-so _ _ _ o) (open-so _ _ _ w) in
         ap (λ (j : ℕ). itemAt l j .mode) e
 
@@ -202,5 +202,8 @@ module _ (kind : Kind) (q : Ask) (s : State) (g : List Item) (t : Tally (unpack 
   held-step o (nowEnded k ok) = rw (deed-done (usersIn s) q _ k) (shaped-tally ok _ (unlessBy p) (end-empties p) _ _ (ended-shape kind p c b ok))
   held-step o (nowSearched k ok answer e low dma) =
       let h = searched-shape kind p c b ok e low in
-      rw (held-searched (usersIn s) q answer k g, unpacked kind (movedTo p e (withItems l (map (λ (it : Item). it) (l .items)))) (s .image) (h .sound) (h .shape))
+      rw (
+        held-searched (usersIn s) q answer k g,
+        unpacked kind (movedTo p e (withItems l (map (λ (it : Item). it) (l .items)))) (s .image) (h .sound) (h .shape),
+      )
       (tally-moved _ _ g (subst (λ (xs : List Item). Tally (withItems l xs) g) (sym (map-id (l .items))) t))

@@ -8,7 +8,7 @@ use lib.ListN.{length, getD}
 use borrow.Author.Needs.{needs}
 use borrow.Author.Tests.{eqb-true}
 use Rattle.words.specs.Tests.{any, lowest}
-use Rattle.words.specs.Bytes.{byte}
+use Rattle.words.specs.Bytes.{byte, sameByte}
 use Rattle.words.specs.Hints.{Hints, Noted}
 use Rattle.words.proofs.Tests.{all-at, and-fst, and-snd}
 use Rattle.words.proofs.Sets.{not-of-false}
@@ -17,7 +17,7 @@ use Rattle.rules.specs.declared.file.File.{File}
 use Rattle.rules.specs.declared.kind.Kind.{Kind}
 use Rattle.rules.specs.Kinds.{entries}
 use Rattle.rules.specs.Drive.{isEmpty, extentAt, fileAt, isEntry, entryOf}
-use Rattle.rules.specs.Locks.{sameByte, sameName, sameFile}
+use Rattle.rules.specs.Locks.{sameName, sameFile}
 use Rattle.rules.proofs.Sound.{Is, entry-is}
 use Rattle.index.specs.Slots.{mix, slotOf, slotAt, inUse}
 

@@ -44,7 +44,8 @@ front l = (l .capacity ∷ l .openlimit ∷ l .locklimit ∷ tab (byteFrom (l .u
 pack-front : (l : LockList) → length (l .positions) ≡ 16 → pack l ≡ front l ++ l .positions
 unfolding pack front tab
 pack-front l h =
-    sym (append-assoc (l .capacity ∷ l .openlimit ∷ l .locklimit ∷ tab (byteFrom (l .users) 0) 16) (flat packItem (l .items)) (tab (byteFrom (l .positions) 0) 16))
+    sym (append-assoc (l .capacity ∷ l .openlimit ∷ l .locklimit ∷ tab (byteFrom (l .users) 0) 16) (flat packItem (l .items))
+    (tab (byteFrom (l .positions) 0) 16))
     ∙ ap (λ (xs : List ℕ). front l ++ xs) (tab-getD (l .positions) 0 16 h)
 
 front-long : (l : LockList) → length (l .items) ≡ 64 → length (front l) ≡ 1299

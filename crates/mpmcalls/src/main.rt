@@ -87,19 +87,30 @@ fn write_image(image: &[u8]) {
     libc::close(fd);
 }
 
-// Reads the start record and starts the list. False where the record is cut or badly marked, or Start refuses.
-fn start(list: &mut [u8]) -> bool {
+// Reads the start record, starts the list and builds the vector of the image. False where the record is cut or badly marked, or Start
+// refuses. An image that is unsound has no vector, and gets no further than that in any call.
+fn start(list: &mut [u8], image: &[u8], vector: &mut [u8]) -> bool {
     let mut input = [0u8; record::START_SIZE];
     let n = io::read_full(STDIN_FILENO, &mut input);
     if !record::is_start(&input[..n]) {
         return false;
     }
-    caller::start_by(&input, list) == 0
+    if caller::start_by(&input, list) != 0 {
+        return false;
+    }
+    caller::vector_by(image, vector);
+    true
 }
 
 // Makes the call of a record and prints its line.
-fn serve(calls: u64, input: &[u8; record::CALL_SIZE], list: &mut [u8], image: &mut [u8]) -> bool {
-    let answer = caller::call_by(input, list, image);
+fn serve(
+    calls: u64,
+    input: &[u8; record::CALL_SIZE],
+    list: &mut [u8],
+    image: &mut [u8],
+    vector: &mut [u8],
+) -> bool {
+    let answer = caller::call_by(input, list, image, vector);
     print_call(calls, input, answer)
 }
 
@@ -113,7 +124,7 @@ fn read_rest(input: &mut [u8], n: usize) -> usize
 
 // The record after so many calls. True where it was a call and its line is printed; else all is done.
 // A read that fails is no end of the input: the record counts as cut.
-fn step(calls: u64, list: &mut [u8], image: &mut [u8]) -> bool {
+fn step(calls: u64, list: &mut [u8], image: &mut [u8], vector: &mut [u8]) -> bool {
     let mut input = [0u8; record::CALL_SIZE];
     let got = libc::read(STDIN_FILENO, &mut input);
     if got == 0 {
@@ -132,13 +143,13 @@ fn step(calls: u64, list: &mut [u8], image: &mut [u8]) -> bool {
         print_bad_call(calls);
         return false;
     }
-    serve(calls, &input, list, image)
+    serve(calls, &input, list, image, vector)
 }
 
 // Nothing says that the input ends, so the loop counts its turns down, from a number that no run uses up.
-fn run_calls(list: &mut [u8], image: &mut [u8]) {
+fn run_calls(list: &mut [u8], image: &mut [u8], vector: &mut [u8]) {
     let mut turns = u64::MAX;
-    while turns > 0 && step(u64::MAX - turns, list, image) {
+    while turns > 0 && step(u64::MAX - turns, list, image, vector) {
         turns -= 1;
     }
 }
@@ -148,11 +159,12 @@ fn run(image: &mut [u8]) {
         return;
     }
     let mut list = [0u8; 1315];
-    if !start(&mut list) {
+    let mut vector = [0u8; 32];
+    if !start(&mut list, &*image, &mut vector) {
         print_bad_start();
         return;
     }
-    run_calls(&mut list, image);
+    run_calls(&mut list, image, &mut vector);
 }
 
 // One byte more than the longest image is asked for, to see a longer one.

@@ -25,6 +25,7 @@ use Rattle.rules.specs.Codes.{rowsMay, rowsRoom, rows34}
 use Rattle.rules.specs.Effects.{spotAt, written, does34}
 use Rattle.rules.specs.Call.{askedBy, rowsOf, effectOf, served}
 use Rattle.rules.proofs.Room.{room-within}
+use Rattle.rules.proofs.Rows.{opened-so}
 use Rattle.rules.proofs.Ends.{did-as, did-refuse, did-pass, served-as, did-left}
 use Rattle.records.specs.By.{rowsMayBy, OneDid, by34}
 use Rattle.rules.specs.declared.kind.Kind.{Kind}
@@ -87,18 +88,30 @@ pub may-told : (kind : Kind) (p : ℕ) (l : LockList) (o : ℕ) (f : File) (e₀
 may-told kind p l o f e₀ r s stopped locked mode c hm hs hl hc =
     hc ∙ ap firstOf (may-by kind p l o f e₀ r s stopped locked (hs ∙ ap (λ (m : ℕ). readOnly s e₀ or eqb m 2) hm) hl)
 
--- the record number is in range
-pub write-number : (kind : Kind) (o : ℕ) (stopped : Bool) (r : ℕ) (locked : Bool) (c : ℕ) → c ≡ firstOf (rowsMayBy kind o stopped r locked) → c ≡ 0 → r < 262144
+-- no row has the code 0
+pub may-real : (kind : Kind) (o : ℕ) (stopped : Bool) (r : ℕ) (locked : Bool) → noneZero (rowsMayBy kind o stopped r locked) ≡ true
 unfolding rowsMayBy
+may-real kind o stopped r locked = search nonzeros depth 20 fits 20000
+
+-- none applies: the file is open, and the record number in range
+pub write-may : (kind : Kind) (o : ℕ) (stopped : Bool) (r : ℕ) (locked : Bool) → firstOf (rowsMayBy kind o stopped r locked) ≡ 0 → (o < 64) × (r ≤ top kind)
+unfolding rowsMayBy
+write-may kind o stopped r locked z =
+    let k = row-rest 1023 _ _ (λ y. omega arith) (row-rest 10 _ _ (λ y. omega arith) z) in
+    (opened-so o (row-off 10 _ _ (λ y. omega arith) z), ltb-false (top kind) r (row-off 6 _ _ (λ y. omega arith) k))
+
+pub may-passed : (kind : Kind) (p : ℕ) (l : LockList) (o : ℕ) (f : File) (e₀ r : ℕ) (s : List ℕ) → firstOf (rowsMay kind p l o f e₀ r s) ≡ 0
+    → (o < 64) × (r ≤ top kind)
+may-passed kind p l o f e₀ r s z = write-may kind o _ r _ (ap firstOf (may-by kind p l o f e₀ r s _ _ refl refl) ∙ z)
+
+-- .. so that it has 18 bits
+pub write-number : (kind : Kind) (o : ℕ) (stopped : Bool) (r : ℕ) (locked : Bool) (c : ℕ) → c ≡ firstOf (rowsMayBy kind o stopped r locked) → c ≡ 0 → r < 262144
 write-number kind o stopped r locked c hc z =
-    let small = top-fits kind in
-    let k = ltb-false (top kind) r (row-off 6 _ _ (λ y. omega arith) (row-rest 1023 _ _ (λ y. omega arith) (row-rest 10 _ _ (λ y. omega arith) (sym hc
-    ∙ z)))) in
-    omega arith
+    let small = top-fits kind in let k = write-may kind o stopped r locked (sym hc ∙ z) .1 in omega arith
 
 pub may-number : (kind : Kind) (p : ℕ) (l : LockList) (o : ℕ) (f : File) (e₀ r : ℕ) (s : List ℕ) (c : ℕ) → c ≡ firstOf (rowsMay kind p l o f e₀ r s)
     → c ≡ 0 → r < 262144
-may-number kind p l o f e₀ r s c hc z = write-number kind o _ r _ c (hc ∙ ap firstOf (sym (may-by kind p l o f e₀ r s _ _ refl refl))) z
+may-number kind p l o f e₀ r s c hc z = let small = top-fits kind in let k = may-passed kind p l o f e₀ r s (sym hc ∙ z) .1 in omega arith
 
 -- ---- the ends of one record's write
 
@@ -106,10 +119,6 @@ module _ (kind : Kind) (zeros : Bool) (o : ℕ) (stopped locked : Bool) (f : Fil
     (hc : c ≡ firstOf (rowsMayBy kind o stopped r locked)) where
   abbrev may : List Row
   may = rowsMayBy kind o stopped r locked
-
-  may-real : noneZero may ≡ true
-  unfolding rowsMayBy
-  may-real = search nonzeros depth 20 fits 20000
 
   stays : (code : ℕ) → code ≡ firstOf (may ++ rowsRoom kind s e r) → (code ≡ 0 → ⊥) → OneDid kind zeros o stopped locked f e₀ e r v s code e s
   stays code h n = record { gives = h; within = le; wrote = λ z. absurd (n z); at = λ z. absurd (n z); kept = λ z. refl; stays = λ z. refl }
@@ -120,7 +129,7 @@ module _ (kind : Kind) (zeros : Bool) (o : ℕ) (stopped locked : Bool) (f : Fil
 
   module _ (z : c ≡ 0) (w : Spot) (hw : w ≡ spotAt kind s e r) (d : ℕ) (hd : d ≡ firstOf (rowsRoom kind s e r)) where
     room : d ≡ firstOf (may ++ rowsRoom kind s e r)
-    room = hd ∙ sym (first-then may (rowsRoom kind s e r) (sym hc ∙ z) may-real)
+    room = hd ∙ sym (first-then may (rowsRoom kind s e r) (sym hc ∙ z) (may-real kind o stopped r locked))
 
     -- no room
     pub write-full : (d ≡ 0 → ⊥) → OneDid kind zeros o stopped locked f e₀ e r v s d e s

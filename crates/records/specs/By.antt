@@ -11,6 +11,7 @@ use Rattle.words.specs.Tables.{Row, _∕_, _when_, firstOf}
 use Rattle.rules.specs.Kinds.{blockSize, entries, top}
 use Rattle.rules.specs.declared.file.File.{File}
 use Rattle.rules.specs.declared.list.LockList.{LockList}
+use Rattle.rules.specs.declared.spot.Spot.{Spot}
 use Rattle.rules.specs.Serves.{Buffers, Outcome}
 use Rattle.rules.specs.Drive.{entryOf, blockIn}
 use Rattle.rules.specs.Locks.{isOpened}
@@ -18,6 +19,7 @@ use Rattle.rules.specs.Codes.{rowsRoom, rows33, rows34, rows41}
 use Rattle.rules.specs.Effects.{spotAt, written, contents, does33, does34, does41}
 use Rattle.rules.specs.Call.{unless}
 use Rattle.rules.specs.declared.kind.Kind.{Kind}
+use Rattle.soundness.specs.Taking.{takenBy}
 
 -- ---- One record
 
@@ -42,6 +44,10 @@ pub record OneDid (kind : Kind) (zeros : Bool) (o : ℕ) (stopped locked : Bool)
   pub at : code ≡ 0 → entry ≡ spotAt kind s e r .entry
   pub kept : (code ≡ 0 → ⊥) → t ≡ s
   pub stays : (code ≡ 0 → ⊥) → entry ≡ e
+
+-- .. and the vector: marked where it is written
+unfoldable pub markedBy : ℕ → Spot → List ℕ → List ℕ
+markedBy code w v = takenBy w v if eqb code 0 else v
 
 -- ---- A call's table and effect
 

@@ -16,7 +16,9 @@ ghost use lib.ListN.{length};
 ghost use Rattle.words.specs.Tests.{any};
 ghost use Rattle.rules.specs.Serves.{Did, buffers};
 ghost use Rattle.rules.specs.Codes.{differs};
-ghost use Rattle.rules.specs.Locks.{unpack};
+ghost use Rattle.rules.specs.Locks.{unpack, openOf};
+ghost use Rattle.rules.specs.Asks.{callerFile};
+ghost use Rattle.rules.specs.Vector.{vectorOf};
 ghost use Rattle.rules.specs.Call.{Ready, served};
 ghost use Rattle.rules.specs.declared.routine.Chosen.the-variants.{Call};
 ghost use Rattle.rules.specs.declared.routine.Routine.the-variants.{TestWrite};
@@ -49,9 +51,10 @@ fn test_by(
     dma: &[u8],
     list: &[u8],
     image: &mut [u8],
+    vector: &[u8],
 ) -> u32
-    requires { ⌜ Ready kind (buffers (now fcb) (now dma) (now list) (now image)) ⌝ }
-    ensures { λ c. ⌜ Did (by41 kind p l o f r (buffers (now (fcb .entry)) (now (dma .entry)) (now (list .entry)) (now (image .entry)))) c (buffers (now (fcb .entry)) (now (dma .entry)) (now (list .entry)) (now (image .exit))) ⌝ }
+    requires { ⌜ (l ≡ unpack (now list)) × (f ≡ callerFile p l (now fcb)) × (o ≡ openOf l p f) × Ready kind (buffers (now fcb) (now dma) (now list) (now image)) × (now vector ≡ vectorOf kind (now image)) ⌝ }
+    ensures { λ c. ⌜ Did (by41 kind p l o f r (buffers (now (fcb .entry)) (now (dma .entry)) (now (list .entry)) (now (image .entry)))) c (buffers (now (fcb .entry)) (now (dma .entry)) (now (list .entry)) (now (image .exit))) × (now (vector .entry) ≡ vectorOf kind (now (image .exit))) ⌝ }
 {
     let first = entry_of(kind, &*image, f, 0);
     let refused = may_write(kind, p, l, o, f, first, r, &*image);
@@ -64,7 +67,7 @@ fn test_by(
     if lacking != 0 {
         return lacking;
     }
-    let w = spot_at(kind, &*image, e, number);
+    let w = spot_at(kind, &*image, vector, e, number);
     let block = w.block;
     if any_differs(dma, &*image, record_at(kind, block, number)) {
         return DIFFERS;
@@ -73,7 +76,7 @@ fn test_by(
     0
 }
 
-// 41 on the buffers.
+// 41 on the buffers. It takes no block, so the vector stays as it is.
 pub fn test_write(
     kind: Kind,
     p: u8,
@@ -82,12 +85,13 @@ pub fn test_write(
     dma: &[u8],
     list: &[u8],
     image: &mut [u8],
+    vector: &[u8],
 ) -> u32
-    requires { ⌜ (l ≡ unpack (now list)) × Ready kind (buffers (now fcb) (now dma) (now list) (now image)) ⌝ }
-    ensures { λ c. ⌜ Did (served kind (Call TestWrite) p 1 (buffers (now (fcb .entry)) (now (dma .entry)) (now (list .entry)) (now (image .entry)))) c (buffers (now (fcb .entry)) (now (dma .entry)) (now (list .entry)) (now (image .exit))) ⌝ }
+    requires { ⌜ (l ≡ unpack (now list)) × Ready kind (buffers (now fcb) (now dma) (now list) (now image)) × (now vector ≡ vectorOf kind (now image)) ⌝ }
+    ensures { λ c. ⌜ Did (served kind (Call TestWrite) p 1 (buffers (now (fcb .entry)) (now (dma .entry)) (now (list .entry)) (now (image .entry)))) c (buffers (now (fcb .entry)) (now (dma .entry)) (now (list .entry)) (now (image .exit))) × (now (vector .entry) ≡ vectorOf kind (now (image .exit))) ⌝ }
 {
     let f = caller_file(l, p, fcb);
     let o = l.open_of(p, f);
     let r = record_of(fcb);
-    test_by(kind, p, l, o, f, r, fcb, dma, list, image)
+    test_by(kind, p, l, o, f, r, fcb, dma, list, image, vector)
 }

@@ -13,6 +13,7 @@ use rules::list::LockList;
 use rules::spot::Spot;
 use writing::record::write_record;
 use writing::spot::spot_at;
+use writing::vector::mark_taken;
 ghost use mathlib.Core.Path.{_≡_};
 ghost use mathlib.Core.Bool.{true, false};
 ghost use Prim.Native.Nat.{_+_, _*_, _/_, _≤_};
@@ -25,11 +26,13 @@ ghost use Rattle.rules.specs.Serves.{Did, buffers};
 ghost use Rattle.rules.specs.Drive.{blocks, entryOf, soundImage};
 ghost use Rattle.rules.specs.Effects.{spotAt};
 ghost use Rattle.rules.specs.Codes.{rowsRoom};
-ghost use Rattle.rules.specs.Locks.{unpack};
+ghost use Rattle.rules.specs.Locks.{unpack, openOf};
+ghost use Rattle.rules.specs.Asks.{callerFile};
+ghost use Rattle.rules.specs.Vector.{vectorOf};
 ghost use Rattle.rules.specs.Call.{Ready, served};
 ghost use Rattle.rules.specs.declared.routine.Chosen.the-variants.{Call};
 ghost use Rattle.rules.specs.declared.routine.Routine.the-variants.{Write, WriteZeros};
-ghost use Rattle.records.specs.By.{OneDid, by34};
+ghost use Rattle.records.specs.By.{OneDid, markedBy, by34};
 
 // A new entry is wanted and none of the `n` is empty.
 fn lacks_entry(w: Spot, n: usize) -> bool
@@ -84,9 +87,10 @@ pub fn write_one(
     r: u32,
     v: &[u8],
     image: &mut [u8],
+    vector: &mut [u8],
 ) -> Wrote
-    requires { ⌜ (128 ≤ length (now v)) × (32 * entries kind + 32 ≤ length (now image)) × (blocks kind (now image) ≤ most kind) × (first ≤ entries kind) × (e ≤ entries kind) × (soundImage kind (now image) ≡ true) × (e ≡ entryOf kind (now image) f (r / 128)) ⌝ }
-    ensures { λ d. ⌜ OneDid kind zeros o stopped locked f first e r (now (v .entry)) (now (image .entry)) (d .code) (d .entry) (now (image .exit)) ⌝ }
+    requires { ⌜ (128 ≤ length (now v)) × (32 * entries kind + 32 ≤ length (now image)) × (blocks kind (now image) ≤ most kind) × (first ≤ entries kind) × (e ≤ entries kind) × (soundImage kind (now image) ≡ true) × (e ≡ entryOf kind (now image) f (r / 128)) × (now vector ≡ vectorOf kind (now image)) ⌝ }
+    ensures { λ d. ⌜ OneDid kind zeros o stopped locked f first e r (now (v .entry)) (now (image .entry)) (d .code) (d .entry) (now (image .exit)) × (now (vector .exit) ≡ markedBy (d .code) (spotAt kind (now (image .entry)) e r) (now (vector .entry))) ⌝ }
 {
     let refused = may_write_by(kind, o, stopped, r, locked);
     if refused != 0 {
@@ -96,7 +100,7 @@ pub fn write_one(
         };
     }
     let at = r as usize;
-    let w = spot_at(kind, &*image, e, at);
+    let w = spot_at(kind, &*image, &*vector, e, at);
     let full = no_room(kind, w, &*image, e, at);
     if full != 0 {
         return Wrote {
@@ -105,6 +109,7 @@ pub fn write_one(
         };
     }
     write_record(kind, image, zeros, w, first, f, at, v);
+    mark_taken(w, vector);
     Wrote {
         code: 0,
         entry: w.entry,
@@ -124,15 +129,29 @@ fn write_by(
     dma: &[u8],
     list: &[u8],
     image: &mut [u8],
+    vector: &mut [u8],
 ) -> u32
-    requires { ⌜ Ready kind (buffers (now fcb) (now dma) (now list) (now image)) ⌝ }
-    ensures { λ c. ⌜ Did (by34 kind zeros p l o f r (buffers (now (fcb .entry)) (now (dma .entry)) (now (list .entry)) (now (image .entry)))) c (buffers (now (fcb .entry)) (now (dma .entry)) (now (list .entry)) (now (image .exit))) ⌝ }
+    requires { ⌜ (l ≡ unpack (now list)) × (f ≡ callerFile p l (now fcb)) × (o ≡ openOf l p f) × Ready kind (buffers (now fcb) (now dma) (now list) (now image)) × (now vector ≡ vectorOf kind (now image)) ⌝ }
+    ensures { λ c. ⌜ Did (by34 kind zeros p l o f r (buffers (now (fcb .entry)) (now (dma .entry)) (now (list .entry)) (now (image .entry)))) c (buffers (now (fcb .entry)) (now (dma .entry)) (now (list .entry)) (now (image .exit))) × (now (vector .exit) ≡ vectorOf kind (now (image .exit))) ⌝ }
 {
     let first = entry_of(kind, &*image, f, 0);
     let e = entry_of(kind, &*image, f, r as usize / 128);
     let stopped = write_stopped(l.mode_at(o), first, &*image);
     let locked = l.locked_by_other(p, f, r);
-    let did = write_one(kind, zeros, o, stopped, locked, f, first, e, r, dma, image);
+    let did = write_one(
+        kind,
+        zeros,
+        o,
+        stopped,
+        locked,
+        f,
+        first,
+        e,
+        r,
+        dma,
+        image,
+        vector,
+    );
     did.code
 }
 
@@ -145,14 +164,15 @@ pub fn write_random(
     dma: &[u8],
     list: &[u8],
     image: &mut [u8],
+    vector: &mut [u8],
 ) -> u32
-    requires { ⌜ (l ≡ unpack (now list)) × Ready kind (buffers (now fcb) (now dma) (now list) (now image)) ⌝ }
-    ensures { λ c. ⌜ Did (served kind (Call Write) p 1 (buffers (now (fcb .entry)) (now (dma .entry)) (now (list .entry)) (now (image .entry)))) c (buffers (now (fcb .entry)) (now (dma .entry)) (now (list .entry)) (now (image .exit))) ⌝ }
+    requires { ⌜ (l ≡ unpack (now list)) × Ready kind (buffers (now fcb) (now dma) (now list) (now image)) × (now vector ≡ vectorOf kind (now image)) ⌝ }
+    ensures { λ c. ⌜ Did (served kind (Call Write) p 1 (buffers (now (fcb .entry)) (now (dma .entry)) (now (list .entry)) (now (image .entry)))) c (buffers (now (fcb .entry)) (now (dma .entry)) (now (list .entry)) (now (image .exit))) × (now (vector .exit) ≡ vectorOf kind (now (image .exit))) ⌝ }
 {
     let f = caller_file(l, p, fcb);
     let o = l.open_of(p, f);
     let r = record_of(fcb);
-    write_by(kind, false, p, l, o, f, r, fcb, dma, list, image)
+    write_by(kind, false, p, l, o, f, r, fcb, dma, list, image, vector)
 }
 
 // 40 on the buffers.
@@ -164,12 +184,13 @@ pub fn write_zero_fill(
     dma: &[u8],
     list: &[u8],
     image: &mut [u8],
+    vector: &mut [u8],
 ) -> u32
-    requires { ⌜ (l ≡ unpack (now list)) × Ready kind (buffers (now fcb) (now dma) (now list) (now image)) ⌝ }
-    ensures { λ c. ⌜ Did (served kind (Call WriteZeros) p 1 (buffers (now (fcb .entry)) (now (dma .entry)) (now (list .entry)) (now (image .entry)))) c (buffers (now (fcb .entry)) (now (dma .entry)) (now (list .entry)) (now (image .exit))) ⌝ }
+    requires { ⌜ (l ≡ unpack (now list)) × Ready kind (buffers (now fcb) (now dma) (now list) (now image)) × (now vector ≡ vectorOf kind (now image)) ⌝ }
+    ensures { λ c. ⌜ Did (served kind (Call WriteZeros) p 1 (buffers (now (fcb .entry)) (now (dma .entry)) (now (list .entry)) (now (image .entry)))) c (buffers (now (fcb .entry)) (now (dma .entry)) (now (list .entry)) (now (image .exit))) × (now (vector .exit) ≡ vectorOf kind (now (image .exit))) ⌝ }
 {
     let f = caller_file(l, p, fcb);
     let o = l.open_of(p, f);
     let r = record_of(fcb);
-    write_by(kind, true, p, l, o, f, r, fcb, dma, list, image)
+    write_by(kind, true, p, l, o, f, r, fcb, dma, list, image, vector)
 }

@@ -29,7 +29,11 @@ numbers-of : (kind : Kind) (s : List ℕ) (e : ℕ) → goodFields kind s e ≡ 
 unfolding goodFields goodNumbers
 numbers-of kind s e h =
     let g = and-snd _ _ (and-snd _ _ h) in
-    record { ex = leb-true _ _ (and-fst _ _ g); module-fits = leb-true _ _ (and-fst _ _ (and-snd _ _ g)); count-fits = leb-true _ _ (and-snd _ _ (and-snd _ _ g)) }
+    record {
+      ex = leb-true _ _ (and-fst _ _ g);
+      module-fits = leb-true _ _ (and-fst _ _ (and-snd _ _ g));
+      count-fits = leb-true _ _ (and-snd _ _ (and-snd _ _ g));
+    }
 
 -- an entry of the file is in use
 of-used : (s : List ℕ) (f : File) (e : ℕ) → isOf s f e ≡ true → isEmpty s e ≡ false

@@ -8,14 +8,14 @@ use lib.ListN.{length, getD}
 use lib.Dec.{eqb}
 use borrow.Author.Tests.{eqb-true, eqb-false, eq-eqb, ne-eqb, not-true}
 use Rattle.words.specs.Tests.{_and_, _or_}
-use Rattle.words.specs.Bytes.{byte}
+use Rattle.words.specs.Bytes.{byte, sameByte}
 use Rattle.words.proofs.Tests.{either, fails-too, all-at, all-make, and-fst, and-snd, or-so, or-case}
 use Rattle.words.proofs.Lists.{tab-ext, tab-getD}
 use Rattle.words.proofs.Sets.{and-both, and-left, or-left, not-of-false, not-of-true}
 use Rattle.rules.specs.declared.file.File.{File}
 use Rattle.rules.specs.declared.item.Item.{Item}
 use Rattle.rules.specs.declared.list.LockList.{LockList}
-use Rattle.rules.specs.Locks.{itemAt, sameByte, sameName, sameFile, opensName, standBeside, clash, clashAt}
+use Rattle.rules.specs.Locks.{itemAt, sameName, sameFile, opensName, standBeside, clash, clashAt}
 
 -- ---- names and files
 

@@ -19,4 +19,5 @@ pub mod Highest
 pub mod Singles
 pub mod Several
 pub mod OneRecord
+pub mod Vector
 pub mod Told

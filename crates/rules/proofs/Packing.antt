@@ -166,7 +166,8 @@ pack-twenty s h t =
     let f : tab g 19 ≡ take 19 s =
     tab-ext g (λ (k : ℕ). getD (take 19 s) k 0) 19 (λ k l. sym (getD-take 19 s k 0 l)) ∙ tab-getD (take 19 s) 0 19 m in
     let d : tab (byteFrom s 1299) 16 ≡ drop 1299 s =
-    tab-ext (byteFrom s 1299) (λ (k : ℕ). getD (drop 1299 s) k 0) 16 (λ k l. sym (getD-drop 1299 s k 0)) ∙ tab-getD (drop 1299 s) 0 16 (simp length-drop (omega arith)) in
+    tab-ext (byteFrom s 1299) (λ (k : ℕ). getD (drop 1299 s) k 0) 16 (λ k l. sym (getD-drop 1299 s k 0))
+    ∙ tab-getD (drop 1299 s) 0 16 (simp length-drop (omega arith)) in
     ap (λ (x : List ℕ). tab g 19 ++ (flat packItem (tab (itemIn s) 64) ++ x)) d ∙ ap (λ (x : List ℕ). tab g 19 ++ x) e ∙ ap (λ (x : List ℕ). x ++ drop 19 s) f
     ∙ take-append-drop 19 s
 

@@ -15,7 +15,7 @@ use Rattle.rules.specs.Serves.{Buffers, outcome}
 use Rattle.rules.specs.Codes.{rowsAll}
 use Rattle.rules.specs.Call.{rowsCall, call}
 use Rattle.rules.specs.Several.{servesRun, single, backAt, Run, run, goesOn, turnAt, several, singly, told, callRun, callSingly}
-use Rattle.rules.proofs.Tables.{accepts, refuses, call-below, all-below, answer-below}
+use Rattle.rules.proofs.Tables.{accepts, refuses, call-refused, call-below, all-below, answer-below}
 use Rattle.rules.specs.declared.kind.Kind.{Kind}
 
 -- ---- turns
@@ -206,6 +206,18 @@ module _ (kind : Kind) (n p c : ℕ) (b : Buffers) where
     pub singly-told : firstOf rows ≡ 0 → callSingly kind n p c b ≡ singly (several kind n p c b)
     unfolding callSingly _if_else_
     singly-told z = rw h (accepts rows b _ z)
+
+  -- what the general table refuses is refused so, a run of records or not, ..
+  pub run-first : (firstOf (rowsAll kind n p c b) ≡ 0 → ⊥) → callRun kind n p c b ≡ outcome (firstOf (rowsAll kind n p c b)) b
+  run-first z =
+      ⊎-elim (λ (h : servesRun n ≡ true). run-refused h z)
+      (λ (h : servesRun n ≡ false). run-plain h ∙ call-refused kind n p c b z) (either (servesRun n))
+
+  -- .. by the plain engine too
+  pub singly-first : (firstOf (rowsAll kind n p c b) ≡ 0 → ⊥) → callSingly kind n p c b ≡ outcome (firstOf (rowsAll kind n p c b)) b
+  singly-first z =
+      ⊎-elim (λ (h : servesRun n ≡ true). singly-refused h z)
+      (λ (h : servesRun n ≡ false). singly-plain h ∙ call-refused kind n p c b z) (either (servesRun n))
 
 -- ---- those four bits apart, the answer and all buffers are those of single calls made one after another
 

@@ -13,7 +13,7 @@ use Rattle.words.specs.Bytes.{byte, numberAt, le}
 use Rattle.words.proofs.Tests.{either, and-fst, and-snd}
 use Rattle.rules.specs.declared.kind.Kind.{Kind}
 use Rattle.rules.specs.declared.kind.Kind.the-variants.{Small, Large}
-use Rattle.rules.specs.Kinds.{blockSize, blockRecords, fewest, most, entries, numbers, width, top, lastModule}
+use Rattle.rules.specs.Kinds.{blockSize, blockRecords, fewest, most, vectorSize, entries, numbers, width, top, lastModule}
 use Rattle.rules.specs.Drive.{blocks, goodLength, mapPlace, mapNumber, recordAt}
 
 -- ---- the directory
@@ -74,6 +74,12 @@ one-length Small Small s h g = refl
 one-length Small Large s h g = absurd (lengths-apart s h g)
 one-length Large Small s h g = absurd (lengths-apart s g h)
 one-length Large Large s h g = refl
+
+-- a vector has a bit for each block that a drive may have
+pub vector-bits : (kind : Kind) → 8 * vectorSize kind ≡ most kind
+unfolding vectorSize most
+vector-bits Small = refl
+vector-bits Large = refl
 
 -- some blocks beside the directory's
 pub most-some : (kind : Kind) → 2 < most kind

@@ -201,7 +201,8 @@ module _ (kind : Kind) (n p c : ℕ) (b : Buffers) where
   answer-is plain =
       ⊎-elim
       (λ (h : anyRow (rowsCall kind n p c b) ≡ true). ap (λ (o : Outcome). o .answer) (refused kind n p c b h))
-      (λ (h : anyRow (rowsCall kind n p c b) ≡ false). accepted-zero plain h ∙ sym (none-applies (rowsCall kind n p c b) h)) (either (anyRow (rowsCall kind n p c b)))
+      (λ (h : anyRow (rowsCall kind n p c b) ≡ false). accepted-zero plain h ∙ sym (none-applies (rowsCall kind n p c b) h))
+      (either (anyRow (rowsCall kind n p c b)))
 
   -- the high four bits of an answer are zero, of a search's too
   pub answer-below : call kind n p c b .answer < 4096

@@ -5,7 +5,9 @@ use mathlib.Core.Bool.{true, false, not}
 use mathlib.Core.List.{List}
 use mathlib.Core.Logic.{_⊎_, inl, inr, ⊎-elim}
 use native.Mathlib.Omega.{arith}
-use Rattle.words.specs.Tests.{_and_, _if_else_}
+use lib.ListN.{length}
+use lib.Dec.{eqb}
+use Rattle.words.specs.Tests.{_and_, _or_, _if_else_}
 use Rattle.words.specs.Tables.{_∕_, firstOf}
 use Rattle.words.proofs.Tests.{either}
 use Rattle.words.proofs.Sets.{row-yes, row-no}
@@ -15,20 +17,18 @@ use Rattle.rules.specs.Serves.{Buffers, outcome}
 use Rattle.rules.specs.Drive.{goodLength, soundImage, imageCheck}
 use Rattle.rules.specs.Look.{mayLook, lookBlock, partAt, lookAt}
 use Rattle.rules.specs.Codes.{badNumbers, rowsInside, rowsAll}
-use Rattle.rules.specs.Several.{servesRun, callRun}
+use Rattle.rules.specs.Kinds.{vectorSize}
+use Rattle.rules.specs.Several.{callRun}
+use Rattle.rules.specs.Vector.{five, besides, rowsVector, callFive}
 use Rattle.rules.proofs.Sizes.{one-length}
 use Rattle.rules.proofs.Sound.{sound-length}
-use Rattle.rules.proofs.Tables.{call-refused}
-use Rattle.rules.proofs.Several.{run-plain, run-refused}
+use Rattle.rules.proofs.Several.{run-first}
+use Rattle.rules.proofs.Vector.{besides-refused}
 
 -- a call that the general table refuses, of one record or of several
 module _ (kind : Kind) (n p c : ℕ) (b : Buffers) where
   pub barred : (code : ℕ) → (code ≡ 0 → ⊥) → firstOf (rowsAll kind n p c b) ≡ code → callRun kind n p c b ≡ outcome code b
-  barred code some h =
-      let z : firstOf (rowsAll kind n p c b) ≡ 0 → ⊥ = λ q. some (sym h ∙ q) in
-      ⊎-elim (λ (q : servesRun n ≡ true). run-refused kind n p c b q z) (λ (q : servesRun n ≡ false). run-plain kind n p c b q ∙ call-refused kind n p c b z)
-      (either (servesRun n))
-      ∙ ap (λ (a : ℕ). outcome a b) h
+  barred code some h = run-first kind n p c b (λ q. some (sym h ∙ q)) ∙ ap (λ (a : ℕ). outcome a b) h
 
   pub bad-numbers : badNumbers n p c (b .fcb) (b .dma) (b .list) ≡ true → callRun kind n p c b ≡ outcome (255 ∕ 13) b
   unfolding rowsAll
@@ -74,3 +74,15 @@ module _ (own kind : Kind) (other : own ≡ kind → ⊥) (s : List ℕ) (sound 
     pub other-call : (callRun kind n p c b ≡ outcome (255 ∕ 13) b) ⊎ (callRun kind n p c b ≡ outcome (255 ∕ 1) b)
     other-call = ⊎-elim (λ h. inl (barred kind n p c b (255 ∕ 13) (λ q. omega arith) h))
         (λ h. inr (barred kind n p c b (255 ∕ 1) (λ q. omega arith) h)) rows-told
+
+    first-five : (code : ℕ) (v : List ℕ) → (code ≡ 0 → ⊥) → firstOf (rowsVector kind n p c v b) ≡ code → callFive kind n p c v b ≡ five (outcome code b) v
+    unfolding callFive
+    first-five code v z h = ap (λ (a : ℕ). besides kind a v b (callRun kind n p c b)) h ∙ besides-refused kind code v b (callRun kind n p c b) z
+
+    -- .. with the vector too, and all five buffers are as they were
+    pub other-five : (v : List ℕ) → (callFive kind n p c v b ≡ five (outcome (255 ∕ 13) b) v) ⊎ (callFive kind n p c v b ≡ five (outcome (255 ∕ 1) b) v)
+    unfolding rowsVector
+    other-five v =
+        let t = badNumbers n p c (b .fcb) (b .dma) (b .list) or not (eqb (length v) (vectorSize kind)) in
+        ⊎-elim (λ (h : t ≡ true). inl (first-five (255 ∕ 13) v (λ q. omega arith) (sym (row-yes _ _ _ _ h refl))))
+        (λ (h : t ≡ false). inr (first-five (255 ∕ 1) v (λ q. omega arith) (sym (row-no _ _ _ _ h (row-yes _ _ _ _ image-bad refl))))) (either t)

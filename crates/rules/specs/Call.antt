@@ -67,7 +67,8 @@ rowsOf (Call SearchFirst) a b = []
 rowsOf (Call SearchNext) a b = []
 rowsOf (Call Delete) a b = rows19 (a .kind) (a .process) (a .list) (a .file) (a .found) (b .fcb) (b .image)
 rowsOf (Call Make) a b = rows22 (a .kind) (a .process) (a .list) (a .found) (b .fcb) (b .image)
-rowsOf (Call Rename) a b = rows23 (a .kind) (a .list) (a .file) (a .found) (lookUp (a .kind) (b .image) (newFile (a .process) (a .list) (b .fcb))) (b .fcb) (b .image)
+rowsOf (Call Rename) a b =
+    rows23 (a .kind) (a .list) (a .file) (a .found) (lookUp (a .kind) (b .image) (newFile (a .process) (a .list) (b .fcb))) (b .fcb) (b .image)
 rowsOf (Call Read) a b = rows33 (a .kind) (a .place) (a .entry) (a .recordNumber) (b .image)
 rowsOf (Call Write) a b = rows34 (a .kind) (a .process) (a .list) (a .place) (a .file) (a .found .entry) (a .entry) (a .recordNumber) (b .image)
 rowsOf (Call Size) a b = rows35 (a .kind) (a .found) (b .fcb)

@@ -109,7 +109,8 @@ does15 p l o f x b =
 
 unfoldable pub makes : ℕ → LockList → File → ℕ → Buffers → Outcome
 makes p l f e b =
-    accept (buffers (fcbOpened (made e f (b .image)) e (makeMode (b .fcb)) (freePlace l) (b .fcb)) (b .dma) (pack (opened p f (makeMode (b .fcb)) l)) (made e f (b .image)))
+    accept (buffers (fcbOpened (made e f (b .image)) e (makeMode (b .fcb)) (freePlace l) (b .fcb)) (b .dma)
+    (pack (opened p f (makeMode (b .fcb)) l)) (made e f (b .image)))
 
 unfoldable pub does22 : Kind → ℕ → LockList → File → Buffers → Outcome
 does22 kind p l f b = makes p l f (freeEntry kind (b .image)) b

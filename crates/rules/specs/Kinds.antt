@@ -30,6 +30,11 @@ unfoldable pub most : Kind → ℕ
 most Small = 256
 most Large = 4096
 
+-- T-04's vector has 32 bytes, or 512: a bit for each block that a drive may have
+unfoldable pub vectorSize : Kind → ℕ
+vectorSize Small = 32
+vectorSize Large = 512
+
 -- 64 entries of 32 bytes in blocks 0 and 1, or 128
 unfoldable pub entries : Kind → ℕ
 entries Small = 64

@@ -9,4 +9,5 @@ pub mod Effects
 pub mod Look
 pub mod Call
 pub mod Several
+pub mod Vector
 pub mod Told

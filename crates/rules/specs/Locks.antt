@@ -6,7 +6,7 @@ use lib.ListN.{length, getD, set, replicate}
 use lib.Dec.{leb, ltb, eqb}
 use Rattle.words.specs.Tests.{_and_, _or_, _if_else_, all, any, lowest, count}
 use Rattle.words.specs.Lists.{tab, flat}
-use Rattle.words.specs.Bytes.{byte, byteFrom, part, le, word}
+use Rattle.words.specs.Bytes.{byte, sameByte, byteFrom, part, le, word}
 use Rattle.words.specs.Tables.{Row, _∕_, _when_, firstOf}
 use Rattle.rules.specs.declared.kind.Kind.{Kind}
 use Rattle.rules.specs.declared.file.File.{File}
@@ -136,9 +136,6 @@ pack l =
     ∷ (tab (byteFrom (l .users) 0) processes ++ (flat packItem (l .items) ++ tab (byteFrom (l .positions) 0) processes))
 
 -- ---- Whose an item is
-
-unfoldable pub sameByte : List ℕ → List ℕ → ℕ → Bool
-sameByte a b k = eqb (byte a k) (byte b k)
 
 unfoldable pub sameName : List ℕ → List ℕ → Bool
 sameName a b = all (sameByte a b) 11

@@ -10,6 +10,7 @@ use Rattle.rules.specs.Drive.{imageCheck, imageTold}
 use Rattle.rules.specs.Locks.{Started, start}
 use Rattle.rules.specs.Look.{lookAt}
 use Rattle.rules.specs.Several.{callRun, callSingly}
+use Rattle.rules.specs.Vector.{Five, Built, five, built, callFive, singlyFive, build}
 
 -- Refusals: 255/13 also for an unknown kind, before everything; ..
 unfoldable pub callTold : Told → ℕ → ℕ → ℕ → Buffers → Outcome
@@ -19,6 +20,19 @@ callTold Other n p c b = outcome (255 ∕ 13) b
 unfoldable pub singlyTold : Told → ℕ → ℕ → ℕ → Buffers → Outcome
 singlyTold (Known kind) n p c b = callSingly kind n p c b
 singlyTold Other n p c b = outcome (255 ∕ 13) b
+
+-- .. with the vector too (T-04), ..
+unfoldable pub fiveTold : Told → ℕ → ℕ → ℕ → List ℕ → Buffers → Five
+fiveTold (Known kind) n p c v b = callFive kind n p c v b
+fiveTold Other n p c v b = five (outcome (255 ∕ 13) b) v
+
+unfoldable pub singlyFiveTold : Told → ℕ → ℕ → ℕ → List ℕ → Buffers → Five
+singlyFiveTold (Known kind) n p c v b = singlyFive kind n p c v b
+singlyFiveTold Other n p c v b = five (outcome (255 ∕ 13) b) v
+
+unfoldable pub buildTold : Told → List ℕ → List ℕ → Built
+buildTold (Known kind) s v = build kind s v
+buildTold Other s v = built (255 ∕ 13) v
 
 unfoldable pub startTold : Told → ℕ → ℕ → ℕ → List ℕ → List ℕ → Started
 startTold (Known kind) c o k users list = start kind c o k users list

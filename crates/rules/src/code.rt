@@ -8,6 +8,8 @@ pub const BAD_IMAGE: u32 = 255 + 256 * 1;
 
 pub const BAD_LIST: u32 = 255 + 256 * 12;
 
+pub const BAD_VECTOR: u32 = 255 + 256 * 14;
+
 pub const BAD_DRIVE: u32 = 255 + 256 * 4;
 
 // ---- Of whole files

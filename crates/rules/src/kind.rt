@@ -1,7 +1,7 @@
 ghost use mathlib.Core.Path.{_≡_};
 ghost use Prim.Native.Nat.{_≤_};
 ghost use lib.Dec.{ltb};
-ghost use Rattle.rules.specs.Kinds.{toldKind, blockSize, blockRecords, fewest, most, entries, numbers, top, lastModule};
+ghost use Rattle.rules.specs.Kinds.{toldKind, blockSize, blockRecords, fewest, most, vectorSize, entries, numbers, top, lastModule};
 
 // The kind of a drive: blocks of 1,024 bytes and one-byte block numbers, or of 2,048 bytes and two-byte numbers.
 pub enum Kind {
@@ -82,6 +82,16 @@ pub fn most(kind: Kind) -> usize
     match kind {
         Kind::Small => 256,
         Kind::Large => 4096,
+    }
+}
+
+// Bytes to a vector: a bit for each of the most blocks.
+pub fn vector_size(kind: Kind) -> usize
+    ensures { λ r. ⌜ (r ≡ vectorSize kind) × (r ≤ 512) ⌝ }
+{
+    match kind {
+        Kind::Small => 32,
+        Kind::Large => 512,
     }
 }
 

@@ -71,7 +71,7 @@ module _ (kind : Kind) (s : List ℕ) (e k : ℕ) (fits : 32 * e + 32 ≤ length
       )
 
   marks-zeroed : (seen : List ℕ) → Marks kind 1 s e k seen → Marks kind 1 after e (k + 1) seen
-  marks-zeroed seen m = record { long = m .long; mark = λ x p l. m .mark x p l ∙ sym (before-same x p) }
+  marks-zeroed seen m = record { long = m .long; bytes = m .bytes; mark = λ x p l. m .mark x p l ∙ sym (before-same x p) }
 
 zero-range : (kind : Kind) (s : List ℕ) (e k b : ℕ) → b ≡ mapNumber kind s e k → b ≡ 0 → inRange kind s e k ≡ true
 unfolding inRange _or_

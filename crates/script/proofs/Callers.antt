@@ -3,8 +3,9 @@ use Prim.Native.Nat.{ℕ}
 use mathlib.Core.Path.{_≡_, ap}
 use mathlib.Core.List.{List}
 use Rattle.rules.specs.Kinds.{toldKind}
-use Rattle.rules.specs.Serves.{Buffers, Did, buffers}
-use Rattle.rules.specs.Told.{startTold, callTold}
+use Rattle.rules.specs.Serves.{Buffers, buffers}
+use Rattle.rules.specs.Vector.{DidFive}
+use Rattle.rules.specs.Told.{startTold, fiveTold}
 use Rattle.locklist.specs.Start.{DidStart}
 use Rattle.script.specs.Lines.{Lined, callLine}
 use Rattle.script.specs.Records.{firstNumber, secondNumber, thirdNumber, usersIn, fcbIn, dmaIn}
@@ -16,13 +17,18 @@ pub did-start : (s : List ℕ) (c o k : ℕ) (users list : List ℕ) (a : ℕ) (
 unfolding startOf
 did-start s c o k users list a l h g e u d = rw (h, g, e, u) at d
 
-pub did-call : (s : List ℕ) (n p c : ℕ) (fcb dma list image : List ℕ) (a : ℕ) (f d l i : List ℕ)
+pub did-call : (s : List ℕ) (n p c : ℕ) (fcb dma list image vector : List ℕ) (a : ℕ) (f d l i u : List ℕ)
     → n ≡ firstNumber s → p ≡ secondNumber s → c ≡ thirdNumber s → fcb ≡ fcbIn s → dma ≡ dmaIn s
-    → Did (callTold (toldKind firstKind) n p c (buffers fcb dma list image)) a (buffers f d l i) → DidCall (callOf s list image) a l i
+    → DidFive (fiveTold (toldKind firstKind) n p c vector (buffers fcb dma list image)) a (buffers f d l i) u → DidCall (callOf s list image vector) a l i u
 unfolding callOf
-did-call s n p c fcb dma list image a f d l i h g e u v w =
-    let w : Did (callOf s list image) a (buffers f d l i) = rw (h, g, e, u, v) at w in
-    record { gives = w .gives; leaves-list = ap (λ (x : Buffers). x .list) (w .leaves); leaves-image = ap (λ (x : Buffers). x .image) (w .leaves) }
+did-call s n p c fcb dma list image vector a f d l i u h g e x y w =
+    let w : DidFive (callOf s list image vector) a (buffers f d l i) u = rw (h, g, e, x, y) at w in
+    record {
+      gives = w .outcome-so .gives;
+      leaves-list = ap (λ (x : Buffers). x .list) (w .outcome-so .leaves);
+      leaves-image = ap (λ (x : Buffers). x .image) (w .outcome-so .leaves);
+      leaves-vector = w .vector-so;
+    }
 
 pub line-of : (s : List ℕ) (number p n answer r : ℕ) (before after : List ℕ) → p ≡ secondNumber s → n ≡ firstNumber s
     → Lined (callLine number p n answer) r before after → Lined (callLine number (secondNumber s) (firstNumber s) answer) r before after

@@ -50,5 +50,5 @@ unfolding imageOf isRecord _and_
 cut =
     image-fits none (sessionStart ++ (0x4D ∷ [])) (omega arith)
     ∙ ap (λ (r : Ran). headerLine then r)
-    (start-good sessionStart (0x4D ∷ []) [] firstList begins starts ∙ calls-cut _ 0 (0x4D ∷ []) firstList [] (omega arith) refl)
+    (start-good sessionStart (0x4D ∷ []) [] firstList begins starts ∙ calls-cut _ 0 (0x4D ∷ []) firstList [] _ (omega arith) refl)
     ∙ ap (λ (v : List ℕ). ran (headerLine ++ v) none) bad-first-call

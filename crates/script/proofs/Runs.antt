@@ -14,10 +14,11 @@ use lib.Seq.{take-at, drop-at}
 use Rattle.words.specs.Tests.{_if_else_}
 use Rattle.words.specs.Tables.{_∕_}
 use Rattle.words.proofs.Tests.{either}
-use Rattle.rules.specs.Serves.{Outcome, listSize}
+use Rattle.rules.specs.Serves.{listSize}
+use Rattle.rules.specs.Vector.{Five}
 use Rattle.script.specs.Records.{startSize, callSize, isStart, isCall, firstNumber, secondNumber}
 use Rattle.script.specs.Lines.{headerLine, callLine, endLine, badLine, badStartLine, badCallLine, longImageLine}
-use Rattle.script.specs.Run.{Ran, Whole, Broken, ran, _then_, longest, imageOf, startOf, callOf, callThen, callsOn, startThen, startsOn, runOf}
+use Rattle.script.specs.Run.{Ran, Whole, Broken, ran, _then_, longest, imageOf, startOf, callOf, vectorFor, callThen, callsOn, startThen, startsOn, runOf}
 use Rattle.script.proofs.Records.{is-long}
 
 -- ---- the image
@@ -51,7 +52,7 @@ module _ (disk : Option (List ℕ)) (input : List ℕ) (h : length (imageOf disk
       (either (isStart (take startSize input)))
 
 pub start-good : (r rest image list : List ℕ) → isStart r ≡ true → startOf r (replicate listSize 0) ≡ record { answer = 0 ∕ 0; list = list }
-    → startsOn (r ++ rest) image ≡ callsOn (suc (length (r ++ rest))) 0 rest list image
+    → startsOn (r ++ rest) image ≡ callsOn (suc (length (r ++ rest))) 0 rest list image (vectorFor image)
 unfolding startsOn startThen _if_else_
 start-good r rest image list h g =
     let n = is-long startSize 0x53 r h in
@@ -60,19 +61,19 @@ start-good r rest image list h g =
 -- ---- the calls
 
 module _ (more calls : ℕ) where
-  pub calls-end : (list image : List ℕ) → callsOn (suc more) calls [] list image ≡ ran (endLine calls) (some image)
+  pub calls-end : (list image vector : List ℕ) → callsOn (suc more) calls [] list image vector ≡ ran (endLine calls) (some image)
   unfolding callsOn _if_else_
-  calls-end list image = refl
+  calls-end list image vector = refl
 
-  pub calls-cut : (input list image : List ℕ) → 0 < length input → isCall (take callSize input) ≡ false
-      → callsOn (suc more) calls input list image ≡ ran (badCallLine calls) none
+  pub calls-cut : (input list image vector : List ℕ) → 0 < length input → isCall (take callSize input) ≡ false
+      → callsOn (suc more) calls input list image vector ≡ ran (badCallLine calls) none
   unfolding callsOn _if_else_
-  calls-cut input list image h g = rw (ne-eqb (length input) 0 (λ e. omega arith), g)
+  calls-cut input list image vector h g = rw (ne-eqb (length input) 0 (λ e. omega arith), g)
 
-  pub calls-go-on : (r rest list image : List ℕ) → isCall r ≡ true
-      → callsOn (suc more) calls (r ++ rest) list image ≡ callThen calls r (callOf r list image) (callsOn more (calls + 1) rest)
+  pub calls-go-on : (r rest list image vector : List ℕ) → isCall r ≡ true
+      → callsOn (suc more) calls (r ++ rest) list image vector ≡ callThen calls r (callOf r list image vector) (callsOn more (calls + 1) rest)
   unfolding callsOn _if_else_
-  calls-go-on r rest list image h =
+  calls-go-on r rest list image vector h =
       let n = is-long callSize 0x43 r h in
       let l = length-append r rest in
       rw (ne-eqb (length (r ++ rest)) 0 (λ e. omega arith), take-at r rest callSize n, drop-at r rest callSize n, h)
@@ -80,17 +81,17 @@ module _ (more calls : ℕ) where
 -- ---- the number that bounds them
 
 -- a call's line, and on in one way or another
-same-on : (calls : ℕ) (r : List ℕ) (o : Outcome) (f g : List ℕ → List ℕ → Ran) → ((l i : List ℕ) → f l i ≡ g l i)
+same-on : (calls : ℕ) (r : List ℕ) (o : Five) (f g : List ℕ → List ℕ → List ℕ → Ran) → ((l i v : List ℕ) → f l i v ≡ g l i v)
     → callThen calls r o f ≡ callThen calls r o g
 unfolding callThen
-same-on calls r o f g h = rw (h (o .left .list) (o .left .image))
+same-on calls r o f g h = rw (h (o .did .left .list) (o .did .left .image) (o .vector))
 
-pub same-calls : (j k calls : ℕ) (input list image : List ℕ) → length input < j → length input < k
-    → callsOn j calls input list image ≡ callsOn k calls input list image
+pub same-calls : (j k calls : ℕ) (input list image vector : List ℕ) → length input < j → length input < k
+    → callsOn j calls input list image vector ≡ callsOn k calls input list image vector
 unfolding callsOn _if_else_
-same-calls zero k calls input list image h g = absurd (not-suc-le-zero h)
-same-calls (suc j) zero calls input list image h g = absurd (not-suc-le-zero g)
-same-calls (suc j) (suc k) calls input list image h g =
+same-calls zero k calls input list image vector h g = absurd (not-suc-le-zero h)
+same-calls (suc j) zero calls input list image vector h g = absurd (not-suc-le-zero g)
+same-calls (suc j) (suc k) calls input list image vector h g =
     ⊎-elim (λ (q : eqb (length input) 0 ≡ true). rw q)
     (λ (q : eqb (length input) 0 ≡ false).
     let z = eqb-false (length input) 0 q in
@@ -98,14 +99,16 @@ same-calls (suc j) (suc k) calls input list image h g =
     let rest = drop callSize input in
     let a : length (drop callSize input) < j = rw length-drop (omega arith) in
     let b : length (drop callSize input) < k = rw length-drop (omega arith) in
-    let e = same-on calls r (callOf r list image) (callsOn j (calls + 1) rest) (callsOn k (calls + 1) rest) (λ l i. same-calls j k (calls + 1) rest l i a b) in
+    let e = same-on calls r (callOf r list image vector) (callsOn j (calls + 1) rest) (callsOn k (calls + 1) rest)
+    (λ l i v. same-calls j k (calls + 1) rest l i v a b) in
     rw q (ap (λ (x : Ran). ran (badCallLine calls) none if not (isCall (take callSize input)) else x) e))
     (either (eqb (length input) 0))
 
 -- so the definition does not depend on it
-pub calls-bounded : (k calls : ℕ) (input list image : List ℕ) → length input ≤ k
-    → callsOn (suc (length input)) calls input list image ≡ callsOn (suc k) calls input list image
-calls-bounded k calls input list image h = same-calls (suc (length input)) (suc k) calls input list image (omega arith) (omega arith)
+pub calls-bounded : (k calls : ℕ) (input list image vector : List ℕ) → length input ≤ k
+    → callsOn (suc (length input)) calls input list image vector ≡ callsOn (suc k) calls input list image vector
+calls-bounded k calls input list image vector h =
+    same-calls (suc (length input)) (suc k) calls input list image vector (omega arith) (omega arith)
 
 -- ---- the end of a run
 
@@ -138,17 +141,17 @@ bad-ends : (number : ℕ) → Ends (ran (badLine number) none)
 unfolding Ends
 bad-ends number = inr (record { front = []; number = number; prints = refl; writes = refl })
 
-call-ends : (calls : ℕ) (r : List ℕ) (o : Outcome) (f : List ℕ → List ℕ → Ran) → ((l i : List ℕ) → Ends (f l i)) → Ends (callThen calls r o f)
+call-ends : (calls : ℕ) (r : List ℕ) (o : Five) (f : List ℕ → List ℕ → List ℕ → Ran) → ((l i v : List ℕ) → Ends (f l i v)) → Ends (callThen calls r o f)
 unfolding callThen
 call-ends calls r o f h =
-    let l = o .left .list in
-    let i = o .left .image in
-    line-ends (callLine calls (secondNumber r) (firstNumber r) (o .answer)) (f l i) (h l i)
+    let l = o .did .left .list in
+    let i = o .did .left .image in
+    line-ends (callLine calls (secondNumber r) (firstNumber r) (o .did .answer)) (f l i (o .vector)) (h l i (o .vector))
 
-calls-ends : (more calls : ℕ) (input list image : List ℕ) → length input < more → Ends (callsOn more calls input list image)
+calls-ends : (more calls : ℕ) (input list image vector : List ℕ) → length input < more → Ends (callsOn more calls input list image vector)
 unfolding callsOn badCallLine Ends
-calls-ends zero calls input list image h = absurd (not-suc-le-zero h)
-calls-ends (suc more) calls input list image h =
+calls-ends zero calls input list image vector h = absurd (not-suc-le-zero h)
+calls-ends (suc more) calls input list image vector h =
     one-ends (eqb (length input) 0) (ran (endLine calls) (some image)) _
     (λ q. inl (record { front = []; calls = calls; image = image; prints = refl; writes = refl }))
     (λ (q : eqb (length input) 0 ≡ false).
@@ -157,14 +160,14 @@ calls-ends (suc more) calls input list image h =
     let rest = drop callSize input in
     let a : length (drop callSize input) < more = rw length-drop (omega arith) in
     one-ends (not (isCall r)) (ran (badCallLine calls) none) _ (λ p. bad-ends (calls + 1))
-    (λ p. call-ends calls r (callOf r list image) (callsOn more (calls + 1) rest) (λ l i. calls-ends more (calls + 1) rest l i a)))
+    (λ p. call-ends calls r (callOf r list image vector) (callsOn more (calls + 1) rest) (λ l i v. calls-ends more (calls + 1) rest l i v a)))
 
 start-ends : (input image : List ℕ) → Ends (startsOn input image)
 unfolding startsOn startThen badStartLine
 start-ends input image =
     let a : length (drop startSize input) < suc (length input) = rw length-drop (omega arith) in
     one-ends (isStart (take startSize input)) _ (ran badStartLine none)
-    (λ q. one-ends _ _ (ran badStartLine none) (λ p. calls-ends (suc (length input)) 0 (drop startSize input) _ image a) (λ p. bad-ends 0))
+    (λ q. one-ends _ _ (ran badStartLine none) (λ p. calls-ends (suc (length input)) 0 (drop startSize input) _ image _ a) (λ p. bad-ends 0))
     (λ q. bad-ends 0)
 
 -- DISK.OUT is written where the last line is an end line, and nowhere else

@@ -2,29 +2,35 @@
 -- Assumes nothing.
 use Prim.Native.Nat.{ℕ, zero, suc, _+_, _≤_, _<_}
 use mathlib.Core.Path.{_≡_, refl, ap, _∙_}
-use mathlib.Core.Bool.{true}
+use mathlib.Core.Bool.{true, false}
 use mathlib.Core.List.{List, [], _∷_, _++_}
 use mathlib.Core.Option.{some}
 use native.Mathlib.Nat.{not-suc-le-zero}
 use native.Mathlib.Omega.{arith}
 use lib.ListN.{length, take, replicate, length-append, length-replicate}
 use Rattle.words.specs.Tests.{_if_else_}
-use Rattle.words.specs.Tables.{_∕_}
+use Rattle.words.specs.Tables.{_∕_, anyRow}
 use Rattle.rules.specs.declared.kind.Kind.the-variants.{Small}
 use Rattle.rules.specs.Kinds.{toldKind}
 use Rattle.rules.specs.Serves.{Outcome, buffers, processes, listSize, fcbSize, dmaSize}
 use Rattle.rules.specs.Several.{callRun}
-use Rattle.rules.specs.Told.{callTold}
+use Rattle.rules.specs.Vector.{Five, Built, five, vectorOf, rowsBuild}
+use Rattle.rules.specs.Told.{fiveTold, buildTold}
+use Rattle.rules.proofs.Vector.{five-whole, build-accepted}
 use Rattle.session.specs.Open.{rules}
 use Rattle.session.specs.Session.{Step, Line, AsListed, session, fcbWith, dmaWith, firstImage, firstList, image5}
 use Rattle.session.proofs.Session.{the-session}
 use Rattle.script.specs.Text.{text, digitsBelow, digits}
 use Rattle.script.specs.Records.{startRecord, callRecord, callSize, isStart, isCall}
 use Rattle.script.specs.Lines.{field, headerLine, callLine, endLine}
-use Rattle.script.specs.Run.{Ran, ran, _then_, imageOf, startOf, callOf, callThen, callsOn, runOf}
+use Rattle.script.specs.Run.{Ran, ran, _then_, imageOf, startOf, callOf, vectorLong, vectorFor, callThen, callsOn, runOf}
 use Rattle.script.specs.SessionRun.{stepRecord, stepRecords, sessionStart, sessionInput, nineLines}
 use Rattle.script.proofs.Records.{start-is, call-is, call-fcb, call-dma, is-long}
 use Rattle.script.proofs.Runs.{image-fits, start-good, calls-end, calls-go-on}
+
+-- an outcome, and beside it the vector of its image
+unfoldable withVector : Outcome → Five
+withVector o = five o (vectorOf Small (o .left .image))
 
 -- ---- a record of the session
 
@@ -40,13 +46,16 @@ step-is : (s : Step) → isCall (stepRecord s) ≡ true
 unfolding stepRecord
 step-is s = call-is (s .function) (s .process) (s .count) (fcbWith (s .recordNumber)) (dmaWith (s .id)) (fcb-long (s .recordNumber)) (dma-long (s .id))
 
+-- with the vector of the image: the call of four buffers, and the vector of the image that it left
 step-asks : (s : Step) (l i : List ℕ)
-    → callOf (stepRecord s) l i ≡ callRun Small (s .function) (s .process) (s .count) (buffers (fcbWith (s .recordNumber)) (dmaWith (s .id)) l i)
-unfolding stepRecord callOf callRecord toldKind callTold _if_else_
+    → callOf (stepRecord s) l i (vectorOf Small i)
+    ≡ withVector (callRun Small (s .function) (s .process) (s .count) (buffers (fcbWith (s .recordNumber)) (dmaWith (s .id)) l i))
+unfolding stepRecord callOf callRecord toldKind fiveTold withVector _if_else_
 step-asks s l i =
     let f = call-fcb (s .function) (s .process) (s .count) (fcbWith (s .recordNumber)) (dmaWith (s .id)) (fcb-long (s .recordNumber)) (dma-long (s .id)) in
     let d = call-dma (s .function) (s .process) (s .count) (fcbWith (s .recordNumber)) (dmaWith (s .id)) (fcb-long (s .recordNumber)) (dma-long (s .id)) in
-    rw (f, d)
+    rw (f, d) (five-whole Small (s .function) (s .process) (s .count) (vectorOf Small i)
+    (buffers (fcbWith (s .recordNumber)) (dmaWith (s .id)) l i) refl)
 
 -- ---- calls of the session, as listed
 
@@ -61,19 +70,20 @@ imageAfter i [] = i
 imageAfter i (x ∷ xs) = imageAfter (x .gives .left .image) xs
 
 -- the line of a call of the session, and on with what is listed
-step-then : (calls : ℕ) (s : Step) (o : Outcome) (f : List ℕ → List ℕ → Ran)
-    → callThen calls (stepRecord s) o f ≡ (callLine calls (s .process) (s .function) (o .answer) then f (o .left .list) (o .left .image))
-unfolding callThen stepRecord callRecord
+step-then : (calls : ℕ) (s : Step) (o : Outcome) (f : List ℕ → List ℕ → List ℕ → Ran)
+    → callThen calls (stepRecord s) (withVector o) f
+    ≡ (callLine calls (s .process) (s .function) (o .answer) then f (o .left .list) (o .left .image) (vectorOf Small (o .left .image)))
+unfolding callThen stepRecord callRecord withVector
 step-then calls s o f = refl
 
 calls-run : (more calls : ℕ) (l i : List ℕ) (xs : List Line) → length xs < more → AsListed l i xs
-    → callsOn more calls (stepRecords xs) l i ≡ ran (linesFrom calls xs) (some (imageAfter i xs))
+    → callsOn more calls (stepRecords xs) l i (vectorOf Small i) ≡ ran (linesFrom calls xs) (some (imageAfter i xs))
 unfolding AsListed stepRecords linesFrom imageAfter
 calls-run zero calls l i xs h a = absurd (not-suc-le-zero h)
-calls-run (suc more) calls l i [] h a = calls-end more calls l i
+calls-run (suc more) calls l i [] h a = calls-end more calls l i (vectorOf Small i)
 calls-run (suc more) calls l i (x ∷ xs) h a =
-    calls-go-on more calls (stepRecord (x .asks)) (stepRecords xs) l i (step-is (x .asks))
-    ∙ ap (λ (o : Outcome). callThen calls (stepRecord (x .asks)) o (callsOn more (calls + 1) (stepRecords xs))) (step-asks (x .asks) l i ∙ a .0)
+    calls-go-on more calls (stepRecord (x .asks)) (stepRecords xs) l i (vectorOf Small i) (step-is (x .asks))
+    ∙ ap (λ (o : Five). callThen calls (stepRecord (x .asks)) o (callsOn more (calls + 1) (stepRecords xs))) (step-asks (x .asks) l i ∙ ap withVector (a .0))
     ∙ step-then calls (x .asks) (x .gives) (callsOn more (calls + 1) (stepRecords xs))
     ∙ ap (λ (r : Ran). callLine calls (x .asks .process) (x .asks .function) (x .gives .answer) then r)
     (calls-run more (calls + 1) (x .gives .left .list) (x .gives .left .image) xs (omega arith) (a .1))
@@ -105,6 +115,14 @@ pub starts : startOf sessionStart (replicate listSize 0) ≡ record { answer = 0
 unfolding rules startOf sessionStart startRecord firstList
 starts = refl
 
+-- the first image is sound, so the vector beside it is its own
+pub begins-with : vectorFor firstImage ≡ vectorOf Small firstImage
+unfolding vectorFor toldKind buildTold _if_else_
+begins-with = ap (λ (x : Built). x .vector) (build-accepted Small firstImage (replicate vectorLong 0) fine)
+  where
+    fine : anyRow (rowsBuild Small firstImage (replicate vectorLong 0)) ≡ false
+    fine = unfold rules firstImage in refl
+
 -- the first k calls of the session
 the-run : (k : ℕ)
     → runOf (some firstImage) (sessionStart ++ stepRecords (take k session))
@@ -118,6 +136,7 @@ the-run k =
     image-fits (some firstImage) (sessionStart ++ rest) (omega (arith, length-replicate {A = ℕ} 4096 0xE5))
     ∙ ap (λ (r : Ran). headerLine then r)
     (start-good sessionStart rest firstImage firstList begins starts
+    ∙ ap (callsOn (suc (length (sessionStart ++ rest))) 0 rest firstList firstImage) begins-with
     ∙ calls-run (suc (length (sessionStart ++ rest))) 0 firstList firstImage (take k session) (omega arith) listed)
 
 pub nine-lines : runOf (some firstImage) sessionInput ≡ ran nineLines (some image5)

@@ -8,10 +8,11 @@ use lib.ListN.{length, take, drop, replicate}
 use lib.Dec.{ltb, eqb}
 use Rattle.words.specs.Tests.{_if_else_}
 use Rattle.words.specs.Tables.{_∕_}
-use Rattle.rules.specs.Serves.{Outcome, buffers, listSize}
+use Rattle.rules.specs.Serves.{buffers, listSize}
 use Rattle.rules.specs.Locks.{Started}
 use Rattle.rules.specs.Kinds.{toldKind}
-use Rattle.rules.specs.Told.{callTold, startTold}
+use Rattle.rules.specs.Vector.{Five}
+use Rattle.rules.specs.Told.{fiveTold, buildTold, startTold}
 use Rattle.script.specs.Records.{startSize, callSize, isStart, isCall, firstNumber, secondNumber, thirdNumber, usersIn, fcbIn, dmaIn}
 use Rattle.script.specs.Lines.{headerLine, callLine, endLine, badLine, badStartLine, badCallLine, longImageLine}
 
@@ -25,15 +26,25 @@ firstKind = 0
 unfoldable pub startOf : List ℕ → List ℕ → Started
 startOf r list = startTold (toldKind firstKind) (firstNumber r) (secondNumber r) (thirdNumber r) (usersIn r) list
 
--- the call that a call record says, on a list and an image
-unfoldable pub callOf : List ℕ → List ℕ → List ℕ → Outcome
-callOf r list image = callTold (toldKind firstKind) (firstNumber r) (secondNumber r) (thirdNumber r) (buffers (fcbIn r) (dmaIn r) list image)
+-- the call that a call record says, on a list, an image and the vector beside it (T-04)
+unfoldable pub callOf : List ℕ → List ℕ → List ℕ → List ℕ → Five
+callOf r list image vector =
+    fiveTold (toldKind firstKind) (firstNumber r) (secondNumber r) (thirdNumber r) vector (buffers (fcbIn r) (dmaIn r) list image)
 
--- what a routine answered to a call, and the list and the image that it left, are that outcome
-pub record DidCall (o : Outcome) (answer : ℕ) (list image : List ℕ) : Type 0 where
-  pub gives : answer ≡ o .answer
-  pub leaves-list : list ≡ o .left .list
-  pub leaves-image : image ≡ o .left .image
+-- what a routine answered to a call, and the list, the image and the vector that it left, are that
+pub record DidCall (o : Five) (answer : ℕ) (list image vector : List ℕ) : Type 0 where
+  pub gives : answer ≡ o .did .answer
+  pub leaves-list : list ≡ o .did .left .list
+  pub leaves-image : image ≡ o .did .left .image
+  pub leaves-vector : vector ≡ o .vector
+
+-- 32 bytes beside an image of the first kind
+abbrev pub vectorLong : ℕ
+vectorLong = 32
+
+-- `mpmcalls` builds its own vector, once: that of the image, or all zeros for an image that is not sound, on which no call gets as far
+unfoldable pub vectorFor : List ℕ → List ℕ
+vectorFor image = buildTold (toldKind firstKind) image (replicate vectorLong 0) .vector
 
 -- ---- A run
 
@@ -60,23 +71,24 @@ imageOf none = []
 imageOf (some s) = s
 
 -- the line of a call, and on with what it left
-unfoldable pub callThen : ℕ → List ℕ → Outcome → (List ℕ → List ℕ → Ran) → Ran
-callThen calls r o goOn = callLine calls (secondNumber r) (firstNumber r) (o .answer) then goOn (o .left .list) (o .left .image)
+unfoldable pub callThen : ℕ → List ℕ → Five → (List ℕ → List ℕ → List ℕ → Ran) → Ran
+callThen calls r o goOn =
+    callLine calls (secondNumber r) (firstNumber r) (o .did .answer) then goOn (o .did .left .list) (o .did .left .image) (o .vector)
 
 -- The calls. Where the input ends: `end` and the number of calls, and DISK.OUT. "At a bad mark, a cut record .. `bad record` and the
 -- record's number, in place of the end line", and no DISK.OUT. Else the call's line, and on. (The first number is above the number of
 -- records that the input can have, and a greater one changes nothing: `calls-bounded`.)
-unfoldable pub callsOn : ℕ → ℕ → List ℕ → List ℕ → List ℕ → Ran
-callsOn zero calls input list image = ran [] none
-callsOn (suc more) calls input list image =
+unfoldable pub callsOn : ℕ → ℕ → List ℕ → List ℕ → List ℕ → List ℕ → Ran
+callsOn zero calls input list image vector = ran [] none
+callsOn (suc more) calls input list image vector =
     ran (endLine calls) (some image) if eqb (length input) 0 else
     ran (badCallLine calls) none if not (isCall (take callSize input)) else
-    callThen calls (take callSize input) (callOf (take callSize input) list image) (callsOn more (calls + 1) (drop callSize input))
+    callThen calls (take callSize input) (callOf (take callSize input) list image vector) (callsOn more (calls + 1) (drop callSize input))
 
 -- The start record. "A bad start": a bad mark, a cut record, or one that Start refuses.
 unfoldable pub startThen : List ℕ → List ℕ → Started → Ran
 startThen input image o =
-    callsOn (suc (length input)) 0 (drop startSize input) (o .list) image if eqb (o .answer) (0 ∕ 0) else ran badStartLine none
+    callsOn (suc (length input)) 0 (drop startSize input) (o .list) image (vectorFor image) if eqb (o .answer) (0 ∕ 0) else ran badStartLine none
 
 unfoldable pub startsOn : List ℕ → List ℕ → Ran
 startsOn input image =

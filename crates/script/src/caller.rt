@@ -4,8 +4,9 @@ use crate::record::CALL_SIZE;
 use rules::file::File;
 ghost use mathlib.Core.Path.{_≡_};
 ghost use Rattle.rules.specs.Kinds.{toldKind};
-ghost use Rattle.rules.specs.Serves.{Did, buffers};
-ghost use Rattle.rules.specs.Told.{callTold, checkTold, lookTold};
+ghost use Rattle.rules.specs.Serves.{buffers};
+ghost use Rattle.rules.specs.Told.{fiveTold, buildTold, checkTold, lookTold};
+ghost use Rattle.rules.specs.Vector.{built, DidFive};
 ghost use Rattle.locklist.specs.Start.{DidStart};
 ghost use Rattle.script.specs.Run.{firstKind, startOf, callOf, DidCall};
 
@@ -31,22 +32,49 @@ fn call(
     dma: &mut [u8],
     list: &mut [u8],
     image: &mut [u8],
+    vector: &mut [u8],
 ) -> u32
-    ensures { λ r. ⌜ Did (callTold (toldKind firstKind) function process count (buffers (now (fcb .entry)) (now (dma .entry)) (now (list .entry)) (now (image .entry)))) r (buffers (now (fcb .exit)) (now (dma .exit)) (now (list .exit)) (now (image .exit))) ⌝ }
+    ensures { λ r. ⌜ DidFive (fiveTold (toldKind firstKind) function process count (now (vector .entry)) (buffers (now (fcb .entry)) (now (dma .entry)) (now (list .entry)) (now (image .entry)))) r (buffers (now (fcb .exit)) (now (dma .exit)) (now (list .exit)) (now (image .exit))) (now (vector .exit)) ⌝ }
 {
-    engine::mpm_call(FIRST_KIND, function, process, count, fcb, dma, list, image)
+    engine::mpm_call(
+        FIRST_KIND,
+        function,
+        process,
+        count,
+        fcb,
+        dma,
+        list,
+        image,
+        vector,
+    )
 }
 
-// The call that a call record says, on a list and an image.
-pub fn call_by(s: &[u8; CALL_SIZE], list: &mut [u8], image: &mut [u8]) -> u32
-    ensures { λ r. ⌜ DidCall (callOf (now (s .entry)) (now (list .entry)) (now (image .entry))) r (now (list .exit)) (now (image .exit)) ⌝ }
+// The call that a call record says, on a list, an image and the vector beside it.
+pub fn call_by(s: &[u8; CALL_SIZE], list: &mut [u8], image: &mut [u8], vector: &mut [u8]) -> u32
+    ensures { λ r. ⌜ DidCall (callOf (now (s .entry)) (now (list .entry)) (now (image .entry)) (now (vector .entry))) r (now (list .exit)) (now (image .exit)) (now (vector .exit)) ⌝ }
 {
     let function = part::first_number(s) as u32;
     let process = part::second_number(s) as u32;
     let count = part::third_number(s) as u32;
     let mut fcb = part::fcb_of(s);
     let mut dma = part::dma_of(s);
-    call(function, process, count, &mut fcb, &mut dma, list, image)
+    call(
+        function,
+        process,
+        count,
+        &mut fcb,
+        &mut dma,
+        list,
+        image,
+        vector,
+    )
+}
+
+// The vector of an image, or the one there where the image is unsound.
+pub fn vector_by(image: &[u8], vector: &mut [u8]) -> u32
+    ensures { λ r. ⌜ built r (now (vector .exit)) ≡ buildTold (toldKind firstKind) (now (image .entry)) (now (vector .entry)) ⌝ }
+{
+    engine::mpm_vector(FIRST_KIND, image, vector)
 }
 
 // The image check.

@@ -1,4 +1,5 @@
--- A search on the entry that its routine has found, the number of entries where there is none: its answer, the DMA and the position that it leaves. Assumes nothing.
+-- A search on the entry that its routine has found (the number of entries: none): its answer, the DMA and the position that it leaves. Assumes
+-- nothing.
 use Prim.Native.Nat.{ℕ, _+_, _*_, _/_, _%_}
 use mathlib.Core.List.{List}
 use Rattle.words.specs.Tests.{_if_else_}

@@ -32,19 +32,18 @@ use Rattle.rules.specs.Codes.{rowsMay, rowsRoom, rows34, isOthers}
 use Rattle.rules.specs.Effects.{spotAt, stored, written, does34}
 use Rattle.rules.specs.Call.{Ready, askedBy, rowsOf, effectOf, call}
 use Rattle.rules.specs.Several.{dmaAt, single, backAt, run, several, told}
+use Rattle.rules.specs.Vector.{vectorOf}
 use Rattle.rules.proofs.Sound.{SoundImage, sound-of, sound-length, length-long, length-few, found-is}
-use Rattle.rules.proofs.SoundList.{unpack-shape, list-sound-of}
-use Rattle.rules.proofs.Passed.{Passed}
 use Rattle.rules.proofs.Ends.{did-as, did-none}
 use Rattle.rules.proofs.Singles.{Runs, isWrite, isZeros, dma-front, dma-still, askedAt, code-single, effect-single}
 use Rattle.rules.proofs.Several.{codeAt, several-none, several-more, stops-told, ends-told}
 use Rattle.rules.proofs.Rows.{Passes34, passes-34}
-use Rattle.soundness.proofs.Taken.{caller-long, own-there}
 use Rattle.soundness.proofs.Blocks.{only, found-below}
 use Rattle.soundness.proofs.Written.{written-entry, written-first}
 use Rattle.soundness.proofs.Kept.{SoundBoth, call-sound}
-use Rattle.records.specs.By.{rowsMayBy, OneDid}
+use Rattle.records.specs.By.{rowsMayBy, OneDid, markedBy}
 use Rattle.records.proofs.Writing.{may-by}
+use Rattle.records.proofs.Marking.{file-named, file-there, one-vector}
 use Rattle.several.specs.So.{Asks, writeNumber, StopsAt, Writing}
 use Rattle.several.proofs.Extents.{known-none, known-more}
 use Rattle.rules.specs.declared.kind.Kind.{Kind}
@@ -237,16 +236,11 @@ module _ (kind : Kind) (zeros : Bool) (p c : ℕ) (f : File) (e₀ o r locked : 
         passes = passing kind p l o f e₀ e q s (sym hc ∙ z)
 
         named : length (f .name) ≡ 11
-        named = rw (a .file) (caller-long p l (b .fcb))
+        named = file-named kind p l o f b′ again refl (a .file) (a .place)
 
         -- the file is on the image, since the caller has it open
         there : entryOf kind s f 0 < entries kind
-        there =
-            let o₁ : openOf l p f < 64 = (let k = a .place in let m = passes .may .is-open in omega arith) in
-            let o₂ : openOf l p (callerFile p l (b .fcb)) < 64 = subst (λ (y : File). openOf l p y < 64) (a .file) o₁ in
-            let all : Passed kind p 1 b′ = record { process-fits = a .process-fits; run-some = omega arith; run-fits = omega arith; ready = again } in
-            subst (λ (y : File). entryOf kind s y 0 < entries kind) (sym (a .file))
-            (own-there kind s p 1 b′ all (unpack-shape (b .list)) (list-sound-of kind (b .list) s (w .list-sound)) o₂)
+        there = file-there kind p l o f b′ again refl (a .file) (a .place) (passes .may .is-open)
 
         -- as the laws of writing have it
         abbrev here : ℕ
@@ -350,6 +344,12 @@ module _ (kind : Kind) (zeros : Bool) (p c : ℕ) (f : File) (e₀ o r mode lock
           known = known-more kind t f r i entry (d .at z ∙ entry-now kind zeros p c f e₀ o r locked b a i e₁ s w below e he code coded z
               ∙ ap (λ (m : List ℕ). entryOf kind m f ((r + i) / 128)) (sym g)) (d .within);
         }
+
+    -- the vector is that of the image left
+    pub writing-vector : (u v : List ℕ) → u ≡ vectorOf kind s → v ≡ markedBy code (spotAt kind s e (r + i)) u → v ≡ vectorOf kind t
+    writing-vector u v hu hv =
+        one-vector kind p (unpack (b .list)) o f (withImage b s) (again kind zeros p c f e₀ o r locked b a i e₁ s w below) refl (a .file) (a .place) e₀ e
+        (r + i) _ (w .first) he (lent-long (b .dma) i c below (a .run-fits) (a .ready .dma-long)) zeros stopped (eqb i locked) code entry t u v d hu hv
 
     -- the first refusal stops the call
     pub writing-stops : (answer : ℕ) → (code ≡ 0 → ⊥) → answer ≡ code + 4096 * i

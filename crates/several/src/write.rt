@@ -16,6 +16,7 @@ ghost use Rattle.rules.specs.Codes.{badDrive};
 ghost use Rattle.rules.specs.Locks.{unpack};
 ghost use Rattle.rules.specs.Call.{Ready};
 ghost use Rattle.rules.specs.Several.{several, told};
+ghost use Rattle.rules.specs.Vector.{vectorOf};
 ghost use Rattle.several.specs.So.{Asks, writeNumber, StopsAt};
 
 // 34 and 40 on what was found, record by record: the open is at place `o` in that mode, the record at distance `locked` is the first
@@ -34,9 +35,10 @@ fn write_run(
     dma: &[u8],
     list: &[u8],
     image: &mut [u8],
+    vector: &mut [u8],
 ) -> u32
-    requires { ⌜ (r < 16777216) × StopsAt (unpack (now list)) p f o r count mode locked × Asks kind (writeNumber zeros) p count f o r (buffers (now fcb) (now dma) (now list) (now image)) ⌝ }
-    ensures { λ c. ⌜ Did (told (several kind (writeNumber zeros) p count (buffers (now (fcb .entry)) (now (dma .entry)) (now (list .entry)) (now (image .entry))))) c (buffers (now (fcb .entry)) (now (dma .entry)) (now (list .entry)) (now (image .exit))) ⌝ }
+    requires { ⌜ (r < 16777216) × StopsAt (unpack (now list)) p f o r count mode locked × Asks kind (writeNumber zeros) p count f o r (buffers (now fcb) (now dma) (now list) (now image)) × (now vector ≡ vectorOf kind (now image)) ⌝ }
+    ensures { λ c. ⌜ Did (told (several kind (writeNumber zeros) p count (buffers (now (fcb .entry)) (now (dma .entry)) (now (list .entry)) (now (image .entry))))) c (buffers (now (fcb .entry)) (now (dma .entry)) (now (list .entry)) (now (image .exit))) × (now (vector .exit) ≡ vectorOf kind (now (image .exit))) ⌝ }
 {
     let first = entry_of(kind, &*image, f, 0);
     let mut e = 0;
@@ -58,6 +60,7 @@ fn write_run(
             r + i,
             &dma[from..to],
             image,
+            vector,
         );
         if did.code != 0 {
             return after(did.code, i as usize);
@@ -79,9 +82,10 @@ pub fn write_several(
     dma: &[u8],
     list: &[u8],
     image: &mut [u8],
+    vector: &mut [u8],
 ) -> u32
-    requires { ⌜ (l ≡ unpack (now list)) × (p < 16) × (count ≤ 16) × (badDrive (writeNumber zeros) (now fcb) ≡ false) × Ready kind (buffers (now fcb) (now dma) (now list) (now image)) ⌝ }
-    ensures { λ c. ⌜ Did (told (several kind (writeNumber zeros) p count (buffers (now (fcb .entry)) (now (dma .entry)) (now (list .entry)) (now (image .entry))))) c (buffers (now (fcb .entry)) (now (dma .entry)) (now (list .entry)) (now (image .exit))) ⌝ }
+    requires { ⌜ (l ≡ unpack (now list)) × (p < 16) × (count ≤ 16) × (badDrive (writeNumber zeros) (now fcb) ≡ false) × Ready kind (buffers (now fcb) (now dma) (now list) (now image)) × (now vector ≡ vectorOf kind (now image)) ⌝ }
+    ensures { λ c. ⌜ Did (told (several kind (writeNumber zeros) p count (buffers (now (fcb .entry)) (now (dma .entry)) (now (list .entry)) (now (image .entry))))) c (buffers (now (fcb .entry)) (now (dma .entry)) (now (list .entry)) (now (image .exit))) × (now (vector .exit) ≡ vectorOf kind (now (image .exit))) ⌝ }
 {
     let f = caller_file(l, p, fcb);
     let o = l.open_of(p, f);
@@ -101,5 +105,6 @@ pub fn write_several(
         dma,
         list,
         image,
+        vector,
     )
 }

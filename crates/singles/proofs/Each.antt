@@ -13,7 +13,7 @@ use Rattle.words.proofs.Tests.{either}
 use Rattle.words.proofs.Bytes.{put-whole}
 use Rattle.words.proofs.Tables.{zero-none}
 use Rattle.words.proofs.Sets.{not-yes, not-no}
-use Rattle.rules.specs.Serves.{Buffers, Outcome, Did, buffers, outcome, chosen, isSearch}
+use Rattle.rules.specs.Serves.{Buffers, Outcome, Did, buffers, chosen, isSearch}
 use Rattle.rules.specs.Asks.{recordOf}
 use Rattle.rules.specs.Codes.{rowsAll}
 use Rattle.rules.specs.Call.{rowsCall, call}
@@ -22,8 +22,12 @@ use Rattle.rules.proofs.Tables.{nonzero-all, refused, accepted-zero, answer-is}
 use Rattle.rules.proofs.Passed.{Passed, passed}
 use Rattle.rules.proofs.Ends.{did-as, did-left, did-none}
 use Rattle.rules.proofs.Singles.{runs-plain, run-chosen, done-within}
-use Rattle.rules.proofs.Several.{codeAt, several-none, several-more, several-stops, several-stays, singly-plain, singly-refused, singly-told}
-use Rattle.calls.specs.Calls.{callBy}
+use Rattle.rules.proofs.Several.{codeAt, several-none, several-more, several-stops, several-stays, singly-first, singly-plain, singly-told}
+use Rattle.rules.proofs.Vector.{five-passed}
+use Rattle.rules.specs.Vector.{DidFive, besides, rowsVector, vectorOf, singlyFive}
+use Rattle.calls.specs.Calls.{DidBeside, callBy, fiveBy}
+use Rattle.calls.specs.Five.{rowsFive}
+use Rattle.calls.proofs.Fives.{five-as, five-did, refused-five, passed-five, passed-did}
 use Rattle.singles.specs.Single.{DidSingle}
 use Rattle.rules.specs.declared.kind.Kind.{Kind}
 use Rattle.rules.proofs.Sizes.{top-fits}
@@ -50,13 +54,16 @@ dma-made dma zero a own i n m ha h =
 run-plain-call : (n : ℕ) → servesRun n ≡ true → isSearch (chosen n) ≡ false
 run-plain-call n s = runs-plain (chosen n) (run-chosen n s)
 
-module _ (kind : Kind) (n p i : ℕ) (b : Buffers) (fcb dma : List ℕ) (hf : fcb ≡ fcbAt i (b .fcb)) (hd : dma ≡ dmaAt i (b .dma)) (code : ℕ)
-    (fcb′ dma′ list′ image′ : List ℕ)
-    (d : Did (callBy kind false n p 1 (buffers fcb dma (b .list) (b .image))) code (buffers fcb′ dma′ list′ image′)) (s : servesRun n ≡ true) where
+module _ (kind : Kind) (n p i : ℕ) (b : Buffers) (v : List ℕ) (w : v ≡ vectorOf kind (b .image)) (fcb dma : List ℕ) (hf : fcb ≡ fcbAt i (b .fcb))
+    (hd : dma ≡ dmaAt i (b .dma)) (code : ℕ) (fcb′ dma′ list′ image′ v′ : List ℕ)
+    (d : DidFive (fiveBy kind false n p 1 v (buffers fcb dma (b .list) (b .image))) code (buffers fcb′ dma′ list′ image′) v′) (s : servesRun n ≡ true) where
+  four : DidBeside kind (callBy kind false n p 1 (buffers fcb dma (b .list) (b .image))) code (buffers fcb′ dma′ list′ image′) v′
+  four = five-did kind false n p 1 v (buffers fcb dma (b .list) (b .image)) code _ v′ w d
+
   as-single : Did (call kind n p 1 (single i b)) code (buffers fcb′ dma′ list′ image′)
   unfolding callBy single
   as-single = did-as _ _ code _ (ap (λ (x : List ℕ). call kind n p 1 (buffers x dma (b .list) (b .image))) hf
-      ∙ ap (λ (x : List ℕ). call kind n p 1 (buffers (fcbAt i (b .fcb)) x (b .list) (b .image))) hd) d
+      ∙ ap (λ (x : List ℕ). call kind n p 1 (buffers (fcbAt i (b .fcb)) x (b .list) (b .image))) hd) (four .did)
 
   still : (code ≡ 0 → ⊥) → call kind n p 1 (single i b) .left ≡ single i b
   still z =
@@ -65,7 +72,7 @@ module _ (kind : Kind) (n p i : ℕ) (b : Buffers) (fcb dma : List ℕ) (hf : fc
       (either (anyRow (rowsCall kind n p 1 (single i b))))
 
   -- refused
-  pub one-refused : (code ≡ 0 → ⊥) → DidSingle kind n p i b code (b .dma) list′ image′
+  pub one-refused : (code ≡ 0 → ⊥) → DidSingle kind n p i b code (b .dma) list′ image′ v′
   unfolding single
   one-refused z = record {
     gives = as-single .gives;
@@ -76,10 +83,11 @@ module _ (kind : Kind) (n p i : ℕ) (b : Buffers) (fcb dma : List ℕ) (hf : fc
       list = (ap (λ (x : Buffers). x .list) (as-single .leaves ∙ still z)) j;
       image = (ap (λ (x : Buffers). x .image) (as-single .leaves ∙ still z)) j;
     };
+    agrees = four .agrees;
   }
 
   -- done
-  pub one-done : (left : List ℕ) → code ≡ 0 → left ≡ put (128 * i) (take (128 - 0) (drop 0 dma′)) (b .dma) → DidSingle kind n p i b 0 left list′ image′
+  pub one-done : (left : List ℕ) → code ≡ 0 → left ≡ put (128 * i) (take (128 - 0) (drop 0 dma′)) (b .dma) → DidSingle kind n p i b 0 left list′ image′ v′
   unfolding backAt
   one-done left z h = record {
     gives = sym z ∙ as-single .gives;
@@ -90,6 +98,7 @@ module _ (kind : Kind) (n p i : ℕ) (b : Buffers) (fcb dma : List ℕ) (hf : fc
       image = as-single .leaves j .image;
     };
     kept = λ y. absurd (y refl);
+    agrees = four .agrees;
   }
 
 -- ---- one after another
@@ -101,7 +110,8 @@ module _ (kind : Kind) (n p c i : ℕ) (b : Buffers) (fcb₁ dma₁ list₁ imag
   abbrev b′ : Buffers
   b′ = buffers fcb₁ dma₁ list₁ image₁
 
-  module _ (code : ℕ) (dma list image : List ℕ) (d : DidSingle kind n p i (buffers fcb₁ dma₁ list₁ image₁) code dma list image) (s : servesRun n ≡ true) where
+  module _ (code : ℕ) (dma list image v : List ℕ) (d : DidSingle kind n p i (buffers fcb₁ dma₁ list₁ image₁) code dma list image v)
+      (s : servesRun n ≡ true) where
     code-told : code ≡ codeAt kind n p i b′
     code-told = d .gives ∙ answer-is kind n p 1 (single i b′) (run-plain-call n s)
 
@@ -112,42 +122,52 @@ module _ (kind : Kind) (n p c i : ℕ) (b : Buffers) (fcb₁ dma₁ list₁ imag
     pub each-number : (r : ℕ) → length fcb₁ ≡ 36 → r ≡ recordOf fcb₁ → code ≡ 0 → r + (i + 1) < 16777216
     each-number r long e z = let t = top-fits kind in let k = done-within kind n p i b′ (run-chosen n s) long (sym code-told ∙ z) in omega arith
 
-    pub each-stops : (code ≡ 0 → ⊥) → i < c → Did (singly (several kind n p c b)) code (buffers fcb₁ dma list image)
+    pub each-stops : (code ≡ 0 → ⊥) → i < c → DidBeside kind (singly (several kind n p c b)) code (buffers fcb₁ dma list image) v
     unfolding singly
     each-stops z l =
         let y : codeAt kind n p i b′ ≡ 0 → ⊥ = λ q. z (code-told ∙ q) in
         let g = several-stays kind n p (suc i) c b (run (codeAt kind n p i b′) i b′) (several-stops kind n p i b b′ h y) y (omega arith) in
         let k = d .kept z in
-        rw g (did-left code-told refl (ap (λ (x : Buffers). x .dma) k) (ap (λ (x : Buffers). x .list) k) (ap (λ (x : Buffers). x .image) k))
+        let o = did-left code-told refl (ap (λ (x : Buffers). x .dma) k) (ap (λ (x : Buffers). x .list) k) (ap (λ (x : Buffers). x .image) k) in
+        record { did = rw g o; agrees = d .agrees }
 
-  pub each-ends : c ≤ i → i ≤ c → Did (singly (several kind n p c b)) 0 (buffers fcb₁ dma₁ list₁ image₁)
+    -- the vector goes on with the image
+    pub each-vector : v ≡ vectorOf kind image
+    each-vector = d .agrees
+
+  pub each-ends : (v : List ℕ) → v ≡ vectorOf kind image₁ → c ≤ i → i ≤ c
+      → DidBeside kind (singly (several kind n p c b)) 0 (buffers fcb₁ dma₁ list₁ image₁) v
   unfolding singly
-  each-ends l m = let q : c ≡ i = omega arith in rw (q, h) (did-none 0 b′)
+  each-ends v w l m = let q : c ≡ i = omega arith in record { did = rw (q, h) (did-none 0 b′); agrees = w }
 
 -- ---- the call
 
-module _ (kind : Kind) (n p c : ℕ) (b : Buffers) (r : Bool) (e : r ≡ servesRun n) where
+module _ (kind : Kind) (n p c : ℕ) (v : List ℕ) (b : Buffers) (r : Bool) (e : r ≡ servesRun n) where
   -- one that takes no run of records
-  pub singly-other : (a : ℕ) (left : Buffers) → not r ≡ true → Did (callBy kind false n p c b) a left
-      → Did (callSingly kind n p c b) a left
-  unfolding callBy
-  singly-other a left h d = did-as _ _ a left (sym (singly-plain kind n p c b (not-no r _ e h))) d
+  pub singly-other : (a : ℕ) (left : Buffers) (u : List ℕ) → not r ≡ true → DidFive (fiveBy kind false n p c v b) a left u
+      → DidFive (singlyFive kind n p c v b) a left u
+  unfolding callBy fiveBy singlyFive
+  singly-other a left u h d =
+      five-as _ _ a left u (ap (besides kind (firstOf (rowsVector kind n p c v b)) v b) (sym (singly-plain kind n p c b (not-no r _ e h)))) d
 
-  module _ (h : not r ≡ false) (code : ℕ) (k : code ≡ firstOf (rowsAll kind n p c b)) where
+  module _ (h : not r ≡ false) (code : ℕ) (k : code ≡ firstOf (rowsFive kind n p c v b)) where
     -- a general refusal
-    pub singly-stopped : (code ≡ 0 → ⊥) → Did (callSingly kind n p c b) code b
-    singly-stopped z =
-        did-as _ _ _ _ (ap (λ (a : ℕ). outcome a b) k ∙ sym (singly-refused kind n p c b (not-yes r _ e h) (λ q. z (k ∙ q)))) (did-none code b)
+    pub singly-stopped : (code ≡ 0 → ⊥) → DidFive (singlyFive kind n p c v b) code b v
+    unfolding singlyFive
+    singly-stopped = refused-five kind n p c v b (callSingly kind n p c b) (singly-first kind n p c b) code k
 
-    pub singly-went : (a : ℕ) (left : Buffers) → code ≡ 0 → Did (singly (several kind n p c b)) a left
-        → Did (callSingly kind n p c b) a left
-    singly-went a left z d = did-as _ _ a left (sym (singly-told kind n p c b (not-yes r _ e h) (sym k ∙ z))) d
+    module _ (z : code ≡ 0) where
+      none : (firstOf (rowsVector kind n p c v b) ≡ 0) × (firstOf (rowsAll kind n p c b) ≡ 0)
+      none = passed-five kind n p c v b (sym k ∙ z)
 
--- what the general table leaves to the single calls
-module _ (kind : Kind) (n p c : ℕ) (fcb dma list image : List ℕ) (code : ℕ) (k : code ≡ firstOf (rowsAll kind n p c (buffers fcb dma list image)))
-    (z : code ≡ 0) where
-  all : Passed kind p c (buffers fcb dma list image)
-  all = passed kind n p c _ (zero-none (rowsAll kind n p c (buffers fcb dma list image)) (nonzero-all kind n p c (buffers fcb dma list image)) (sym k ∙ z))
+      -- what the general table leaves to the single calls
+      pub goes-each : Passed kind p c b × (v ≡ vectorOf kind (b .image))
+      goes-each =
+          (passed kind n p c b (zero-none (rowsAll kind n p c b) (nonzero-all kind n p c b) (none .1)), five-passed kind n p c v b (none .0))
 
-  pub goes-each : (length fcb ≡ 36) × (length dma ≡ 2048) × (c ≤ 16)
-  goes-each = (all .ready .fcb-long, all .ready .dma-long, all .run-fits)
+      pub singly-went : (a : ℕ) (left : Buffers) (u : List ℕ) → DidBeside kind (singly (several kind n p c b)) a left u
+          → DidFive (singlyFive kind n p c v b) a left u
+      unfolding singlyFive
+      singly-went a left u d =
+          passed-did kind n p c v b (callSingly kind n p c b) (none .0) a left u
+          (did-as _ _ a left (sym (singly-told kind n p c b (not-yes r _ e h) (none .1))) (d .did)) (d .agrees)

@@ -7,9 +7,11 @@ ghost use mathlib.Core.Path.{_≡_};
 ghost use mathlib.Core.Bool.{true, false};
 ghost use Prim.Native.Nat.{_+_, _*_, _≤_, _<_};
 ghost use lib.ListN.{length};
-ghost use Rattle.rules.specs.Serves.{Did, buffers};
+ghost use Rattle.rules.specs.Serves.{buffers};
 ghost use Rattle.rules.specs.Asks.{recordOf};
-ghost use Rattle.rules.specs.Several.{servesRun, threeOf, fcbAt, dmaAt, several, singly, callSingly};
+ghost use Rattle.rules.specs.Several.{servesRun, threeOf, fcbAt, dmaAt, several, singly};
+ghost use Rattle.rules.specs.Vector.{vectorOf, singlyFive, DidFive};
+ghost use Rattle.calls.specs.Calls.{DidBeside};
 ghost use Rattle.singles.specs.Single.{DidSingle};
 
 // Count serves 33, 34 and 40 too.
@@ -73,9 +75,10 @@ fn call_one(
     dma: &mut [u8],
     list: &mut [u8],
     image: &mut [u8],
+    vector: &mut [u8],
 ) -> u32
-    requires { ⌜ (servesRun function ≡ true) × (length (now fcb) ≡ 36) × (length (now dma) ≡ 2048) × (i < 16) × (r ≡ recordOf (now fcb)) × (r + i < 16777216) ⌝ }
-    ensures { λ c. ⌜ DidSingle kind function process i (buffers (now (fcb .entry)) (now (dma .entry)) (now (list .entry)) (now (image .entry))) c (now (dma .exit)) (now (list .exit)) (now (image .exit)) ⌝ }
+    requires { ⌜ (servesRun function ≡ true) × (length (now fcb) ≡ 36) × (length (now dma) ≡ 2048) × (i < 16) × (r ≡ recordOf (now fcb)) × (r + i < 16777216) × (now vector ≡ vectorOf kind (now image)) ⌝ }
+    ensures { λ c. ⌜ DidSingle kind function process i (buffers (now (fcb .entry)) (now (dma .entry)) (now (list .entry)) (now (image .entry))) c (now (dma .exit)) (now (list .exit)) (now (image .exit)) (now (vector .exit)) ⌝ }
 {
     let mut own_fcb = fcb_at(fcb, r, i);
     let mut own_dma = dma_at(&*dma, i);
@@ -89,6 +92,7 @@ fn call_one(
         &mut own_dma,
         list,
         image,
+        vector,
     );
     if code != 0 {
         return code;
@@ -107,14 +111,15 @@ fn call_each(
     dma: &mut [u8],
     list: &mut [u8],
     image: &mut [u8],
+    vector: &mut [u8],
 ) -> u32
-    requires { ⌜ (servesRun function ≡ true) × (length (now fcb) ≡ 36) × (length (now dma) ≡ 2048) × (count ≤ 16) ⌝ }
-    ensures { λ c. ⌜ Did (singly (several kind function process count (buffers (now (fcb .entry)) (now (dma .entry)) (now (list .entry)) (now (image .entry))))) c (buffers (now (fcb .entry)) (now (dma .exit)) (now (list .exit)) (now (image .exit))) ⌝ }
+    requires { ⌜ (servesRun function ≡ true) × (length (now fcb) ≡ 36) × (length (now dma) ≡ 2048) × (count ≤ 16) × (now vector ≡ vectorOf kind (now image)) ⌝ }
+    ensures { λ c. ⌜ DidBeside kind (singly (several kind function process count (buffers (now (fcb .entry)) (now (dma .entry)) (now (list .entry)) (now (image .entry))))) c (buffers (now (fcb .entry)) (now (dma .exit)) (now (list .exit)) (now (image .exit))) (now (vector .exit)) ⌝ }
 {
     let r = record_of(fcb);
     let mut i = 0;
     while i < count {
-        let code = call_one(kind, function, process, r, i, fcb, dma, list, image);
+        let code = call_one(kind, function, process, r, i, fcb, dma, list, image, vector);
         if code != 0 {
             return code;
         }
@@ -133,11 +138,23 @@ pub fn answer_singly(
     dma: &mut [u8],
     list: &mut [u8],
     image: &mut [u8],
+    vector: &mut [u8],
 ) -> u32
-    ensures { λ r. ⌜ Did (callSingly kind function process count (buffers (now (fcb .entry)) (now (dma .entry)) (now (list .entry)) (now (image .entry)))) r (buffers (now (fcb .exit)) (now (dma .exit)) (now (list .exit)) (now (image .exit))) ⌝ }
+    ensures { λ r. ⌜ DidFive (singlyFive kind function process count (now (vector .entry)) (buffers (now (fcb .entry)) (now (dma .entry)) (now (list .entry)) (now (image .entry)))) r (buffers (now (fcb .exit)) (now (dma .exit)) (now (list .exit)) (now (image .exit))) (now (vector .exit)) ⌝ }
 {
     if !serves_run(function) {
-        return answer(kind, false, function, process, count, fcb, dma, list, image);
+        return answer(
+            kind,
+            false,
+            function,
+            process,
+            count,
+            fcb,
+            dma,
+            list,
+            image,
+            vector,
+        );
     }
     let code = general_refusal(
         kind,
@@ -148,9 +165,20 @@ pub fn answer_singly(
         &*dma,
         &*list,
         &*image,
+        &*vector,
     );
     if code != 0 {
         return code;
     }
-    call_each(kind, function, process, count, &*fcb, dma, list, image)
+    call_each(
+        kind,
+        function,
+        process,
+        count,
+        &*fcb,
+        dma,
+        list,
+        image,
+        vector,
+    )
 }

@@ -166,7 +166,8 @@ module _ (kind : Kind) (p c : ℕ) (b : Buffers) where
 
 module _ (kind : Kind) (n p c : ℕ) (b : Buffers) where
   -- a code that is no effect's and none of the general table's: the call passed that, and its own table gave it
-  own-gives : (code : ℕ) → 4 ≤ code → (255 ∕ 0 ≡ code → ⊥) → (255 ∕ 13 ≡ code → ⊥) → (255 ∕ 1 ≡ code → ⊥) → (255 ∕ 12 ≡ code → ⊥) → (255 ∕ 4 ≡ code → ⊥) → call kind n p c b .answer ≡ code
+  own-gives : (code : ℕ) → 4 ≤ code → (255 ∕ 0 ≡ code → ⊥) → (255 ∕ 13 ≡ code → ⊥) → (255 ∕ 1 ≡ code → ⊥) → (255 ∕ 12 ≡ code → ⊥) → (255 ∕ 4 ≡ code → ⊥)
+      → call kind n p c b .answer ≡ code
       → Passed kind p c b × (firstOf (rowsOf (chosen n) (asked kind p c b) b) ≡ code)
   unfolding rowsCall rowsAll rowsInside
   own-gives code low none a₁ a₂ a₃ a₄ h =

@@ -27,7 +27,14 @@ use Rattle.rules.proofs.SoundList.{Shape, Limits, SoundLocks}
 
 -- as it reads: the limits and users given, its places, all empty, and no search begun
 abbrev pub fresh : Kind → ℕ → ℕ → ℕ → List ℕ → LockList
-fresh kind c o k users = record { capacity = c; openlimit = o; locklimit = k; users = users; items = replicate 64 emptyPlace; positions = replicate 16 (entries kind) }
+fresh kind c o k users = record {
+  capacity = c;
+  openlimit = o;
+  locklimit = k;
+  users = users;
+  items = replicate 64 emptyPlace;
+  positions = replicate 16 (entries kind);
+}
 
 fresh-bytes : flat packItem (replicate 64 emptyPlace) ≡ replicate (placeSize * places) 0
 unfolding flat packItem tab le firstMark secondMark _if_else_
@@ -64,7 +71,10 @@ module _ (kind : Kind) (c o k : ℕ) (users s : List ℕ) (g : Limits (fresh kin
   unfolding clashAt keepsLimits opensBy locksBy goodEmpty isZero all _and_
   fresh-sound = record {
     limits = g;
-    place = λ i m. inl (record { kind-zero = ap (λ (it : Item). it .kind) (fresh-at i m kind c o k users); zeros = ap goodEmpty (fresh-at i m kind c o k users) });
+    place = λ i m. inl (record {
+      kind-zero = ap (λ (it : Item). it .kind) (fresh-at i m kind c o k users);
+      zeros = ap goodEmpty (fresh-at i m kind c o k users);
+    });
     apart = λ i j m n q. and-left _ _ (clash-none (itemAt (fresh kind c o k users) i) (itemAt (fresh kind c o k users) j)
         (ap (λ (it : Item). it .kind) (fresh-at i m kind c o k users)));
     keeps = λ p m.

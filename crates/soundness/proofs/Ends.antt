@@ -108,7 +108,7 @@ module _ (kind : Kind) (p c : ℕ) (b : Buffers) (ok : Passed kind p c b) where
       ⊎ New kind (b .image) (imageWritten kind zeros p b v) (fileBy p b) (recordOf (b .fcb))
   written-of w zeros v full =
       written-step kind zeros (b .image) (fileBy p b) (recordOf (b .fcb)) v image-of (caller-long p (listOf b) (b .fcb)) (let k = w .fits in omega arith)
-      (own-there kind (b .image) p c b ok shape-of list-of (w .is-open)) full (w .entry-room) (w .block-room)
+      (own-there kind (b .image) p b shape-of list-of (w .is-open)) full (w .entry-room) (w .block-room)
 
   -- 42: what the run of locks asks for is there
   pub takes-of : MayLock kind p c b → Takes kind (b .image) (listOf b) p (fileBy p b) (recordOf (b .fcb)) c
@@ -116,9 +116,9 @@ module _ (kind : Kind) (p c : ℕ) (b : Buffers) (ok : Passed kind p c b) where
     process-fits = let m = ok .process-fits in omega arith;
     under = caller-user p (listOf b) (b .fcb);
     name-long = caller-long p (listOf b) (b .fcb);
-    legal = own-legal kind (b .image) p c b ok shape-of list-of (w .is-open);
+    legal = own-legal kind (b .image) p b shape-of list-of (w .is-open);
     low = caller-low p (listOf b) (b .fcb);
-    holder = own-holder kind (b .image) p c b ok shape-of list-of (w .is-open) (w .is-unlocked);
+    holder = own-holder kind (b .image) p b shape-of list-of (w .is-open) (w .is-unlocked);
     fits = λ k l. let m = w .fits in omega arith;
     have-blocks = w .have-blocks;
     none-others = w .none-others;

@@ -142,4 +142,5 @@ pub data Leaf (kind : Kind) (n p c : ℕ) (b : Buffers) : Outcome → Type 0 whe
   nowTold : chosen n ≡ Call FreeSpace → Passed kind p c b → (dma : List ℕ) → Leaf kind n p c b (accept (withDma b dma))
   nowEnded : chosen n ≡ Call Terminate → Passed kind p c b → Leaf kind n p c b (accept (withList b (pack (terminated kind p (listOf b)))))
   nowSearched : isSearch (chosen n) ≡ true → Passed kind p c b → (answer e : ℕ) → e ≤ entries kind → (dma : List ℕ)
-      → Leaf kind n p c b (outcome answer (buffers (b .fcb) dma (pack (movedTo p e (withItems (listOf b) (map (λ (it : Item). it) (listOf b .items))))) (b .image)))
+      → Leaf kind n p c b (outcome answer (buffers (b .fcb) dma
+      (pack (movedTo p e (withItems (listOf b) (map (λ (it : Item). it) (listOf b .items))))) (b .image)))

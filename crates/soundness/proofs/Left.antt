@@ -36,7 +36,8 @@ pub data ListLeft (kind : Kind) (p c : ℕ) (b : Buffers) : List ℕ → List �
       → ListLeft kind p c b t (pack (opened p (fileBy p b) mode (listOf b)))
   run-set : Passed kind p c b → MayLock kind p c b → ListLeft kind p c b (b .image) (pack (lockedRun p (fileBy p b) (recordOf (b .fcb)) c (listOf b)))
   emptied : Passed kind p c b → (t : List ℕ) (away : Item → Bool) (turn : Item → Item) → Empties away turn → ((it : Item) → away it ≡ true → it .process ≡ p)
-      → (xs : List ℕ) → ((q : ℕ) → (q ≡ p → ⊥) → byte xs q ≡ byte (listOf b .positions) q) → SoundShape kind (withPositions (withItems (listOf b) (map turn (listOf b .items))) xs) t
+      → (xs : List ℕ) → ((q : ℕ) → (q ≡ p → ⊥) → byte xs q ≡ byte (listOf b .positions) q)
+      → SoundShape kind (withPositions (withItems (listOf b) (map turn (listOf b .items))) xs) t
       → ListLeft kind p c b t (pack (withPositions (withItems (listOf b) (map turn (listOf b .items))) xs))
 
 -- the image: nothing, an entry made, a record written, a file's entries erased or renamed

@@ -23,6 +23,7 @@ pub mod Taken
 pub mod Deleted
 pub mod Ends
 pub mod Shapes
+pub mod Vectors
 pub mod Left
 pub mod Kept
 pub mod SizedCalls

@@ -144,7 +144,8 @@ module _ (kind : Kind) (n p c : ℕ) (b : Buffers) (f : File) (long : length (f 
       → fileSize kind (b .image) f ≤ fileSize kind t f
   untouched t h ok g w o = size-untouched kind (b .image) t (fileBy p b) h f (image-of kind p c b ok) g long w o
 
-  erased-kept : Passed kind p c b → (f ≡ fileBy p b → ⊥) → fileSize kind (b .image) f ≤ fileSize kind (Rattle.rules.specs.Effects.erased kind (fileBy p b) (b .image)) f
+  erased-kept : Passed kind p c b → (f ≡ fileBy p b → ⊥)
+      → fileSize kind (b .image) f ≤ fileSize kind (Rattle.rules.specs.Effects.erased kind (fileBy p b) (b .image)) f
   erased-kept ok o =
       let g = image-of kind p c b ok in
       let m = caller-long p (listOf b) (b .fcb) in

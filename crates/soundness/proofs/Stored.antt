@@ -89,7 +89,8 @@ module _ (kind : Kind) (s t : List ℕ) (n : ℕ) (below : n < entries kind) (le
 
   -- .. and where the image is still sound and keeps its block numbers nothing is taken away
   pub tail-change : (f : File) → fileAt s n ≡ f → SoundImage kind t → ((e k : ℕ) → Names kind s e k → mapNumber kind t e k ≡ mapNumber kind s e k)
-      → byte s (32 * n + 15) ≤ byte t (32 * n + 15) → (a m x y : ℕ) → ((e k : ℕ) → Names kind t e k → ((e ≡ x) × (k ≡ y)) ⊎ Stays kind s t e k) → Change kind s t f a m x y
+      → byte s (32 * n + 15) ≤ byte t (32 * n + 15) → (a m x y : ℕ) → ((e k : ℕ) → Names kind t e k → ((e ≡ x) × (k ≡ y)) ⊎ Stays kind s t e k)
+      → Change kind s t f a m x y
   tail-change f file g stays more a m x y rest = record {
     sound = g;
     rest = rest;

@@ -218,7 +218,7 @@ module _ (kind : Kind) (s : List ℕ) (l : LockList) (g : SoundLocks kind l s) (
 
 -- ---- a run of locks
 
-module _ (kind : Kind) (s : List ℕ) (p c : ℕ) (b : Buffers) (ok : Passed kind p c b) (h : Shape (listOf b)) (g : SoundLocks kind (listOf b) s) where
+module _ (kind : Kind) (s : List ℕ) (p : ℕ) (b : Buffers) (h : Shape (listOf b)) (g : SoundLocks kind (listOf b) s) where
   -- what is found is the caller's open of the file, ..
   pub own-open : openBy p b < 64 → IsOpen p (fileBy p b .name) (itemAt (listOf b) (openBy p b))
   unfolding openOf opensNameAt

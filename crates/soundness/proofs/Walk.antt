@@ -185,11 +185,13 @@ module _ (kind : Kind) (n p c : ℕ) (b : Buffers) (ok : Passed kind p c b) wher
   search-leaf k e =
       ⊎-elim
       (λ (q : leb (entries kind) e ≡ true).
-      rw q (subst (λ (xs : List Item). Leaf kind n p c b (outcome 255 (buffers (b .fcb) (b .dma) (pack (movedTo p (entries kind) (withItems (listOf b) xs))) (b .image))))
+      rw q (subst (λ (xs : List Item). Leaf kind n p c b (outcome 255
+      (buffers (b .fcb) (b .dma) (pack (movedTo p (entries kind) (withItems (listOf b) xs))) (b .image))))
       (map-id (listOf b .items)) (nowSearched k ok 255 (entries kind) (omega arith) (b .dma))))
       (λ (q : leb (entries kind) e ≡ false).
       let l : e < entries kind = leb-false _ _ q in
-      rw q (subst (λ (xs : List Item). Leaf kind n p c b (outcome (e % 4) (buffers (b .fcb) (found e) (pack (movedTo p (e + 1) (withItems (listOf b) xs))) (b .image))))
+      rw q (subst (λ (xs : List Item). Leaf kind n p c b (outcome (e % 4)
+      (buffers (b .fcb) (found e) (pack (movedTo p (e + 1) (withItems (listOf b) xs))) (b .image))))
       (map-id (listOf b .items)) (nowSearched k ok (e % 4) (e + 1) (omega arith) (found e))))
       (either (leb (entries kind) e))
 

@@ -44,7 +44,8 @@ module _ (kind : Kind) (f : File) (a m i j : ℕ) where
       → Change kind s (counted w r s) f a m i j
   unfolding counted _if_else_
   count-step w r s l file g =
-      ⊎-elim (λ h. rw h (count-change kind s (w .entry) (countTo r) f l (omega arith) (let z = ltb-true (byte s (32 * w .entry + 15)) (countTo r) h in omega arith) file g a m i j))
+      ⊎-elim (λ h. rw h (count-change kind s (w .entry) (countTo r) f l (omega arith)
+      (let z = ltb-true (byte s (32 * w .entry + 15)) (countTo r) h in omega arith) file g a m i j))
       (λ h. rw h (no-change kind s f a m i j g))
       (either (ltb (byte s (32 * w .entry + 15)) (countTo r)))
 
@@ -276,29 +277,41 @@ module _ (kind : Kind) (zeros : Bool) (s : List ℕ) (f : File) (r : ℕ) (v : L
   abbrev here : ℕ
   here = entryOf kind s f (r / 128)
 
-  -- the record is written in the block that it has, or in a free one
-  pub written-step : (leb (entries kind) here and leb (entries kind) (freeEntry kind s)) ≡ false
+  abbrev image : List ℕ
+  image = written kind zeros (spotAt kind s here r) (entryOf kind s f 0) f r v s
+
+  -- the record is written in the block that it has, or in a free one, which is the spot's
+  pub written-spot : (leb (entries kind) here and leb (entries kind) (freeEntry kind s)) ≡ false
       → (eqb (blockIn kind s here r) 0 and leb (blocks kind s) (freeBlock kind s)) ≡ false
-      → Old kind s (written kind zeros (spotAt kind s here r) (entryOf kind s f 0) f r v s) f r
-      ⊎ New kind s (written kind zeros (spotAt kind s here r) (entryOf kind s f 0) f r v s) f r
-  unfolding spotAt blockIn _if_else_ _and_
-  written-step room block =
+      → ((spotAt kind s here r .taken ≡ false) × Old kind s image f r)
+      ⊎ ((spotAt kind s here r .taken ≡ true) × (k : New kind s image f r) × (k .block ≡ spotAt kind s here r .block))
+  unfolding spotAt blockIn _if_else_ _and_ fresh-step taken-step
+  written-spot room block =
       ⊎-elim
       (λ (q : leb (entries kind) here ≡ true).
       let m : leb (entries kind) (freeEntry kind s) ≡ false = rw q at room in
       let k : leb (blocks kind s) (freeBlock kind s) ≡ false = rw q at block in
-      rw q (inr (fresh-step (leb-true (entries kind) here q) (leb-false (entries kind) _ m) (leb-false (blocks kind s) _ k))))
+      rw q (inr (refl, fresh-step (leb-true (entries kind) here q) (leb-false (entries kind) _ m) (leb-false (blocks kind s) _ k), refl)))
       (λ (q : leb (entries kind) here ≡ false).
       let l = leb-false (entries kind) here q in
       let is = found-is kind s f (r / 128) named l in
       ⊎-elim
       (λ (z : eqb (mapNumber kind s here (mapPlace kind r)) 0 ≡ true).
       let k : leb (blocks kind s) (freeBlock kind s) ≡ false = rw (q, z) at block in
-      rw (q, z) (inr (taken-step here l is (eqb-true _ _ z) (leb-false (blocks kind s) _ k))))
+      rw (q, z) (inr (refl, taken-step here l is (eqb-true _ _ z) (leb-false (blocks kind s) _ k), refl)))
       (λ (z : eqb (mapNumber kind s here (mapPlace kind r)) 0 ≡ false).
-      rw (q, z) (inl (old-step here l is (eqb-false _ _ z))))
+      rw (q, z) (inl (refl, old-step here l is (eqb-false _ _ z))))
       (either (eqb (mapNumber kind s here (mapPlace kind r)) 0)))
       (either (leb (entries kind) here))
+
+  -- the same where the spot does not matter
+  pub written-step : (leb (entries kind) here and leb (entries kind) (freeEntry kind s)) ≡ false
+      → (eqb (blockIn kind s here r) 0 and leb (blocks kind s) (freeBlock kind s)) ≡ false
+      → Old kind s image f r ⊎ New kind s image f r
+  written-step room block =
+      ⊎-elim (λ (k : (spotAt kind s here r .taken ≡ false) × Old kind s image f r). inl (k .1))
+      (λ (k : (spotAt kind s here r .taken ≡ true) × (n : New kind s image f r) × (n .block ≡ spotAt kind s here r .block)). inr (k .1))
+      (written-spot room block)
 
   -- the extent then stands at the spot's entry
   pub written-entry : (leb (entries kind) here and leb (entries kind) (freeEntry kind s)) ≡ false

@@ -1,5 +1,5 @@
 -- Laws of bits. Assumes nothing.
-use Prim.Native.Nat.{ℕ, zero, suc, _+_, _-_, _*_, _/_, _%_, _^_, _<_}
+use Prim.Native.Nat.{ℕ, zero, suc, _+_, _-_, _*_, _/_, _%_, _^_, _≤_, _<_}
 use mathlib.Core.Path.{_≡_, refl, sym, ap, _∙_}
 use mathlib.Core.Bool.{Bool, true, false, not}
 use mathlib.Core.List.{List}
@@ -7,27 +7,32 @@ use mathlib.Core.Logic.{⊎-elim}
 use native.Mathlib.Omega.{arith}
 use borrow.Author.Needs.{needs}
 use borrow.Author.Tests.{eqb-true, eqb-false, eq-eqb, ne-eqb}
-use lib.Bits.{bitAnd, bitOr, and-high, or-add-and}
+use lib.Bits.{bitAnd, bitOr, and-high, and-le-l, or-add-and}
 use lib.Dec.{eqb}
 use lib.ListN.{length, set, replicate, length-set, getD-replicate}
 use lib.Pow.{pow-pos, pow-add, shl-shr, shr-shr}
 use lib.Seq.{getD-set-same, getD-set-other, set-getD}
 use Rattle.words.specs.Tests.{_if_else_}
-use Rattle.words.specs.Bytes.{byte}
-use Rattle.words.specs.Bits.{bitOf, setBit, isSet, isClear, withBit}
+use Rattle.words.specs.Bytes.{byte, areBytes}
+use Rattle.words.specs.Bits.{bitOf, setBit, clearBit, isSet, isClear, withBit, withoutBit}
 use Rattle.words.proofs.Tests.{either, equal?, any-none}
+use Rattle.words.proofs.AreBytes.{byte-small, bytes-set}
 use Rattle.words.proofs.Sets.{any-goes, lowest-stops, lowest-ends, count-none, count-adds, count-skips, count-ends}
 
 -- ---- bits of a byte
 
 -- the bits above the lowest are those of the half
-half : (k x : ℕ) → bitOf (suc k) x ≡ bitOf k (x / 2)
+pub half : (k x : ℕ) → bitOf (suc k) x ≡ bitOf k (x / 2)
 unfolding bitOf
 half k x = let q : suc k ≡ 1 + k = omega arith in rw (q, ← shr-shr x 1 k)
 
 even : (x : ℕ) → bitOf 0 x ≡ false → x % 2 ≡ 0
 unfolding bitOf
 even x h = let m : x / 1 % 2 ≡ 1 → ⊥ = eqb-false _ _ h in omega arith
+
+odd : (x : ℕ) → bitOf 0 x ≡ true → x % 2 ≡ 1
+unfolding bitOf
+odd x h = let m : x / 1 % 2 ≡ 1 = eqb-true _ _ h in omega arith
 
 half-added : (k x : ℕ) → (x + 2 ^ suc k) / 2 ≡ x / 2 + 2 ^ k
 half-added k x = omega arith
@@ -51,6 +56,32 @@ added-there (suc k) (suc j) x n h =
     half j (x + 2 ^ suc k) ∙ ap (λ (y : ℕ). bitOf j y) (half-added k x)
     ∙ added-there k j (x / 2) (λ e. n (ap suc e)) (sym (half k x) ∙ h) ∙ sym (half j x)
 
+-- .. and makes the number no longer than it was
+added-short : (k n x : ℕ) → k < n → x < 2 ^ n → bitOf k x ≡ false → x + 2 ^ k < 2 ^ n
+added-short k zero x l m h = absurd (omega arith)
+added-short zero (suc n) x l m h = let q = even x h in omega arith
+added-short (suc k) (suc n) x l m h =
+    let q = added-short k n (x / 2) (omega arith) (omega arith) (sym (half k x) ∙ h) in omega arith
+
+-- 2ᵏ taken away where bit k is set, which is no more than there is, clears it, ..
+less-fits : (k x : ℕ) → bitOf k x ≡ true → 2 ^ k ≤ x
+less-fits zero x h = let m = odd x h in omega arith
+less-fits (suc k) x h = let m = less-fits k (x / 2) (sym (half k x) ∙ h) in omega arith
+
+less-here : (k x : ℕ) → bitOf k x ≡ true → bitOf k (x - 2 ^ k) ≡ false
+unfolding bitOf
+less-here zero x h = let m = odd x h in let e : (x - 1) / 1 % 2 ≡ 0 = omega arith in ne-eqb _ _ (λ (z : (x - 1) / 1 % 2 ≡ 1). omega arith)
+less-here (suc k) x h =
+    let e : (x - 2 ^ suc k) / 2 ≡ x / 2 - 2 ^ k = omega arith in
+    half k (x - 2 ^ suc k) ∙ ap (λ (y : ℕ). bitOf k y) e ∙ less-here k (x / 2) (sym (half k x) ∙ h)
+
+-- .. and leaves the others
+less-there : (k j x : ℕ) → (j ≡ k → ⊥) → bitOf k x ≡ true → bitOf j (x - 2 ^ k) ≡ bitOf j x
+less-there k j x n h =
+    let m = less-fits k x h in
+    let e : x - 2 ^ k + 2 ^ k ≡ x = omega arith in
+    sym (added-there k j (x - 2 ^ k) n (less-here k x h)) ∙ ap (λ (y : ℕ). bitOf j y) e
+
 -- a bit set, whatever it was
 bit-here : (k x : ℕ) → bitOf k (setBit k x) ≡ true
 unfolding setBit _if_else_
@@ -59,6 +90,26 @@ bit-here k x = ⊎-elim (λ (h : bitOf k x ≡ true). rw h h) (λ (h : bitOf k x
 bit-there : (k j x : ℕ) → (j ≡ k → ⊥) → bitOf j (setBit k x) ≡ bitOf j x
 unfolding setBit _if_else_
 bit-there k j x n = ⊎-elim (λ (h : bitOf k x ≡ true). rw h) (λ (h : bitOf k x ≡ false). rw h (added-there k j x n h)) (either (bitOf k x))
+
+set-short : (k n x : ℕ) → k < n → x < 2 ^ n → setBit k x < 2 ^ n
+unfolding setBit _if_else_
+set-short k n x l m =
+    ⊎-elim (λ (h : bitOf k x ≡ true). rw h m) (λ (h : bitOf k x ≡ false). rw h (added-short k n x l m h)) (either (bitOf k x))
+
+-- a bit cleared, whatever it was
+clear-here : (k x : ℕ) → bitOf k (clearBit k x) ≡ false
+unfolding clearBit _if_else_
+clear-here k x = ⊎-elim (λ (h : bitOf k x ≡ true). rw h (less-here k x h)) (λ (h : bitOf k x ≡ false). rw h h) (either (bitOf k x))
+
+clear-there : (k j x : ℕ) → (j ≡ k → ⊥) → bitOf j (clearBit k x) ≡ bitOf j x
+unfolding clearBit _if_else_
+clear-there k j x n =
+    ⊎-elim (λ (h : bitOf k x ≡ true). rw h (less-there k j x n h)) (λ (h : bitOf k x ≡ false). rw h) (either (bitOf k x))
+
+clear-short : (k x : ℕ) → clearBit k x ≤ x
+unfolding clearBit _if_else_
+clear-short k x =
+    ⊎-elim (λ (h : bitOf k x ≡ true). rw h (omega arith)) (λ (h : bitOf k x ≡ false). rw h (omega arith)) (either (bitOf k x))
 
 bit-zero : (k : ℕ) → bitOf k 0 ≡ false
 unfolding bitOf
@@ -94,6 +145,45 @@ module _ (s : List ℕ) (b : ℕ) where
   pub set-again : isSet s b ≡ true → withBit b s ≡ s
   unfolding isSet withBit setBit _if_else_
   set-again h = rw h (set-getD s (b / 8) 0)
+
+  -- bytes with a bit set are bytes
+  pub bytes-bit : areBytes s ≡ true → areBytes (withBit b s) ≡ true
+  unfolding withBit
+  bytes-bit h = bytes-set s (b / 8) _ (set-short (7 - b % 8) 8 (byte s (b / 8)) (omega arith) (byte-small s (b / 8) h)) h
+
+-- the same of a bit that is cleared
+module _ (s : List ℕ) (b : ℕ) where
+  -- there are as many bytes
+  pub length-clear : length (withoutBit b s) ≡ length s
+  unfolding withoutBit
+  length-clear = length-set s (b / 8) _
+
+  -- the bit is clear, ..
+  pub cleared-here : b < 8 * length s → isSet (withoutBit b s) b ≡ false
+  unfolding isSet withoutBit
+  cleared-here h = rw (getD-set-same s (b / 8) _ 0 (omega arith)) (clear-here (7 - b % 8) (byte s (b / 8)))
+
+  -- .. every other bit is as it was
+  pub cleared-there : (c : ℕ) → (c ≡ b → ⊥) → b < 8 * length s → isSet (withoutBit b s) c ≡ isSet s c
+  unfolding isSet withoutBit
+  cleared-there c n h =
+      ⊎-elim
+      (λ (q : c / 8 ≡ b / 8).
+      rw (q, getD-set-same s (b / 8) (clearBit (7 - b % 8) (byte s (b / 8))) 0 (omega arith))
+      (clear-there (7 - b % 8) (7 - c % 8) (byte s (b / 8)) (λ e. n (omega arith))))
+      (λ (q : c / 8 ≡ b / 8 → ⊥). rw (getD-set-other s (b / 8) (c / 8) (clearBit (7 - b % 8) (byte s (b / 8))) 0 q)) (equal? (c / 8) (b / 8))
+
+  -- one that is clear already: nothing changes
+  pub cleared-again : isSet s b ≡ false → withoutBit b s ≡ s
+  unfolding isSet withoutBit clearBit _if_else_
+  cleared-again h = rw h (set-getD s (b / 8) 0)
+
+  -- bytes with a bit cleared are bytes
+  pub bytes-clear : areBytes s ≡ true → areBytes (withoutBit b s) ≡ true
+  unfolding withoutBit
+  bytes-clear h =
+      let m = byte-small s (b / 8) h in
+      let q = clear-short (7 - b % 8) (byte s (b / 8)) in bytes-set s (b / 8) _ (omega arith) h
 
 pub set-none : (n b : ℕ) → b < 8 * n → isSet (replicate n 0) b ≡ false
 unfolding isSet
@@ -134,6 +224,12 @@ module _ (k x w : ℕ) (e : w ≡ 2 ^ k) where
       ⊎-elim (λ (h : bitOf k x ≡ true). rw h (let a = and-set h in omega arith))
       (λ (h : bitOf k x ≡ false). rw h (let a = and-clear h in omega arith)) (either (bitOf k x))
 
+  bit-less : x - bitAnd x w ≡ clearBit k x
+  unfolding clearBit _if_else_
+  bit-less =
+      ⊎-elim (λ (h : bitOf k x ≡ true). rw h (let a = and-set h in omega arith))
+      (λ (h : bitOf k x ≡ false). rw h (let a = and-clear h in omega arith)) (either (bitOf k x))
+
 module _ (s : List ℕ) (b w : ℕ) (e : w ≡ 2 ^ (7 - b % 8)) where
   pub set-and : not (eqb (bitAnd (byte s (b / 8)) w) 0) ≡ isSet s b
   unfolding isSet
@@ -142,6 +238,14 @@ module _ (s : List ℕ) (b w : ℕ) (e : w ≡ 2 ^ (7 - b % 8)) where
   pub set-or : set s (b / 8) (bitOr (byte s (b / 8)) w) ≡ withBit b s
   unfolding withBit
   set-or = ap (λ (x : ℕ). set s (b / 8) x) (bit-or (7 - b % 8) (byte s (b / 8)) w e)
+
+  -- what the byte has in common with the weight, taken away, clears the bit
+  pub set-less : set s (b / 8) (byte s (b / 8) - bitAnd (byte s (b / 8)) w) ≡ withoutBit b s
+  unfolding withoutBit
+  set-less = ap (λ (x : ℕ). set s (b / 8) x) (bit-less (7 - b % 8) (byte s (b / 8)) w e)
+
+-- what two bytes have in common is no more than the first
+pub ruleset common = (needs, and-le-l)
 
 module _ (s : List ℕ) (b : ℕ) (t : Bool) (e : t ≡ isSet s b) where
   pub clear-yes : not t ≡ true → isClear s b ≡ true

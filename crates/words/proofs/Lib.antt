@@ -11,6 +11,7 @@ pub mod Sums
 pub mod Sets
 pub mod Items
 pub mod Bitwise
+pub mod Spelled
 pub mod Hints
 pub mod Joined
 pub mod Greatest

@@ -3,12 +3,16 @@ use Prim.Native.Nat.{ℕ, zero, suc, _+_, _*_, _/_, _%_}
 use mathlib.Core.Bool.{Bool, true}
 use mathlib.Core.List.{List, [], _∷_, _++_}
 use lib.ListN.{length, getD, take, drop, replicate}
-use lib.Dec.{ltb}
+use lib.Dec.{eqb, ltb}
 use Rattle.words.specs.Tests.{_and_}
 
 -- byte i of s
 abbrev pub byte : List ℕ → ℕ → ℕ
 byte s i = getD s i 0
+
+-- two lists have the same byte k
+unfoldable pub sameByte : List ℕ → List ℕ → ℕ → Bool
+sameByte a b k = eqb (byte a k) (byte b k)
 
 -- byte k of those from a place on; the same in its low seven bits
 abbrev pub byteFrom : List ℕ → ℕ → ℕ → ℕ

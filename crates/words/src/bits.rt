@@ -3,7 +3,7 @@ ghost use mathlib.Core.Path.{_≡_};
 ghost use Prim.Native.Nat.{_-_, _*_, _^_, _<_, _≤_};
 ghost use lib.ListN.{length};
 ghost use Rattle.words.specs.Tests.{lowest, count};
-ghost use Rattle.words.specs.Bits.{isSet, isClear, withBit};
+ghost use Rattle.words.specs.Bits.{isSet, isClear, withBit, withoutBit};
 
 // The byte in which bit `j` alone is set, counted from its high end.
 fn weight(j: usize) -> u8
@@ -28,6 +28,15 @@ pub fn set(bits: &mut [u8], b: usize)
 {
     let at = b / 8;
     bits[at] = bits[at] | weight(b % 8);
+}
+
+// Clears bit `b`.
+pub fn clear(bits: &mut [u8], b: usize)
+    requires { ⌜ b < 8 * length (now bits) ⌝ }
+    ensures { λ _. ⌜ now (bits .exit) ≡ withoutBit b (now (bits .entry)) ⌝ }
+{
+    let place = b / 8;
+    bits[place] = bits[place] - (bits[place] & weight(b % 8));
 }
 
 // The lowest number below `n` whose bit is clear, `n` where there is none.

@@ -1,2 +1,3 @@
 -- The proofs of `writing`.
 pub mod Entries
+pub mod Releasing

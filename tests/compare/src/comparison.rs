@@ -3,7 +3,7 @@
 
 use crate::engine::{Engine, Reference};
 use crate::stage::Made;
-use crate::step::{set_image, set_list, Apart, Changes, Reply, Step, ANSWER_APART, BUFFERS};
+use crate::step::{set_image, set_list, set_vector, Apart, Changes, Reply, Step, ANSWER_APART, BUFFERS};
 use crate::table::Table;
 use crate::wire::{before_the_fill, get_step, put_reply, put_step};
 use reference::calls::Numbers;
@@ -15,7 +15,7 @@ use std::path::Path;
 /// A batch stays below 64 KB in each direction.
 const BATCH_BYTES: usize = 48 * 1024;
 
-const CASE_MARK: &[u8; 8] = b"MPMCASE3";
+const CASE_MARK: &[u8; 8] = b"MPMCASE4";
 
 /// The step at which engine and reference part.
 #[derive(Debug)]
@@ -153,7 +153,7 @@ fn trace(steps: &[Step]) -> Vec<Step> {
     [before, &watched_closely(suspects)].concat()
 }
 
-/// The suspects alone, with the image and the list as they stood before them.
+/// The suspects alone, with the image, the list and the vector as they stood before them.
 fn single(steps: &[Step]) -> Vec<Step> {
     let (mut table, mut reference) = (Table::default(), Reference::default());
     let (before, suspects) = steps.split_at(first_suspect(steps));
@@ -162,6 +162,7 @@ fn single(steps: &[Step]) -> Vec<Step> {
     }
     let mut single = set_image(table.image(), 0xE5);
     single.extend(set_list(table.list()));
+    single.extend(set_vector(table.vector()));
     single.extend(watched_closely(suspects));
     single
 }
@@ -246,7 +247,7 @@ fn describe_reply(reply: &Reply) -> String {
     } = reply;
     let mut text = format!("  answer {}\n", a_and_h(*answer));
     if *broken_guards != 0 {
-        let _ = writeln!(text, "  guards broken: {broken_guards:08b}");
+        let _ = writeln!(text, "  guards broken: {broken_guards:010b}");
     }
     if let Some(apart) = apart {
         text.push_str(&describe_apart(apart));

@@ -1,7 +1,7 @@
 //! Which answers, and for which reasons, have been reached; and which there are.
 
 use crate::deed::SEARCHES;
-use crate::faults::{ImageRule, Judged, ListRule};
+use crate::faults::{ImageRule, Judged, ListRule, VectorRule};
 use reference::answer::Answer;
 use reference::calls::{MOST_RECORDS, RUN_FUNCTIONS};
 use reference::kind::Kind;
@@ -30,10 +30,12 @@ const COMMON: &[Row] = &[
     (255, 13, "FCB of wrong length"),
     (255, 13, "DMA of wrong length"),
     (255, 13, "list of wrong length"),
+    (255, 13, "vector of wrong length"),
     (255, 1, "image of wrong length"),
     (255, 1, "image of the other kind's length"),
     (255, 1, "unsound directory"),
     (255, 12, "unsound list"),
+    (255, 14, "vector that disagrees"),
 ];
 
 /// An unknown kind is told before everything else, whatever the function.
@@ -478,11 +480,15 @@ pub struct Coverage {
     blocks: BTreeMap<(u32, Block), u64>,
     sizes: BTreeMap<(Kind, usize), u64>,
     starts: BTreeMap<(Told, u32), u64>,
+    builds: BTreeMap<(Told, u32), u64>,
     checks: BTreeMap<(Told, (u32, Place)), u64>,
     orders: BTreeMap<(Kind, Order), u64>,
     looks: BTreeMap<(Told, bool), u64>,
     image_rules: BTreeMap<(Kind, ImageRule, Half), u64>,
     list_rules: BTreeMap<(Kind, ListRule), u64>,
+    vector_rules: BTreeMap<(Kind, VectorRule), u64>,
+    /// The places in their bytes of the vector's bits that calls have set or cleared.
+    bits: BTreeMap<(Kind, u32, usize), u64>,
     /// Where the entries stand that searches have found.
     finds: BTreeMap<(Kind, u32, Place), u64>,
     /// The marks of the names that they were found by.
@@ -541,6 +547,10 @@ impl Coverage {
         add(&mut self.starts, (Kind::told(told), word));
     }
 
+    pub fn note_build(&mut self, told: u32, word: u32) {
+        add(&mut self.builds, (Kind::told(told), word));
+    }
+
     pub fn note_check(&mut self, told: u32, answer: u32) {
         let (kind, code, entry) = (Kind::told(told), answer % 256, answer as usize / 256);
         add(&mut self.checks, (kind, (code, Place::of(kind, entry))));
@@ -562,6 +572,16 @@ impl Coverage {
 
     pub fn note_list_rule(&mut self, kind: Kind, rule: ListRule) {
         add(&mut self.list_rules, (kind, rule));
+    }
+
+    /// A bit of the vector was not as it should be.
+    pub fn note_vector_rule(&mut self, kind: Kind, rule: VectorRule) {
+        add(&mut self.vector_rules, (kind, rule));
+    }
+
+    /// A call has set or cleared a bit at this place of its byte, 0 being the high one.
+    pub fn note_bit(&mut self, kind: Kind, function: u32, place: usize) {
+        add(&mut self.bits, (kind, function, place));
     }
 
     /// A search has found this entry by this name.
@@ -597,6 +617,7 @@ impl Coverage {
         complaints.extend(self.complaints_of_searches());
         complaints.extend(compare_keys("drive of a size", &self.sizes, &SIZES));
         complaints.extend(compare_keys("Start", &self.starts, &wanted_starts()));
+        complaints.extend(compare_keys("building", &self.builds, &wanted_builds()));
         complaints.extend(compare_keys("image check", &self.checks, &wanted_checks()));
         complaints.extend(compare_keys("order of faults", &self.orders, &wanted_orders()));
         complaints.extend(compare_keys("Look", &self.looks, &wanted_looks()));
@@ -604,6 +625,10 @@ impl Coverage {
         complaints.extend(compare_keys("image rule", &self.image_rules, &image_rules));
         let list_rules = pairs(&Kind::ALL, &ListRule::ALL);
         complaints.extend(compare_keys("list rule", &self.list_rules, &list_rules));
+        let vector_rules = pairs(&Kind::ALL, &VectorRule::ALL);
+        complaints.extend(compare_keys("vector rule", &self.vector_rules, &vector_rules));
+        let bits = of_each(&[19, 34, 40], &[0, 1, 2, 3, 4, 5, 6, 7]);
+        complaints.extend(compare_keys("bit of the vector", &self.bits, &bits));
         complaints
     }
 
@@ -646,8 +671,9 @@ impl Coverage {
                 let cells = self.cells_of(told, function);
                 let _ = writeln!(lines, "{:>5}  {cells}", label(function));
             }
-            let start = |word: &u32| format!("{}/{}", word % 256, word / 256);
-            let _ = writeln!(lines, "start  {}", cells(told, &self.starts, start));
+            let answer = |word: &u32| format!("{}/{}", word % 256, word / 256);
+            let _ = writeln!(lines, "start  {}", cells(told, &self.starts, answer));
+            let _ = writeln!(lines, "build  {}", cells(told, &self.builds, answer));
             let _ = writeln!(lines, "check  {}", self.cells_of_checks(told));
             let look = |found: &bool| if *found { "found" } else { "empty" }.to_string();
             let _ = writeln!(lines, " look  {}", cells(told, &self.looks, look));
@@ -698,6 +724,8 @@ impl Coverage {
         lines.push_str(&counted("gone on after", &self.meanwhile));
         lines.push_str(&counted("image broken", &self.image_rules));
         lines.push_str(&counted("list broken", &self.list_rules));
+        lines.push_str(&counted("bits wrong", &self.vector_rules));
+        lines.push_str(&counted("bit", &self.bits));
         lines
     }
 }
@@ -743,6 +771,14 @@ fn of_each<T: Copy>(functions: &[u32], all: &[T]) -> Vec<(Kind, u32, T)> {
 fn wanted_starts() -> Vec<(Told, u32)> {
     const REFUSED: u32 = 255 + 256 * 13;
     let mut wanted = pairs(&Kind::ALL.map(Some), &[0, REFUSED]);
+    wanted.push((None, REFUSED));
+    wanted
+}
+
+fn wanted_builds() -> Vec<(Told, u32)> {
+    const REFUSED: u32 = 255 + 256 * 13;
+    const UNSOUND: u32 = 255 + 256;
+    let mut wanted = pairs(&Kind::ALL.map(Some), &[0, REFUSED, UNSOUND]);
     wanted.push((None, REFUSED));
     wanted
 }

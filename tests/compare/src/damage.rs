@@ -1,8 +1,11 @@
-//! Breaks one rule of a sound directory or list. A damage counts only if `faults` agrees that
-//! just this rule is broken, or at least this one where it cannot be broken alone.
+//! Breaks one rule of a sound directory or list, or turns one bit of a vector. A damage counts only
+//! if `faults` agrees that just this rule is broken, or at least this one where it cannot be broken
+//! alone.
 
 use crate::build::{lock_item, open_item, place_start, put_item, Entry, POSITIONS};
-use crate::faults::{self, directory_faults, list_faults, ImageRule, Item, ListRule};
+use crate::faults::{
+    self, directory_faults, list_faults, vector_rules, ImageRule, Item, ListRule, VectorRule,
+};
 use crate::random::Random;
 use reference::drive::EMPTY;
 use reference::kind::{Kind, ENTRY};
@@ -259,6 +262,30 @@ pub fn break_list(
         let alone = faults.len() == 1 || !rule.can_be_broken_alone();
         (faults.contains(&rule) && alone).then_some(damaged)
     })
+}
+
+/// A vector with one bit turned that stands for this, beside a sound image; None where no bit does.
+/// The first and the last of them are turned more often than the others.
+pub fn break_vector(
+    rule: VectorRule,
+    kind: Kind,
+    vector: &[u8],
+    image: &[u8],
+    random: &mut Random,
+) -> Option<Vec<u8>> {
+    let rules = vector_rules(kind, image).into_iter().enumerate();
+    let bits: Vec<usize> = rules
+        .filter(|(_, stands_for)| *stands_for == rule)
+        .map(|(block, _)| block)
+        .collect();
+    let block = match random.below(4) {
+        0 => bits.first().copied(),
+        1 => bits.last().copied(),
+        _ => random.pick_any(&bits),
+    }?;
+    let mut damaged = vector.to_vec();
+    damaged[block / 8] ^= 0x80 >> (block % 8);
+    Some(damaged)
 }
 
 struct List<'a> {

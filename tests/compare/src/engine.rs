@@ -1,4 +1,4 @@
-//! An engine is whatever serves the four functions, and perhaps has a plain side that makes a call
+//! An engine is whatever serves the five functions, and perhaps has a plain side that makes a call
 //! as single calls.
 
 use crate::step::{Reply, Step};
@@ -14,6 +14,9 @@ pub trait Engine {
 
     /// Where the 128 bytes begin in the image, or 0.
     fn look(&mut self, kind: u32, user: u32, name: &mut [u8], record: u32, image: &mut [u8]) -> u32;
+
+    /// Builds the allocation vector of the image.
+    fn vector(&mut self, kind: u32, image: &mut [u8], vector: &mut [u8]) -> u32;
 
     fn call(&mut self, numbers: Numbers, buffers: Buffers) -> u32;
 
@@ -50,6 +53,10 @@ impl Engine for Reference {
 
     fn look(&mut self, kind: u32, user: u32, name: &mut [u8], record: u32, image: &mut [u8]) -> u32 {
         reference::look(kind, user, name, record, image).map_or(0, |at| at as u32)
+    }
+
+    fn vector(&mut self, kind: u32, image: &mut [u8], vector: &mut [u8]) -> u32 {
+        reference::vector(kind, image, vector)
     }
 
     fn call(&mut self, numbers: Numbers, buffers: Buffers) -> u32 {

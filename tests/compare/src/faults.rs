@@ -1,4 +1,5 @@
-//! Which rules of "Sound image" and "Sound list" a buffer breaks, found by walking the bytes.
+//! Which rules of "Sound image" and "Sound list" a buffer breaks, and in which bits a vector
+//! disagrees with the directory, found by walking the bytes.
 //! Written apart from the decoders, as a check on them and to see that a rule is broken alone.
 
 use crate::build::POSITIONS;
@@ -96,6 +97,26 @@ impl ListRule {
             ListRule::Process | ListRule::NameIllegal | ListRule::RecordRange
         )
     }
+}
+
+/// What a bit of a vector stands for that is not as it should be.
+#[derive(Clone, Copy, Debug, PartialEq, Eq, PartialOrd, Ord)]
+pub enum VectorRule {
+    Block0,
+    Block1,
+    UsedBlock,
+    FreeBlock,
+    PastTheLast,
+}
+
+impl VectorRule {
+    pub const ALL: [VectorRule; 5] = [
+        VectorRule::Block0,
+        VectorRule::Block1,
+        VectorRule::UsedBlock,
+        VectorRule::FreeBlock,
+        VectorRule::PastTheLast,
+    ];
 }
 
 pub fn is_legal_name(name: &[u8]) -> bool {
@@ -211,6 +232,55 @@ pub fn directory_faults(kind: Kind, directory: &[u8], blocks: usize) -> BTreeSet
     ];
     faults.extend(whole.iter().filter(|(broken, _)| *broken).map(|(_, rule)| *rule));
     faults
+}
+
+pub fn vector_length(kind: Kind) -> usize {
+    match kind {
+        Kind::First => 32,
+        Kind::Second => 512,
+    }
+}
+
+pub fn bit_is_set(vector: &[u8], block: usize) -> bool {
+    vector[block / 8] & [0x80, 0x40, 0x20, 0x10, 8, 4, 2, 1][block % 8] != 0
+}
+
+/// What each bit of the image's vector stands for; the image must be sound.
+pub fn vector_rules(kind: Kind, image: &[u8]) -> Vec<VectorRule> {
+    let blocks = blocks_of(kind, image.len()).expect("a length of this kind");
+    let used: BTreeSet<usize> = used_entries(kind, image)
+        .flat_map(|entry| block_numbers(kind, entry))
+        .map(usize::from)
+        .collect();
+    let rule = |block: usize| match block {
+        0 => VectorRule::Block0,
+        1 => VectorRule::Block1,
+        _ if block >= blocks => VectorRule::PastTheLast,
+        _ if used.contains(&block) => VectorRule::UsedBlock,
+        _ => VectorRule::FreeBlock,
+    };
+    (0..8 * vector_length(kind)).map(rule).collect()
+}
+
+fn is_due(rule: &VectorRule) -> bool {
+    !matches!(rule, VectorRule::FreeBlock | VectorRule::PastTheLast)
+}
+
+/// The vector of a sound image.
+pub fn vector_of(kind: Kind, image: &[u8]) -> Vec<u8> {
+    let bits: Vec<bool> = vector_rules(kind, image).iter().map(is_due).collect();
+    bits.chunks(8)
+        .map(|byte| byte.iter().fold(0, |bits, bit| 2 * bits + u8::from(*bit)))
+        .collect()
+}
+
+/// The rules that the vector breaks beside a sound image; it must have its length.
+pub fn vector_faults(kind: Kind, vector: &[u8], image: &[u8]) -> BTreeSet<VectorRule> {
+    let rules = vector_rules(kind, image).into_iter().enumerate();
+    rules
+        .filter(|(block, rule)| bit_is_set(vector, *block) != is_due(rule))
+        .map(|(_, rule)| rule)
+        .collect()
 }
 
 /// What is wrong with the entries of a directory, in document 02's numbers.

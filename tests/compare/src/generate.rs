@@ -3,9 +3,9 @@
 
 use crate::build::{empty_image_of, place_start, Entry, Fcb, LIST, POSITIONS};
 use crate::coverage::{Coverage, Half};
-use crate::damage::{break_directory, break_list, break_several};
+use crate::damage::{break_directory, break_list, break_several, break_vector};
 use crate::deed::SEARCHES;
-use crate::faults::{self, check_answer, ImageRule, Item, ListRule};
+use crate::faults::{self, check_answer, vector_length, ImageRule, Item, ListRule, VectorRule};
 use crate::history::blocks_of_groups;
 use crate::named::{self, Case};
 use crate::random::Random;
@@ -250,10 +250,22 @@ impl Generator {
         let fill = self.random.byte();
         self.stage.serve(Step::List { length: 0, fill });
         self.stage.serve(Step::List { length, fill });
+        self.begin_vector();
         self.start(cast);
         if cast.lively {
             self.share_files(cast);
         }
+    }
+
+    /// A buffer of any content, and the vector built in it.
+    fn begin_vector(&mut self) {
+        let length = vector_length(self.kind);
+        let fill = self.random.pick(&[0, 0xFF, 0xA5]);
+        self.stage.serve(Step::Vector { length: 0, fill });
+        self.stage.serve(Step::Vector { length, fill });
+        self.stage.serve(Step::Build {
+            kind: self.kind.number(),
+        });
     }
 
     /// Every process opens every file unlocked, the first one making those that are not there.
@@ -511,6 +523,9 @@ impl Generator {
             14..16 => self.with_stray_bytes(cast),
             16 => self.with_several_faults(cast),
             17 => self.with_moved_positions(cast),
+            18..20 => self.with_wrong_bit(cast),
+            20 => self.with_wrong_vector_length(cast),
+            21 => self.build_again(),
             _ => self.call(cast),
         }
     }
@@ -1086,7 +1101,7 @@ impl Generator {
         let mut step = self.a_call(cast);
         if let Step::Call { numbers, .. } = &mut step {
             match self.random.below(5) {
-                3 => numbers.kind = self.wrong_kind(),
+                3 => return self.with_wrong_kind(step),
                 4 => {
                     numbers.kind = self.wrong_kind();
                     numbers.function = self.wild_function(numbers.function);
@@ -1097,6 +1112,24 @@ impl Generator {
             }
         }
         self.stage.serve(step);
+    }
+
+    /// Told the other kind, a call is refused for the vector's length, or for the image where the
+    /// vector is as long as the other kind's.
+    fn with_wrong_kind(&mut self, mut step: Step) {
+        let told = self.wrong_kind();
+        if let Step::Call { numbers, .. } = &mut step {
+            numbers.kind = told;
+        }
+        let vector = self.stage.vector().to_vec();
+        self.stage.damaged();
+        if self.random.chance(50) {
+            let length = vector_length(self.kind.other());
+            self.stage.serve(Step::Vector { length, fill: 0 });
+        }
+        self.stage.serve(step);
+        self.stage.set_vector(&vector);
+        self.stage.repaired();
     }
 
     fn wild_function(&mut self, function: u32) -> u32 {
@@ -1127,6 +1160,7 @@ impl Generator {
         self.check();
         if self.random.chance(30) {
             self.look(cast);
+            self.build();
         }
         for _ in 0..self.random.between(1, 3) {
             self.call(cast);
@@ -1177,6 +1211,67 @@ impl Generator {
         self.stage.repaired();
     }
 
+    /// Calls beside a vector of which one bit is wrong, and sometimes the list is damaged too.
+    fn with_wrong_bit(&mut self, cast: &Cast) {
+        let rule = self.random.pick(&VectorRule::ALL);
+        let (vector, list) = (self.stage.vector().to_vec(), self.stage.list().to_vec());
+        let image = self.stage.image();
+        let Some(damaged) = break_vector(rule, self.kind, &vector, image, &mut self.random) else {
+            return;
+        };
+        self.stage.coverage.note_vector_rule(self.kind, rule);
+        self.stage.damaged();
+        self.stage.set_vector(&damaged);
+        let broken = self.random.pick(&ListRule::ALL);
+        if self.random.chance(20) {
+            let damaged = break_list(broken, self.kind, &list, self.stage.image(), &mut self.random);
+            self.patch_list(&list, &damaged.unwrap_or(list.clone()));
+        }
+        for _ in 0..self.random.between(1, 3) {
+            self.call(cast);
+        }
+        self.stage.set_list(&list);
+        self.stage.set_vector(&vector);
+        self.stage.repaired();
+    }
+
+    fn with_wrong_vector_length(&mut self, cast: &Cast) {
+        let vector = self.stage.vector().to_vec();
+        let (right, other) = (vector_length(self.kind), vector_length(self.kind.other()));
+        let length = self
+            .random
+            .pick(&[0, 1, right - 1, right - 1, right + 1, right + 1, 2 * right, other]);
+        let fill = self.random.pick(&[0, 0xFF]);
+        self.stage.damaged();
+        self.stage.serve(Step::Vector { length, fill });
+        self.call(cast);
+        if self.random.chance(40) {
+            self.build();
+        }
+        self.stage.set_vector(&vector);
+        self.stage.repaired();
+    }
+
+    /// Built over other bytes; where that is refused, these stay, and the old ones are put back.
+    fn build_again(&mut self) {
+        let vector = self.stage.vector().to_vec();
+        let bytes = self.random.bytes(vector.len());
+        self.stage.damaged();
+        self.stage.serve(Step::PatchVector { at: 0, bytes });
+        self.build();
+        self.stage.set_vector(&vector);
+        self.stage.repaired();
+    }
+
+    /// Mostly of the drive's kind.
+    fn build(&mut self) {
+        let kind = match self.random.chance(60) {
+            true => self.kind.number(),
+            false => self.wrong_kind(),
+        };
+        self.stage.serve(Step::Build { kind });
+    }
+
     /// Searches that go on where no search has left off: at either end of the directory, or anywhere.
     fn with_moved_positions(&mut self, cast: &Cast) {
         let before = self.stage.list().to_vec();
@@ -1221,18 +1316,26 @@ impl Generator {
             return;
         }
         let (image, list) = (self.stage.image().to_vec(), self.stage.list().to_vec());
+        let vector = self.stage.vector().to_vec();
         self.stage.damaged();
         for _ in 0..self.random.between(1, 2) {
             self.stray_byte(&image, &list);
         }
         self.check();
         self.look(cast);
+        // Without it, a block that was named or given up makes the vector disagree.
+        if self.random.chance(70) {
+            self.stage.serve(Step::Build {
+                kind: self.kind.number(),
+            });
+        }
         for _ in 0..self.random.between(1, 4) {
             self.call(cast);
         }
         let steps = put_back(&image, self.stage.image());
         self.stage.serve_all(steps);
         self.stage.set_list(&list);
+        self.stage.set_vector(&vector);
         self.stage.repaired();
     }
 
@@ -1321,6 +1424,7 @@ impl Generator {
         if self.random.chance(30) {
             self.check();
             self.look(cast);
+            self.build();
         }
         self.call(cast);
         self.resize_image(length);

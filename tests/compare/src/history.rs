@@ -89,6 +89,13 @@ fn last_position(kind: Kind) -> u8 {
     }
 }
 
+fn vector_length(kind: Kind) -> usize {
+    match kind {
+        Kind::First => 32,
+        Kind::Second => 512,
+    }
+}
+
 fn block_length(kind: Kind) -> usize {
     128 * records_of_group(kind) as usize
 }
@@ -426,11 +433,36 @@ impl History {
         Ok(())
     }
 
+    /// The vector tells the directory's blocks and those that the history's groups have, and no others.
+    pub fn check_vector(&self, vector: &[u8], image: &[u8]) -> Result<(), String> {
+        let mut wanted = vec![0; 8 * vector_length(self.kind)];
+        wanted[..2].fill(1);
+        for (_, block) in blocks_of_groups(self.kind, image) {
+            wanted[usize::from(block)] = 1;
+        }
+        let bits = vector
+            .iter()
+            .flat_map(|byte| (0..8).rev().map(move |place| byte >> place & 1));
+        if let Some(block) = bits.clone().zip(&wanted).position(|(is, due)| is != *due) {
+            return Err(format!("the vector disagrees about block {block}"));
+        }
+        match bits.count() == wanted.len() {
+            true => Ok(()),
+            false => Err(format!("the vector has {} bytes", vector.len())),
+        }
+    }
+
     /// Function 46's figure against the history.
-    pub fn check_free_space(&self, dma: &[u8], image: &[u8]) -> Result<(), String> {
+    pub fn check_free_space(&self, dma: &[u8], image: &[u8], vector: &[u8]) -> Result<(), String> {
         let figure = u32::from_le_bytes([dma[0], dma[1], dma[2], 0]) as usize;
         let blocks = image.len() / block_length(self.kind);
         let records = records_of_group(self.kind) as usize;
+        let set: u32 = vector.iter().map(|byte| byte.count_ones()).sum();
+        if figure + records * set as usize != records * blocks {
+            return Err(format!(
+                "function 46 says {figure}, the vector has {set} bits set"
+            ));
+        }
         if figure + records * (self.groups.len() + 2) != records * blocks {
             let groups = self.groups.len();
             return Err(format!(

@@ -18,6 +18,7 @@ pub mod named;
 pub mod named_entries;
 pub mod named_kinds;
 pub mod named_searches;
+pub mod named_vectors;
 pub mod parts;
 pub mod pipe;
 pub mod program_cases;

@@ -17,6 +17,8 @@ type Call = unsafe extern "C" fn(
     usize,
     *mut u8,
     usize,
+    *mut u8,
+    usize,
 ) -> u32;
 
 extern "C" {
@@ -33,6 +35,8 @@ extern "C" {
         list_len: usize,
         image: *mut u8,
         image_len: usize,
+        vector: *mut u8,
+        vector_len: usize,
     ) -> u32;
 
     fn mpm_singly(
@@ -48,7 +52,11 @@ extern "C" {
         list_len: usize,
         image: *mut u8,
         image_len: usize,
+        vector: *mut u8,
+        vector_len: usize,
     ) -> u32;
+
+    fn mpm_vector(kind: u32, image: *const u8, image_len: usize, vector: *mut u8, vector_len: usize) -> u32;
 
     fn mpm_start(
         kind: u32,
@@ -76,7 +84,7 @@ extern "C" {
 
 pub struct Linked;
 
-// SAFETY, of all five: each pointer comes with the length of the slice it is taken from, and the
+// SAFETY, of all six: each pointer comes with the length of the slice it is taken from, and the
 // slices are separate and stay borrowed until the call returns.
 impl Engine for Linked {
     fn start(&mut self, kind: u32, numbers: [u32; 3], users: &mut [u8], list: &mut [u8]) -> u32 {
@@ -113,6 +121,18 @@ impl Engine for Linked {
         }
     }
 
+    fn vector(&mut self, kind: u32, image: &mut [u8], vector: &mut [u8]) -> u32 {
+        unsafe {
+            mpm_vector(
+                kind,
+                image.as_mut_ptr(),
+                image.len(),
+                vector.as_mut_ptr(),
+                vector.len(),
+            )
+        }
+    }
+
     fn call(&mut self, numbers: Numbers, buffers: Buffers) -> u32 {
         make(mpm_call, numbers, buffers)
     }
@@ -129,6 +149,7 @@ fn make(call: Call, numbers: Numbers, buffers: Buffers) -> u32 {
         dma,
         list,
         image,
+        vector,
     } = buffers;
     // SAFETY: as above.
     unsafe {
@@ -145,6 +166,8 @@ fn make(call: Call, numbers: Numbers, buffers: Buffers) -> u32 {
             list.len(),
             image.as_mut_ptr(),
             image.len(),
+            vector.as_mut_ptr(),
+            vector.len(),
         )
     }
 }

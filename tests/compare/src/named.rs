@@ -10,7 +10,7 @@ use crate::generate::half_damaged;
 use crate::random::Random;
 use crate::stage::{changed_dma, changed_fcb, Stage};
 use crate::step::Step;
-use crate::{named_entries, named_kinds, named_searches};
+use crate::{named_entries, named_kinds, named_searches, named_vectors};
 use reference::calls::{Numbers, DMA_LENGTH, MOST_RECORDS, RUN_FUNCTIONS};
 use reference::kind::Kind;
 
@@ -78,7 +78,8 @@ pub fn cases() -> Vec<Case> {
         let cases = CASES
             .into_iter()
             .chain(named_entries::CASES)
-            .chain(named_searches::CASES);
+            .chain(named_searches::CASES)
+            .chain(named_vectors::CASES);
         cases.map(move |(name, play)| (kind, name, play))
     });
     both.chain(named_kinds::CASES)
@@ -101,7 +102,7 @@ pub fn play(case: &Case, stage: &mut Stage, random: &mut Random) {
 /// Plays calls on the stage and complains of answers other than the written ones.
 pub struct Script<'a> {
     pub stage: &'a mut Stage,
-    random: &'a mut Random,
+    pub random: &'a mut Random,
     case: String,
     pub kind: Kind,
     /// The drive as it was when its world began.
@@ -305,7 +306,9 @@ impl<'a> Script<'a> {
         self.stage.complain(format!("{}: {what}", self.case));
     }
 
+    /// Whatever the case has put into the image by hand, the vector follows it.
     pub fn call(&mut self, process: u32, function: u32, fcb: Fcb) -> Asked<'_, 'a> {
+        self.stage.follow(self.kind);
         let kind = self.kind.number();
         Asked {
             script: self,

@@ -4,6 +4,7 @@
 use crate::book::Book;
 use crate::build::{empty_image_of, image_of, name, put_entry, Entry, Fcb};
 use crate::coverage::FUNCTIONS;
+use crate::faults::vector_length;
 use crate::named::{Play, Script};
 use reference::kind::Kind;
 
@@ -113,6 +114,24 @@ fn last_two_blocks(script: &mut Script) {
     }
 }
 
+/// A call that is told the other kind is refused for the vector's length; with a vector that the
+/// other kind has, for the image's.
+fn told_the_other_kind(script: &mut Script, functions: &[u32]) {
+    let (other, vector) = (script.kind.other(), script.stage.vector().to_vec());
+    for function in functions {
+        let call = script.call(0, *function, shared());
+        call.kind(other.number()).gives(255, 13);
+    }
+    script.stage.damaged();
+    script.stage.set_vector(&vec![0xC0; vector_length(other)]);
+    for function in functions {
+        let call = script.call(0, *function, shared());
+        call.kind(other.number()).gives(255, 1);
+    }
+    script.stage.set_vector(&vector);
+    script.stage.repaired();
+}
+
 /// Every function, on a sound book, is told the other kind and then none.
 fn told_as_another(script: &mut Script) {
     let kind = script.kind.number();
@@ -121,8 +140,8 @@ fn told_as_another(script: &mut Script) {
     script.call(0, 15, shared()).ok();
     script.check(0);
     script.check_told(1 - kind, 1);
+    told_the_other_kind(script, &FUNCTIONS);
     for function in FUNCTIONS {
-        script.call(0, function, shared()).kind(1 - kind).gives(255, 1);
         for unknown in UNKNOWN_KINDS {
             script.call(0, function, shared()).kind(unknown).gives(255, 13);
         }
@@ -157,7 +176,7 @@ fn lengths(script: &mut Script) {
         script.check(0);
         script.check_told(0, 1);
         script.call(0, 46, shared()).fill(0xEE).tells(16 * free);
-        script.call(0, 46, shared()).kind(0).gives(255, 1);
+        told_the_other_kind(script, &[46]);
         script.call(0, 22, shared()).ok();
         script.call(0, 40, shared().record(262_143)).ok();
         script.call(0, 46, shared()).fill(0xEE).tells(16 * (free - 1));

@@ -2,7 +2,7 @@
 //! standard input and gives the replies on its standard output.
 
 use crate::engine::Engine;
-use crate::step::{set_image, set_list, Changes, Reply, Step};
+use crate::step::{set_image, set_list, set_vector, Changes, Reply, Step, BUFFERS};
 use crate::table::Table;
 use crate::wire::{get_reply, put_step};
 use reference::calls::{Buffers, Numbers};
@@ -149,10 +149,7 @@ impl Pipe {
     }
 
     /// One answered step, with the buffers sent before it. A breakdown answers u32::MAX.
-    fn single(&mut self, list: Option<&[u8]>, image: Option<&[u8]>, step: Step) -> Reply {
-        let mut steps = Vec::new();
-        steps.extend(list.into_iter().flat_map(set_list));
-        steps.extend(image.into_iter().flat_map(|image| set_image(image, 0xE5)));
+    fn single(&mut self, mut steps: Vec<Step>, step: Step) -> Reply {
         steps.push(step);
         let mut last = None;
         for step in &steps {
@@ -165,9 +162,13 @@ impl Pipe {
             answer: u32::MAX,
             broken_guards: 0,
             apart: None,
-            changes: [None, None, None, None],
+            changes: [const { None }; BUFFERS.len()],
         })
     }
+}
+
+fn whole_image(image: &[u8]) -> Vec<Step> {
+    set_image(image, 0xE5)
 }
 
 fn apply(changes: &Changes, to: &mut [u8]) {
@@ -185,14 +186,14 @@ impl Engine for Pipe {
             numbers,
             users: users.to_vec(),
         };
-        let reply = self.single(Some(list), None, step);
+        let reply = self.single(set_list(list), step);
         apply(&reply.changes[0], users);
         apply(&reply.changes[2], list);
         reply.answer
     }
 
     fn check(&mut self, kind: u32, image: &mut [u8]) -> u32 {
-        let reply = self.single(None, Some(image), Step::Check { kind });
+        let reply = self.single(whole_image(image), Step::Check { kind });
         apply(&reply.changes[3], image);
         reply.answer
     }
@@ -204,9 +205,17 @@ impl Engine for Pipe {
             name: name.to_vec(),
             record,
         };
-        let reply = self.single(None, Some(image), step);
+        let reply = self.single(whole_image(image), step);
         apply(&reply.changes[0], name);
         apply(&reply.changes[3], image);
+        reply.answer
+    }
+
+    fn vector(&mut self, kind: u32, image: &mut [u8], vector: &mut [u8]) -> u32 {
+        let steps = [whole_image(image), set_vector(vector)].concat();
+        let reply = self.single(steps, Step::Build { kind });
+        apply(&reply.changes[3], image);
+        apply(&reply.changes[4], vector);
         reply.answer
     }
 
@@ -216,8 +225,20 @@ impl Engine for Pipe {
             fcb: buffers.fcb.to_vec(),
             dma: buffers.dma.to_vec(),
         };
-        let reply = self.single(Some(buffers.list), Some(buffers.image), step);
-        let all = [buffers.fcb, buffers.dma, buffers.list, buffers.image];
+        let steps = [
+            set_list(buffers.list),
+            whole_image(buffers.image),
+            set_vector(buffers.vector),
+        ];
+        let reply = self.single(steps.concat(), step);
+        let Buffers {
+            fcb,
+            dma,
+            list,
+            image,
+            vector,
+        } = buffers;
+        let all = [fcb, dma, list, image, vector];
         for (changes, buffer) in reply.changes.iter().zip(all) {
             apply(changes, buffer);
         }

@@ -8,12 +8,12 @@ use crate::coverage::{orders, Coverage, Last, Meanwhile};
 use crate::deed::{Deed, SEARCHES};
 use crate::engine::Reference;
 use crate::faults::{
-    block_of, check_answer, image_faults, is_legal_name, judged, list_faults, position_behind, record_at,
-    searched, size_of,
+    bit_is_set, block_of, check_answer, image_faults, is_legal_name, judged, list_faults, position_behind,
+    record_at, searched, size_of, vector_faults, vector_length,
 };
 use crate::history::{groups_with_block, History, Kept, Noted};
 use crate::parts::SHORT_IMAGE;
-use crate::step::{set_image, set_list, Change, Reply, Step};
+use crate::step::{set_image, set_list, set_vector, Change, Reply, Step, BUFFERS};
 use crate::table::Table;
 use reference::calls::Numbers;
 use reference::kind::Kind;
@@ -23,6 +23,7 @@ use std::collections::BTreeSet;
 const WRONG_NUMBERS: u32 = 255 + 256 * 13;
 const UNSOUND_IMAGE: u32 = 255 + 256;
 const UNSOUND_LIST: u32 = 255 + 256 * 12;
+const WRONG_VECTOR: u32 = 255 + 256 * 14;
 
 /// The second reading of soundness is slow; it is taken of one call in so many.
 const SOUNDNESS_INTERVAL: u64 = 16;
@@ -46,6 +47,7 @@ struct Before {
     kept: Vec<Kept>,
     /// The caller's position, if it has one.
     position: Option<u8>,
+    vector: Vec<u8>,
 }
 
 #[derive(Default)]
@@ -53,11 +55,13 @@ pub struct Stage {
     table: Table,
     reference: Reference,
     history: Option<History>,
-    /// While the image or the list is damaged on purpose.
+    /// While the image, the list or the vector is damaged on purpose.
     damaged: bool,
     served: u64,
     /// What has happened since each process's last search.
     meanwhile: [BTreeSet<Meanwhile>; 16],
+    /// The image was set or patched by hand, and the vector has not followed it.
+    is_stale: bool,
     /// Steps that were answered since a long image was last compared whole.
     since_whole: usize,
     pub coverage: Coverage,
@@ -72,6 +76,10 @@ impl Stage {
 
     pub fn list(&self) -> &[u8] {
         self.table.list()
+    }
+
+    pub fn vector(&self) -> &[u8] {
+        self.table.vector()
     }
 
     pub fn faults(&self) -> &[String] {
@@ -124,6 +132,24 @@ impl Stage {
         self.serve_all(set_list(list));
     }
 
+    pub fn set_vector(&mut self, vector: &[u8]) {
+        self.serve_all(set_vector(vector));
+    }
+
+    /// Has the vector built in a buffer of its length, if the image was altered by hand. Where the
+    /// image is not sound, the vector is of no image.
+    pub fn follow(&mut self, kind: Kind) {
+        if !std::mem::take(&mut self.is_stale) {
+            return;
+        }
+        let length = vector_length(kind);
+        if self.vector().len() != length {
+            self.serve(Step::Vector { length, fill: 0xA5 });
+        }
+        let kind = kind.number();
+        self.serve(Step::Build { kind });
+    }
+
     pub fn serve_all(&mut self, steps: Vec<Step>) {
         for step in steps {
             self.serve(step);
@@ -143,6 +169,7 @@ impl Stage {
         if matches!(step, Step::Image { .. }) && self.since_whole > 0 {
             self.compare_whole();
         }
+        self.is_stale |= matches!(step, Step::Image { .. } | Step::PatchImage { .. });
         let reply = self.serve_one(step);
         if reply.is_some() {
             self.compare_whole_now_and_then();
@@ -168,6 +195,7 @@ impl Stage {
             return Before {
                 kept: Vec::new(),
                 position: None,
+                vector: Vec::new(),
             };
         };
         let followed = self.history.as_ref().filter(|_| !self.damaged);
@@ -180,6 +208,7 @@ impl Stage {
             position: positions
                 .and_then(|all| all.get(numbers.process as usize))
                 .copied(),
+            vector: self.table.vector().to_vec(),
         }
     }
 
@@ -190,6 +219,7 @@ impl Stage {
             Step::Start { kind, numbers, users } => self.watch_start(*kind, *numbers, users, reply),
             Step::Call { .. } => self.watch_call(step, reply, before),
             Step::Check { kind } => self.watch_check(*kind, reply),
+            Step::Build { kind } => self.watch_build(*kind, reply),
             Step::Look { .. } => self.watch_look(step, reply),
             _ => {}
         }
@@ -240,6 +270,22 @@ impl Stage {
         }
     }
 
+    fn watch_build(&mut self, told: u32, reply: &Reply) {
+        self.coverage.note_build(told, reply.answer);
+        let (vector, image) = (self.table.vector(), self.table.image());
+        let kind = Kind::told(told).filter(|kind| vector.len() == vector_length(*kind));
+        let sound = kind.filter(|kind| image_faults(*kind, image).is_empty());
+        let wanted = match (kind, sound) {
+            (None, _) => WRONG_NUMBERS,
+            (_, None) => UNSOUND_IMAGE,
+            _ => 0,
+        };
+        let disagrees = sound.is_some_and(|kind| !vector_faults(kind, vector, image).is_empty());
+        if reply.answer != wanted || disagrees {
+            self.complain(format!("building says {}, the bytes {wanted}", reply.answer));
+        }
+    }
+
     fn watch_look(&mut self, step: &Step, reply: &Reply) {
         let Step::Look {
             kind: told,
@@ -273,6 +319,7 @@ impl Stage {
         if let Some(kind) = Kind::told(numbers.kind) {
             self.watch_drive(kind, *numbers, fcb, reply);
             self.watch_search(kind, step, reply, before);
+            self.note_bits(kind, numbers.function, &before.vector);
             if self.damaged || self.served.is_multiple_of(SOUNDNESS_INTERVAL) {
                 self.compare_soundness(kind, reply.answer);
             }
@@ -298,6 +345,10 @@ impl Stage {
             19 | 23 => deed == Deed::Done,
             _ => deed.records() > 0,
         };
+        let vector = self.table.vector();
+        if deed != Deed::Refused {
+            verdict = verdict.and_then(|()| history.check_vector(vector, image));
+        }
         verdict = verdict.and_then(
             |()| match may_change_groups || reply.changes[3] != Some(Vec::new()) {
                 true => history.check(&before.kept, list, image),
@@ -306,7 +357,7 @@ impl Stage {
         );
         if verdict.is_ok() && (numbers.function, deed) == (46, Deed::Done) {
             let dma = changed_dma(dma, reply);
-            verdict = history.check_free_space(&dma, image);
+            verdict = history.check_free_space(&dma, image, vector);
         }
         if let Err(fault) = verdict {
             self.complain(fault);
@@ -410,6 +461,19 @@ impl Stage {
         }
     }
 
+    /// Notes the places in their bytes of the bits that a call has set or cleared.
+    fn note_bits(&mut self, kind: Kind, function: u32, before: &[u8]) {
+        let now = self.table.vector();
+        if before == now {
+            return;
+        }
+        for block in 0..8 * now.len() {
+            if bit_is_set(before, block) != bit_is_set(now, block) {
+                self.coverage.note_bit(kind, function, block % 8);
+            }
+        }
+    }
+
     /// Notes where the first record of a call lies that was done.
     fn watch_blocks(&mut self, numbers: Numbers, fcb: &[u8], reply: &Reply) {
         let of_records = is_run_function(numbers.function) || numbers.function == 41;
@@ -455,6 +519,11 @@ impl Stage {
         let list_is_sound = list_faults(kind, self.table.list(), self.table.image()).is_empty();
         if list_is_sound == (answer == UNSOUND_LIST) {
             self.complain(format!("list sound: {list_is_sound}, answer {answer}"));
+            return;
+        }
+        let faults = vector_faults(kind, self.table.vector(), self.table.image());
+        if list_is_sound && faults.is_empty() == (answer == WRONG_VECTOR) {
+            self.complain(format!("the vector's faults: {faults:?}, answer {answer}"));
         }
     }
 }
@@ -484,28 +553,40 @@ fn last_taken(kind: Kind, reply: &Reply) -> Option<Last> {
     }
 }
 
-/// FCB, DMA, list and image: which of them a step may change that was answered so.
-fn buffers_that_may_change(step: &Step, answer: u32) -> [bool; 4] {
-    const NONE: [bool; 4] = [false; 4];
+const NONE: [bool; BUFFERS.len()] = [false; BUFFERS.len()];
+const FCB: usize = 0;
+const DMA: usize = 1;
+const LIST_BUFFER: usize = 2;
+const IMAGE: usize = 3;
+const VECTOR: usize = 4;
+
+fn these(buffers: &[usize]) -> [bool; BUFFERS.len()] {
+    std::array::from_fn(|buffer| buffers.contains(&buffer))
+}
+
+/// Which buffers a step may change that was answered so.
+fn buffers_that_may_change(step: &Step, answer: u32) -> [bool; BUFFERS.len()] {
     let numbers = match step {
-        Step::Start { .. } => return [false, false, answer == 0, false],
+        Step::Start { .. } if answer == 0 => return these(&[LIST_BUFFER]),
+        Step::Build { .. } if answer == 0 => return these(&[VECTOR]),
         Step::Call { numbers, .. } => *numbers,
         _ => return NONE,
     };
     match Deed::of_call(numbers, answer) {
         Deed::Refused => return NONE,
-        Deed::NoMatch => return [false, false, true, false],
-        Deed::Found(_) => return [false, true, true, false],
+        Deed::NoMatch => return these(&[LIST_BUFFER]),
+        Deed::Found(_) => return these(&[DMA, LIST_BUFFER]),
         Deed::Done | Deed::Records { .. } => {}
     }
     match numbers.function {
-        15 => [true, false, true, false],
-        22 => [true, false, true, true],
-        35 => [true, false, false, false],
-        33 | 46 => [false, true, false, false],
-        19 => [false, false, true, true],
-        23 | 34 | 40 | 41 => [false, false, false, true],
-        16 | 42 | 43 | 143 => [false, false, true, false],
+        15 => these(&[FCB, LIST_BUFFER]),
+        22 => these(&[FCB, LIST_BUFFER, IMAGE]),
+        35 => these(&[FCB]),
+        33 | 46 => these(&[DMA]),
+        19 => these(&[LIST_BUFFER, IMAGE, VECTOR]),
+        34 | 40 => these(&[IMAGE, VECTOR]),
+        23 | 41 => these(&[IMAGE]),
+        16 | 42 | 43 | 143 => these(&[LIST_BUFFER]),
         _ => NONE,
     }
 }

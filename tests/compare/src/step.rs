@@ -6,6 +6,7 @@ use std::ops::Range;
 /// The longest buffers that a step may set; the pipe's other end has areas of these sizes.
 pub const MAX_IMAGE: usize = 4_098 * 2_048;
 pub const MAX_LIST: usize = 4096;
+pub const MAX_VECTOR: usize = 4096;
 pub const MAX_DMA: usize = 4096;
 
 #[derive(Clone, Debug, PartialEq, Eq)]
@@ -28,6 +29,15 @@ pub enum Step {
         at: usize,
         bytes: Vec<u8>,
     },
+    /// The vector gets this length.
+    Vector {
+        length: usize,
+        fill: u8,
+    },
+    PatchVector {
+        at: usize,
+        bytes: Vec<u8>,
+    },
     Start {
         kind: u32,
         numbers: [u32; 3],
@@ -39,6 +49,10 @@ pub enum Step {
         dma: Vec<u8>,
     },
     Check {
+        kind: u32,
+    },
+    /// Builds the vector from the image.
+    Build {
         kind: u32,
     },
     Look {
@@ -55,7 +69,12 @@ impl Step {
     pub fn is_answered(&self) -> bool {
         matches!(
             self,
-            Step::Start { .. } | Step::Call { .. } | Step::Check { .. } | Step::Look { .. } | Step::Whole
+            Step::Start { .. }
+                | Step::Call { .. }
+                | Step::Check { .. }
+                | Step::Build { .. }
+                | Step::Look { .. }
+                | Step::Whole
         )
     }
 }
@@ -76,7 +95,7 @@ pub const MAX_CHANGES: usize = 4096;
 pub const MAX_CHANGED_BYTES: usize = 8192;
 
 /// The buffers of a reply, in order. Start's users and Look's name stand in the FCB's place.
-pub const BUFFERS: [&str; 4] = ["FCB", "DMA", "list", "image"];
+pub const BUFFERS: [&str; 5] = ["FCB", "DMA", "list", "image", "vector"];
 
 /// Where the engine's plain side has done otherwise than the engine.
 #[derive(Clone, Debug, PartialEq, Eq)]
@@ -91,10 +110,10 @@ pub const ANSWER_APART: u8 = 1 << BUFFERS.len();
 #[derive(Clone, Debug, PartialEq, Eq)]
 pub struct Reply {
     pub answer: u32,
-    /// A bit for each buffer whose guard bytes were overwritten; four more for the plain side's.
-    pub broken_guards: u8,
+    /// A bit for each buffer whose guard bytes were overwritten; as many more for the plain side's.
+    pub broken_guards: u16,
     pub apart: Option<Apart>,
-    pub changes: [Changes; 4],
+    pub changes: [Changes; BUFFERS.len()],
 }
 
 /// The longest runs of differing bytes.
@@ -159,6 +178,19 @@ pub fn set_list(bytes: &[u8]) -> Vec<Step> {
         },
     ];
     let patches = patches(bytes, 0).map(|(at, bytes)| Step::PatchList { at, bytes });
+    steps.extend(patches);
+    steps
+}
+
+pub fn set_vector(bytes: &[u8]) -> Vec<Step> {
+    let mut steps = vec![
+        Step::Vector { length: 0, fill: 0 },
+        Step::Vector {
+            length: bytes.len(),
+            fill: 0,
+        },
+    ];
+    let patches = patches(bytes, 0).map(|(at, bytes)| Step::PatchVector { at, bytes });
     steps.extend(patches);
     steps
 }

@@ -1,9 +1,9 @@
-//! The image and the list that an engine of this process works on, between guard bytes, and a
-//! second set of them for its plain side.
+//! The image, the list and the vector that an engine of this process works on, between guard bytes,
+//! and a second set of them for its plain side.
 
 use crate::engine::Engine;
 use crate::parts::parts;
-use crate::step::{changes, changes_in, Apart, Changes, Reply, Step, ANSWER_APART};
+use crate::step::{changes, changes_in, Apart, Changes, Reply, Step, ANSWER_APART, BUFFERS};
 use reference::calls::{Buffers, Numbers};
 use reference::singly::plain_answer;
 use std::ops::Range;
@@ -148,6 +148,7 @@ impl Plain {
 pub struct Table {
     image: Lasting,
     list: Lasting,
+    vector: Lasting,
 }
 
 impl Default for Table {
@@ -155,6 +156,7 @@ impl Default for Table {
         Table {
             image: Lasting::new(),
             list: Lasting::new(),
+            vector: Lasting::new(),
         }
     }
 }
@@ -168,6 +170,10 @@ impl Table {
         self.list.now.data()
     }
 
+    pub fn vector(&self) -> &[u8] {
+        self.vector.now.data()
+    }
+
     /// Does the step; None for those that have no answer.
     pub fn serve<E: Engine + ?Sized>(&mut self, engine: &mut E, step: &Step) -> Option<Reply> {
         match step {
@@ -175,9 +181,13 @@ impl Table {
             Step::PatchImage { at, bytes } => self.image.patch(*at, bytes),
             Step::List { length, fill } => self.list.resize(*length, *fill),
             Step::PatchList { at, bytes } => self.list.patch(*at, bytes),
+            Step::Vector { length, fill } => self.vector.resize(*length, *fill),
+            Step::PatchVector { at, bytes } => self.vector.patch(*at, bytes),
             Step::Start { users, .. } => return Some(self.ask(engine, step, users, &[])),
             Step::Call { fcb, dma, .. } => return Some(self.ask(engine, step, fcb, dma)),
-            Step::Check { .. } | Step::Whole => return Some(self.ask(engine, step, &[], &[])),
+            Step::Check { .. } | Step::Build { .. } | Step::Whole => {
+                return Some(self.ask(engine, step, &[], &[]))
+            }
             Step::Look { name, .. } => return Some(self.ask(engine, step, name, &[])),
         }
         None
@@ -187,20 +197,22 @@ impl Table {
         let (mut first_now, mut second_now) = (Guarded::new(first), Guarded::new(second));
         let answer = self.question(engine, step, first_now.data_mut(), second_now.data_mut());
         let plain = self.ask_plain_side(engine, step);
-        let guarded = [&first_now, &second_now, &self.list.now, &self.image.now];
-        let mut broken_guards = broken(guarded);
+        let lasting = [&self.list.now, &self.image.now, &self.vector.now];
+        let mut broken_guards = broken([&first_now, &second_now], lasting);
         let mut apart = None;
-        let whole_list = self.list.all();
-        let list_parts = std::slice::from_ref(&whole_list);
+        let whole = |buffer: &Lasting| [buffer.all()];
+        let (list_parts, vector_parts) = (whole(&self.list), whole(&self.vector));
         let image_parts = parts(step, &self.image.before, self.image.now.data());
         if let Some(plain) = plain {
-            broken_guards |= broken([&plain.fcb, &plain.dma, &self.list.plain, &self.image.plain]) << 4;
+            let lasting = [&self.list.plain, &self.image.plain, &self.vector.plain];
+            broken_guards |= broken([&plain.fcb, &plain.dma], lasting) << BUFFERS.len();
             let (fcb_now, dma_now) = (first_now.data(), second_now.data());
             let differ = [
                 plain.fcb.data() != fcb_now,
                 plain.dma.data() != dma_now,
-                self.list.rejoin(list_parts),
+                self.list.rejoin(&list_parts),
                 self.image.rejoin(&image_parts),
+                self.vector.rejoin(&vector_parts),
             ];
             apart = told_apart(differ, plain.answer, wanted_of_plain_side(step, answer));
         }
@@ -211,8 +223,9 @@ impl Table {
             changes: [
                 changes(first, first_now.data()),
                 changes(second, second_now.data()),
-                self.list.settle(list_parts),
+                self.list.settle(&list_parts),
                 self.image.settle(&image_parts),
+                self.vector.settle(&vector_parts),
             ],
         }
     }
@@ -231,6 +244,7 @@ impl Table {
             dma: dma.data_mut(),
             list: self.list.plain.data_mut(),
             image: self.image.plain.data_mut(),
+            vector: self.vector.plain.data_mut(),
         };
         let answer = engine.singly(*numbers, buffers)?;
         Some(Plain { answer, fcb, dma })
@@ -245,6 +259,7 @@ impl Table {
     ) -> u32 {
         let list = self.list.now.data_mut();
         let image = self.image.now.data_mut();
+        let vector = self.vector.now.data_mut();
         match step {
             Step::Start { kind, numbers, .. } => engine.start(*kind, *numbers, first, list),
             Step::Call { numbers, .. } => engine.call(
@@ -254,9 +269,11 @@ impl Table {
                     dma: second,
                     list,
                     image,
+                    vector,
                 },
             ),
             Step::Check { kind } => engine.check(*kind, image),
+            Step::Build { kind } => engine.vector(*kind, image, vector),
             Step::Look {
                 kind, user, record, ..
             } => engine.look(*kind, *user, first, *record, image),
@@ -266,10 +283,12 @@ impl Table {
 }
 
 /// A bit for each buffer whose guard bytes were overwritten.
-fn broken(guarded: [&Guarded; 4]) -> u8 {
-    (0..4)
-        .filter(|&i| !guarded[i].guards_hold())
-        .map(|i| 1 << i)
+fn broken(passing: [&Guarded; 2], lasting: [&Guarded; 3]) -> u16 {
+    let guarded = passing.into_iter().chain(lasting);
+    (0..)
+        .zip(guarded)
+        .filter(|(_, buffer)| !buffer.guards_hold())
+        .map(|(i, _)| 1 << i)
         .sum()
 }
 
@@ -283,7 +302,7 @@ fn wanted_of_plain_side(step: &Step, answer: u32) -> u32 {
     }
 }
 
-fn told_apart(buffers: [bool; 4], answer: u32, wanted: u32) -> Option<Apart> {
+fn told_apart(buffers: [bool; BUFFERS.len()], answer: u32, wanted: u32) -> Option<Apart> {
     let mut parts = 0;
     for (i, apart) in buffers.into_iter().enumerate() {
         parts |= u8::from(apart) << i;

@@ -4,19 +4,22 @@
 //! Step:   'I' length(4) fill(1)              the image gets this length
 //!         'i' at(4) n(2) bytes               a part of it gets these bytes
 //!         'L', 'l'                           the same for the list
+//!         'B', 'b'                           the same for the allocation vector
 //!         'S' kind(4) capacity(4) open limit(4) lock limit(4) n(2) users
 //!         'C' kind(4) function(4) process(4) count(4) n(2) FCB, DMA
 //!         'K' kind(4)                        check the image
+//!         'M' kind(4)                        make the vector from the image
 //!         'V' kind(4) user(4) record(4) n(2) name    look
 //!         'W'                                compare the whole image
 //! DMA:    length(2) fill(1) n(2) bytes       the bytes, and behind them the fill byte
-//! Reply, to S, C, K, V and W (whose answer is 0):
-//!         'A' broken guards(1) answer(4) apart(1), where apart is not 0 the plain side's
-//!         answer(4), then for users or FCB or name, DMA, list and image:
+//! Reply, to S, C, K, M, V and W (whose answer is 0):
+//!         'A' broken guards(2) answer(4) apart(1), where apart is not 0 the plain side's
+//!         answer(4), then for users or FCB or name, DMA, list, image and vector:
 //!         n(2), and n times at(4) n(2) bytes; n of 65,535 means too many to tell.
 
 use crate::step::{
-    Apart, Change, Changes, Reply, Step, MAX_CHANGED_BYTES, MAX_CHANGES, MAX_DMA, MAX_IMAGE, MAX_LIST,
+    Apart, Change, Changes, Reply, Step, BUFFERS, MAX_CHANGED_BYTES, MAX_CHANGES, MAX_DMA, MAX_IMAGE,
+    MAX_LIST, MAX_VECTOR,
 };
 use reference::calls::Numbers;
 use std::io::{self, Read};
@@ -71,6 +74,8 @@ pub fn put_step(step: &Step, out: &mut Vec<u8>) {
         Step::List { length, fill } => put_length(b'L', *length, *fill, out),
         Step::PatchImage { at, bytes } => put_patch(b'i', *at, bytes, out),
         Step::PatchList { at, bytes } => put_patch(b'l', *at, bytes, out),
+        Step::Vector { length, fill } => put_length(b'B', *length, *fill, out),
+        Step::PatchVector { at, bytes } => put_patch(b'b', *at, bytes, out),
         Step::Start { kind, numbers, users } => {
             let [capacity, open_limit, lock_limit] = *numbers;
             put_numbers(b'S', &[*kind, capacity, open_limit, lock_limit], out);
@@ -88,6 +93,7 @@ pub fn put_step(step: &Step, out: &mut Vec<u8>) {
             put_dma(dma, out);
         }
         Step::Check { kind } => put_numbers(b'K', &[*kind], out),
+        Step::Build { kind } => put_numbers(b'M', &[*kind], out),
         Step::Look {
             kind,
             user,
@@ -102,7 +108,8 @@ pub fn put_step(step: &Step, out: &mut Vec<u8>) {
 }
 
 pub fn put_reply(reply: &Reply, out: &mut Vec<u8>) {
-    out.extend([b'A', reply.broken_guards]);
+    out.push(b'A');
+    out.extend(reply.broken_guards.to_le_bytes());
     out.extend(reply.answer.to_le_bytes());
     match &reply.apart {
         None => out.push(0),
@@ -201,6 +208,14 @@ pub fn get_step(from: &mut impl Read) -> io::Result<Option<Step>> {
             at: get_at_most(MAX_LIST, from)?,
             bytes: get_bytes(from)?,
         },
+        b'B' => Step::Vector {
+            length: get_at_most(MAX_VECTOR, from)?,
+            fill: get_u8(from)?,
+        },
+        b'b' => Step::PatchVector {
+            at: get_at_most(MAX_VECTOR, from)?,
+            bytes: get_bytes(from)?,
+        },
         b'S' => Step::Start {
             kind: get_u32(from)?,
             numbers: [get_u32(from)?, get_u32(from)?, get_u32(from)?],
@@ -217,6 +232,7 @@ pub fn get_step(from: &mut impl Read) -> io::Result<Option<Step>> {
             dma: get_dma(from)?,
         },
         b'K' => Step::Check { kind: get_u32(from)? },
+        b'M' => Step::Build { kind: get_u32(from)? },
         b'W' => Step::Whole,
         b'V' => Step::Look {
             kind: get_u32(from)?,
@@ -233,10 +249,10 @@ pub fn get_reply(from: &mut impl Read) -> io::Result<Reply> {
     if get_u8(from)? != b'A' {
         return Err(malformed("not a reply"));
     }
-    let broken_guards = get_u8(from)?;
+    let broken_guards = get_u16(from)?;
     let answer = get_u32(from)?;
     let apart = get_apart(from)?;
-    let mut changes = [None, None, None, None];
+    let mut changes = [const { None }; BUFFERS.len()];
     for one in &mut changes {
         *one = get_changes(from)?;
     }

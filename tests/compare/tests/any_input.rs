@@ -2,7 +2,7 @@
 
 mod common;
 
-use common::{split, KNOWN, OK};
+use common::{right_vector, split, KNOWN, OK};
 use compare::build::{empty_image, image_of, image_with, Entry, LIST};
 use reference::kind::Kind;
 
@@ -29,6 +29,19 @@ impl Numbers {
             0 => self.next(),
             1..4 => 1,
             _ => 0,
+        }
+    }
+
+    /// Mostly that of the image.
+    fn vector(&mut self, kind: u32, image: &[u8]) -> Vec<u8> {
+        let right = right_vector(kind, image);
+        match self.below(6) {
+            0 => {
+                let length = self.length(right.len());
+                self.bytes(length)
+            }
+            1 => vec![0xC0; right.len()],
+            _ => right,
         }
     }
 
@@ -74,20 +87,46 @@ fn any_call_answers() {
         };
         let process = numbers.below(18);
         let count = numbers.below(19);
-        let before = (fcb.clone(), dma.clone(), list.clone(), image.clone());
         let kind = numbers.kind();
+        let mut vector = numbers.vector(kind, &image);
+        let before = (
+            fcb.clone(),
+            dma.clone(),
+            list.clone(),
+            image.clone(),
+            vector.clone(),
+        );
         let word = reference::call(
-            kind, function, process, count, &mut fcb, &mut dma, &mut list, &mut image,
+            kind,
+            function,
+            process,
+            count,
+            &mut fcb,
+            &mut dma,
+            &mut list,
+            &mut image,
+            &mut vector,
         );
         let (a, h) = split(word);
         let records_done = [33, 34, 40].contains(&function) && h >= 16;
         if (a, h) != OK && !records_done {
-            assert!(before == (fcb, dma, list, image));
+            assert!(before == (fcb, dma, list, image, vector));
         }
         let length = numbers.below(13) as usize;
         let name = numbers.bytes(length);
         reference::look(kind, numbers.below(20), &name, numbers.next(), &before.3);
         assert_is_answer_of_check(kind, reference::check(kind, &before.3));
+        assert_builds(kind, &before.3, before.4);
+    }
+}
+
+/// The vector that is due, or the bytes that were there.
+fn assert_builds(kind: u32, image: &[u8], mut vector: Vec<u8>) {
+    let before = vector.clone();
+    match split(reference::vector(kind, image, &mut vector)) {
+        OK => assert_eq!(vector, right_vector(kind, image)),
+        (255, 1 | 13) => assert_eq!(vector, before),
+        other => panic!("building gave {other:?}"),
     }
 }
 

@@ -308,6 +308,10 @@ impl Engine for WrongCheck {
         Reference::default().look(kind, user, name, record, image)
     }
 
+    fn vector(&mut self, kind: u32, image: &mut [u8], vector: &mut [u8]) -> u32 {
+        Reference::default().vector(kind, image, vector)
+    }
+
     fn call(&mut self, numbers: Numbers, buffers: Buffers) -> u32 {
         Reference::default().call(numbers, buffers)
     }

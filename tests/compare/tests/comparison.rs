@@ -20,6 +20,7 @@ struct Lent {
     dma: Vec<u8>,
     list: Vec<u8>,
     image: Vec<u8>,
+    vector: Vec<u8>,
 }
 
 /// What a call was and did; a fault may alter `after` and the answer.
@@ -48,6 +49,10 @@ impl Engine for Faulty {
         Reference::default().look(kind, user, name, record, image)
     }
 
+    fn vector(&mut self, kind: u32, image: &mut [u8], vector: &mut [u8]) -> u32 {
+        Reference::default().vector(kind, image, vector)
+    }
+
     fn call(&mut self, numbers: Numbers, buffers: Buffers) -> u32 {
         with_fault(self.0, numbers, buffers, Lent::call)
     }
@@ -69,6 +74,10 @@ impl Engine for FaultyPlainSide {
         Reference::default().look(kind, user, name, record, image)
     }
 
+    fn vector(&mut self, kind: u32, image: &mut [u8], vector: &mut [u8]) -> u32 {
+        Reference::default().vector(kind, image, vector)
+    }
+
     fn call(&mut self, numbers: Numbers, buffers: Buffers) -> u32 {
         Reference::default().call(numbers, buffers)
     }
@@ -85,6 +94,7 @@ fn with_fault(fault: Fault, numbers: Numbers, buffers: Buffers, call: fn(&mut Le
         dma: buffers.dma.to_vec(),
         list: buffers.list.to_vec(),
         image: buffers.image.to_vec(),
+        vector: buffers.vector.to_vec(),
     };
     let mut now = before.clone();
     let answer = call(&mut now, numbers);
@@ -99,6 +109,7 @@ fn with_fault(fault: Fault, numbers: Numbers, buffers: Buffers, call: fn(&mut Le
     buffers.dma.copy_from_slice(&done.after.dma);
     buffers.list.copy_from_slice(&done.after.list);
     buffers.image.copy_from_slice(&done.after.image);
+    buffers.vector.copy_from_slice(&done.after.vector);
     done.answer
 }
 
@@ -113,6 +124,7 @@ impl Lent {
             &mut self.dma,
             &mut self.list,
             &mut self.image,
+            &mut self.vector,
         )
     }
 
@@ -126,6 +138,7 @@ impl Lent {
             &mut self.dma,
             &mut self.list,
             &mut self.image,
+            &mut self.vector,
         )
     }
 
@@ -154,6 +167,7 @@ impl Lent {
             &mut dma,
             &mut self.list,
             &mut self.image,
+            &mut self.vector,
         );
         self.dma[at..at + 128].copy_from_slice(&dma[..128]);
         answer
@@ -881,6 +895,12 @@ fn plain_side_writes_the_list(done: &mut Done) {
     }
 }
 
+fn plain_side_writes_the_vector(done: &mut Done) {
+    if done.is(34, 2) {
+        done.after.vector[31] ^= 1;
+    }
+}
+
 fn plain_side_goes_on(done: &mut Done) {
     if done.is(34, 8) {
         let next = done.before.first_record() + done.numbers.count;
@@ -889,13 +909,14 @@ fn plain_side_goes_on(done: &mut Done) {
 }
 
 /// Each with what of a reply tells of it.
-const FAULTS_OF_PLAIN_SIDES: [(Fault, u8, &str); 6] = [
+const FAULTS_OF_PLAIN_SIDES: [(Fault, u8, &str); 7] = [
     (plain_side_tells_records, ANSWER_APART, "answer"),
     (plain_side_refuses_46, ANSWER_APART, "answer"),
     (plain_side_advances_the_fcb, 1, "FCB"),
     (plain_side_writes_the_dma, 2, "DMA"),
     (plain_side_writes_the_list, 4, "list"),
     (plain_side_goes_on, 8, "image"),
+    (plain_side_writes_the_vector, 16, "vector"),
 ];
 
 #[test]
@@ -960,6 +981,10 @@ impl Engine for Scribbler {
 
     fn look(&mut self, kind: u32, user: u32, name: &mut [u8], record: u32, image: &mut [u8]) -> u32 {
         Reference::default().look(kind, user, name, record, image)
+    }
+
+    fn vector(&mut self, kind: u32, image: &mut [u8], vector: &mut [u8]) -> u32 {
+        Reference::default().vector(kind, image, vector)
     }
 
     fn call(&mut self, numbers: Numbers, buffers: Buffers) -> u32 {
@@ -1076,7 +1101,7 @@ fn a_plain_side_apart_survives_the_wire() {
         parts: ANSWER_APART | 2,
         answer: 0x1234_5678,
     });
-    reply.broken_guards = 0b1010_0101;
+    reply.broken_guards = 0b10_1010_0101;
     let mut bytes = Vec::new();
     put_reply(&reply, &mut bytes);
     assert_eq!(get_reply(&mut &bytes[..]).unwrap(), reply);
@@ -1117,12 +1142,14 @@ fn a_pipe_to_the_reference_agrees() {
 }
 
 #[test]
-fn the_pipe_serves_the_four_functions_one_by_one() {
+fn the_pipe_serves_the_five_functions_one_by_one() {
     let mut pipe = pipe_to_reference();
-    let (mut list, mut image) = (vec![0xAA; 1315], vec![0xE5; 4096]);
+    let (mut list, mut image, mut vector) = (vec![0xAA; 1315], vec![0xE5; 4096], vec![0xAA; 32]);
     assert_eq!(pipe.start(0, [3, 2, 2], &mut [0; 16], &mut list), 0);
     assert_eq!(list[..3], [3, 2, 2]);
     assert_eq!(pipe.check(0, &mut image), 0);
+    assert_eq!(pipe.vector(0, &mut image, &mut vector), 0);
+    assert_eq!(vector[..2], [0xC0, 0]);
     let mut fcb = compare::build::Fcb::named("X").unlocked().0.to_vec();
     let mut dma = vec![9; 2048];
     for function in [22, 34] {
@@ -1137,10 +1164,12 @@ fn the_pipe_serves_the_four_functions_one_by_one() {
             dma: &mut dma,
             list: &mut list,
             image: &mut image,
+            vector: &mut vector,
         };
         assert_eq!(pipe.call(numbers, buffers), 0);
     }
     assert_eq!(image[2048..2048 + 128], [9; 128]);
+    assert_eq!(vector[..2], [0xE0, 0]);
     let mut name = compare::build::name("X");
     assert_eq!(pipe.look(0, 0, &mut name, 0, &mut image), 2048);
 }

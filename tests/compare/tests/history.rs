@@ -6,6 +6,7 @@ use common::World;
 use compare::build::{
     empty_image, empty_image_of, item_at, lock_item, name, open_item, put_item, Entry, Fcb,
 };
+use compare::deed::Deed;
 use compare::history::{groups_with_block, History, Noted};
 use reference::kind::Kind;
 
@@ -48,9 +49,12 @@ impl Run {
         self.history.note(&noted);
         self.history.note_found(&noted, &self.world.list)?;
         self.history.check(&kept, &self.world.list, &self.world.image)?;
+        if Deed::of(function, count, noted.answer) != Deed::Refused {
+            self.history.check_vector(&self.world.vector, &self.world.image)?;
+        }
         if function == 46 && a == 0 {
             self.history
-                .check_free_space(&self.world.dma, &self.world.image)?;
+                .check_free_space(&self.world.dma, &self.world.image, &self.world.vector)?;
         }
         Ok(())
     }
@@ -205,10 +209,16 @@ fn a_keeper_of_the_wrong_kind_is_seen() {
     assert!(run.step(Step(1, 34, orders(8), 1, 0)).is_err());
     let mut dma = [0; 2048];
     dma[..2].copy_from_slice(&(8u16 * 258).to_le_bytes());
-    let run = Run::of(Kind::Second, empty_image_of(Kind::Second, 260));
-    assert!(run.history.check_free_space(&dma, &run.world.image).is_err());
+    let mut run = Run::of(Kind::Second, empty_image_of(Kind::Second, 260));
+    run.world.lend_vector();
+    assert!(run
+        .history
+        .check_free_space(&dma, &run.world.image, &run.world.vector)
+        .is_err());
     dma[..2].copy_from_slice(&(16u16 * 258).to_le_bytes());
-    run.history.check_free_space(&dma, &run.world.image).unwrap();
+    run.history
+        .check_free_space(&dma, &run.world.image, &run.world.vector)
+        .unwrap();
 }
 
 #[test]
@@ -303,15 +313,49 @@ fn blocks_and_groups_that_disagree_are_seen() {
 }
 
 #[test]
+fn a_vector_that_disagrees_is_seen() {
+    let run = underway();
+    let right = run.world.vector.clone();
+    run.history.check_vector(&right, &run.world.image).unwrap();
+    for block in 0..256 {
+        let mut wrong = right.clone();
+        wrong[block / 8] ^= 128 >> (block % 8);
+        let fault = run.history.check_vector(&wrong, &run.world.image).unwrap_err();
+        assert!(fault.ends_with(&format!("block {block}")), "{fault}");
+    }
+    for length in [0, 31, 33, 512] {
+        let mut wrong = right.clone();
+        wrong.resize(length, 0);
+        assert!(run.history.check_vector(&wrong, &run.world.image).is_err());
+    }
+}
+
+#[test]
+fn a_figure_other_than_the_vectors_is_seen() {
+    let mut run = underway();
+    let dma = [8, 0, 0];
+    run.world.vector[0] ^= 1;
+    assert!(run
+        .history
+        .check_free_space(&dma, &run.world.image, &run.world.vector)
+        .is_err());
+}
+
+#[test]
 fn a_made_up_figure_is_seen() {
     let run = underway();
     let mut dma = [0; 2048];
     dma[0] = 8;
-    run.history.check_free_space(&dma, &run.world.image).unwrap();
+    run.history
+        .check_free_space(&dma, &run.world.image, &run.world.vector)
+        .unwrap();
     for byte in 0..3 {
         let mut wrong = dma;
         wrong[byte] ^= 8;
-        assert!(run.history.check_free_space(&wrong, &run.world.image).is_err());
+        assert!(run
+            .history
+            .check_free_space(&wrong, &run.world.image, &run.world.vector)
+            .is_err());
     }
 }
 

@@ -532,12 +532,17 @@ impl Engine for WrongEngine {
         }
     }
 
+    fn vector(&mut self, kind: u32, image: &mut [u8], vector: &mut [u8]) -> u32 {
+        Reference::default().vector(kind, image, vector)
+    }
+
     fn call(&mut self, numbers: Numbers, buffers: Buffers) -> u32 {
         let Buffers {
             fcb,
             dma,
             list,
             image,
+            vector,
         } = buffers;
         if self.0 == Wrong::Takes256Blocks && numbers.kind == 1 && image.len() == 256 * 2048 {
             return 0;
@@ -551,6 +556,7 @@ impl Engine for WrongEngine {
             dma: &mut *dma,
             list: &mut *list,
             image: &mut image[part],
+            vector: &mut *vector,
         };
         let answer = Reference::default().call(told, lent);
         if numbers.kind == 1 && Deed::of_call(numbers, answer).is_accepted() {
@@ -559,6 +565,7 @@ impl Engine for WrongEngine {
                 dma,
                 list,
                 image,
+                vector,
             };
             let mut spoilt = Spoilt {
                 numbers,

@@ -5,6 +5,7 @@ use compare::build::{image_of, name, open_item, put_entry, put_item, Entry, Fcb,
 use compare::desk::cases::Cases;
 use compare::desk::packs::fresh_list;
 use compare::desk::{difference, named, on_reference, watch, Case, Desk, Local, What};
+use compare::faults::vector_of;
 use reference::kind::Kind;
 
 fn file(text: &str) -> Entry {
@@ -178,8 +179,18 @@ fn a_search_goes_on_at_its_number_in_a_packed_book() {
         let mut list = fresh_list(kind, 1, [0; 16]);
         let mut fcb = Fcb::of(*b"???????????").0;
         let mut search = |function: u32, list: &mut [u8], image: &mut [u8]| {
-            let mut dma = vec![0; 2_048];
-            let answer = reference::call(kind.number(), function, 5, 1, &mut fcb, &mut dma, list, image);
+            let (mut dma, mut vector) = (vec![0; 2_048], vector_of(kind, image));
+            let answer = reference::call(
+                kind.number(),
+                function,
+                5,
+                1,
+                &mut fcb,
+                &mut dma,
+                list,
+                image,
+                &mut vector,
+            );
             (answer, dma[32 * (answer as usize % 4) + 1])
         };
         let mut packed = vec![7; image.len()];
@@ -468,9 +479,20 @@ fn wrong_pack(wrong: Option<Wrong>, kind: u32, image: &mut [u8], list: &mut [u8]
     };
     let image_is_bad = reference::check(kind.number(), image) != 0;
     let sound_list = |image: &mut [u8]| {
-        let (mut fcb, mut dma) = (vec![0; 36], vec![0; 2_048]);
+        let (mut fcb, mut dma, mut vector) = (vec![0; 36], vec![0; 2_048], vector_of(kind, image));
         let mut copy = as_taken(wrong, list);
-        reference::call(kind.number(), 46, 0, 1, &mut fcb, &mut dma, &mut copy, image) == 0
+        let answer = reference::call(
+            kind.number(),
+            46,
+            0,
+            1,
+            &mut fcb,
+            &mut dma,
+            &mut copy,
+            image,
+            &mut vector,
+        );
+        answer == 0
     };
     let lengths = match wrong {
         Some(Wrong::LengthOfTheListFree) => packed.len() == image.len(),

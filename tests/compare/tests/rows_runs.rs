@@ -411,6 +411,7 @@ fn assert_same_singly(world: &World, function: u32, fcb: Fcb, count: u32) {
     let (a, h) = one.ask(0, function, fcb).count(count).rising(0x80).go();
     singly.fcb = fcb.0.to_vec();
     singly.dma = rising_after(&[]);
+    singly.lend_vector();
     let answer = reference::call_singly(
         world.kind,
         function,
@@ -420,6 +421,7 @@ fn assert_same_singly(world: &World, function: u32, fcb: Fcb, count: u32) {
         &mut singly.dma,
         &mut singly.list,
         &mut singly.image,
+        &mut singly.vector,
     );
     assert_eq!(answer, a + 256 * (h % 16), "{function} of {count}");
     assert!(one == singly, "{function} of {count}");
@@ -453,9 +455,12 @@ fn single_calls_stop_at_the_first_refusal() {
     let mut world = World::new(empty_image(3));
     world.must(0, 22, file());
     let (mut fcb, mut dma) = (file().record(5).0, rising_after(&[]));
-    let World { list, image, .. } = &mut world;
-    let answer = reference::call_singly(0, 34, 0, 16, &mut fcb, &mut dma, list, image);
+    let World {
+        list, image, vector, ..
+    } = &mut world;
+    let answer = reference::call_singly(0, 34, 0, 16, &mut fcb, &mut dma, list, image, vector);
     assert_eq!(answer, 2);
+    assert_eq!(vector[..2], [0xE0, 0]);
     assert_eq!(image[2048 + 5 * 128..2048 + 6 * 128], [0x80; 128]);
     assert_eq!(image[2048 + 7 * 128..], [0x82; 128]);
     assert_eq!(image[15..18], [8, 2, 0]);

@@ -31,12 +31,13 @@ pub struct Numbers {
     pub count: u32,
 }
 
-/// The four buffers lent for a call.
+/// The five buffers lent for a call.
 pub struct Buffers<'a> {
     pub fcb: &'a mut [u8],
     pub dma: &'a mut [u8],
     pub list: &'a mut [u8],
     pub image: &'a mut [u8],
+    pub vector: &'a mut [u8],
 }
 
 struct Scene<'a> {
@@ -152,6 +153,7 @@ impl Effects {
         }
         if let Some(drive) = self.drive {
             drive.write_changes(before, buffers.image);
+            buffers.vector.copy_from_slice(&drive.vector());
         }
         for Write { at, bytes } in self.data {
             buffers.image[at..at + bytes.len()].copy_from_slice(&bytes);
@@ -204,12 +206,18 @@ fn scene<'a>(numbers: Numbers, buffers: &'a Buffers) -> Result<Scene<'a>, Refusa
     if buffers.list.len() != LIST_LENGTH {
         return Err(extended(13, "list of wrong length"));
     }
+    if buffers.vector.len() != kind.vector() {
+        return Err(extended(13, "vector of wrong length"));
+    }
     let drive = Drive::read(kind, buffers.image).map_err(|fault| match fault {
         Fault::Length => extended(1, "image of wrong length"),
         Fault::OtherKind => extended(1, "image of the other kind's length"),
         Fault::Entry(..) => extended(1, "unsound directory"),
     })?;
     let list = LockList::read(buffers.list, &drive).ok_or(extended(12, "unsound list"))?;
+    if *buffers.vector != drive.vector() {
+        return Err(extended(14, "vector that disagrees"));
+    }
     if !WITHOUT_FCB.contains(&numbers.function) && fcb[0] > 1 {
         return Err(extended(4, "not drive A"));
     }

@@ -308,6 +308,17 @@ impl Drive {
         free as u32 * self.kind.records_per_block()
     }
 
+    /// The allocation vector: a bit for each block, the high one of byte 0 for block 0, set where a file uses the
+    /// block or the directory lies there.
+    pub fn vector(&self) -> Vec<u8> {
+        let mut vector = vec![0; self.kind.vector()];
+        let used = self.used_blocks.iter().map(|block| usize::from(*block));
+        for block in (0..FIRST_DATA_BLOCK).chain(used) {
+            vector[block / 8] |= HIGH_BIT >> (block % 8);
+        }
+        vector
+    }
+
     pub fn make(&mut self, file: File) -> Option<()> {
         self.add_extent(file, 0, [0; NAME_LENGTH])
     }

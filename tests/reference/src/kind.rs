@@ -69,6 +69,11 @@ impl Kind {
         }
     }
 
+    /// The length of the allocation vector: a bit for each block that a drive of this kind can have.
+    pub fn vector(self) -> usize {
+        self.most_blocks() / 8
+    }
+
     /// The length of the directory.
     pub fn directory(self) -> usize {
         DIRECTORY_BLOCKS * self.block()

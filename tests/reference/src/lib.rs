@@ -61,6 +61,18 @@ pub fn look(kind: u32, user: u32, name: &[u8], record: u32, image: &[u8]) -> Opt
     Some(drive.record_start(block, record))
 }
 
+/// Writes the allocation vector of an image. A + 256·H; a refusal leaves the vector as it was.
+pub fn vector(kind: u32, image: &[u8], vector: &mut [u8]) -> u32 {
+    let Some(kind) = Kind::told(kind).filter(|kind| vector.len() == kind.vector()) else {
+        return Answer::extended(13).word();
+    };
+    let Ok(drive) = Drive::read(kind, image) else {
+        return Answer::extended(1).word();
+    };
+    vector.copy_from_slice(&drive.vector());
+    Answer::SUCCESS.word()
+}
+
 /// 0 mended, with what was done to each entry in the report; 1 wrong length or unknown kind, 2 a report of wrong
 /// length, both changing nothing.
 pub fn salvage(kind: u32, image: &mut [u8], report: &mut [u8]) -> u32 {
@@ -125,6 +137,7 @@ pub fn call(
     dma: &mut [u8],
     list: &mut [u8],
     image: &mut [u8],
+    vector: &mut [u8],
 ) -> u32 {
     let numbers = Numbers {
         kind,
@@ -137,6 +150,7 @@ pub fn call(
         dma,
         list,
         image,
+        vector,
     };
     calls::call_explained(numbers, buffers).0.word()
 }
@@ -152,6 +166,7 @@ pub fn call_singly(
     dma: &mut [u8],
     list: &mut [u8],
     image: &mut [u8],
+    vector: &mut [u8],
 ) -> u32 {
     let numbers = Numbers {
         kind,
@@ -164,6 +179,7 @@ pub fn call_singly(
         dma,
         list,
         image,
+        vector,
     };
     singly::singly(numbers, buffers, |numbers, buffers| {
         calls::call_explained(numbers, buffers).0.word()

@@ -36,6 +36,9 @@ pub fn mpmcalls(disk: Option<&[u8]>, input: &[u8]) -> (Vec<u8>, Option<Vec<u8>>)
 
 fn run(image: &mut [u8], input: &[u8], lines: &mut String) -> Result<usize, BadRecord> {
     let (mut list, mut rest) = started(input).ok_or(BadRecord(0))?;
+    // Where the image is not sound, every call is refused for that, whatever the vector.
+    let mut vector = vec![0; Kind::First.vector()];
+    crate::vector(first_kind(), image, &mut vector);
     let mut calls = 0;
     while !rest.is_empty() {
         let record = rest.get(..CALL_LENGTH).ok_or(BadRecord(calls + 1))?;
@@ -43,7 +46,7 @@ fn run(image: &mut [u8], input: &[u8], lines: &mut String) -> Result<usize, BadR
             return Err(BadRecord(calls + 1));
         }
         let (function, process) = (record[2], record[3]);
-        let answer = one_call(record, &mut list, image);
+        let answer = one_call(record, &mut list, image, &mut vector);
         let (a, h) = (answer % 256, answer / 256);
         // Writing to a String cannot fail.
         let _ = writeln!(lines, "{calls} {process} {function} {a} {h}");
@@ -71,7 +74,7 @@ fn started(input: &[u8]) -> Option<([u8; LIST_LENGTH], &[u8])> {
     (answer == 0).then_some((list, &input[START_LENGTH..]))
 }
 
-fn one_call(record: &[u8], list: &mut [u8], image: &mut [u8]) -> u32 {
+fn one_call(record: &[u8], list: &mut [u8], image: &mut [u8], vector: &mut [u8]) -> u32 {
     let [function, process, count] = [2, 3, 4].map(|at| u32::from(record[at]));
     let (fcb, dma) = record[5..].split_at(FCB_LENGTH);
     let (mut fcb, mut dma) = (fcb.to_vec(), dma.to_vec());
@@ -84,5 +87,6 @@ fn one_call(record: &[u8], list: &mut [u8], image: &mut [u8]) -> u32 {
         &mut dma,
         list,
         image,
+        vector,
     )
 }

@@ -45,6 +45,7 @@ pub fn singly(numbers: Numbers, buffers: Buffers, mut call: impl FnMut(Numbers, 
             dma: &mut dma,
             list: buffers.list,
             image: buffers.image,
+            vector: buffers.vector,
         };
         let answer = call(Numbers { count: 1, ..numbers }, single);
         part.copy_from_slice(&dma[..RECORD]);

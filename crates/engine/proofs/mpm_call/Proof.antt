@@ -26,5 +26,7 @@ mpm-call-spec =
     (λ c. search needs)
     -- same-length-4
     (λ c. search needs)
+    -- same-length-5
+    (λ c. search needs)
     -- returns-2
     (λ c. search (call-known, call-other)))

@@ -1,9 +1,11 @@
-//! One running world: an image and a list, and calls upon them.
+//! One running world: an image, a list and a vector, and calls upon them.
 #![allow(dead_code)]
 
 use compare::build::{empty_image, Fcb, LIST};
 use compare::deed::Deed;
+use compare::faults::{image_faults, vector_length, vector_of};
 use reference::calls::DMA_LENGTH;
+use reference::kind::Kind;
 
 pub type Answer = (u32, u32);
 pub const OK: Answer = (0, 0);
@@ -18,6 +20,18 @@ pub struct World {
     pub list: Vec<u8>,
     pub fcb: Vec<u8>,
     pub dma: Vec<u8>,
+    pub vector: Vec<u8>,
+    /// The vector that calls are lent where a test has set one; else it is the image's.
+    pub own_vector: Option<Vec<u8>>,
+}
+
+/// The vector that a drive told so has to have; of an image that is not sound, one of its length.
+pub fn right_vector(kind: u32, image: &[u8]) -> Vec<u8> {
+    let kind = Kind::told(kind).unwrap_or(Kind::First);
+    match image_faults(kind, image).is_empty() {
+        true => vector_of(kind, image),
+        false => vec![0; vector_length(kind)],
+    }
 }
 
 /// A call in the making; the FCB, count and DMA have plain values until they are set.
@@ -63,6 +77,8 @@ impl World {
             list,
             fcb: Vec::new(),
             dma: Vec::new(),
+            vector: Vec::new(),
+            own_vector: None,
         }
     }
 
@@ -84,6 +100,12 @@ impl World {
     /// A call that must succeed, and is no search.
     pub fn must(&mut self, process: u32, function: u32, fcb: Fcb) {
         assert_eq!(self.ask(process, function, fcb).go(), OK);
+    }
+
+    /// The vector as the next call finds it.
+    pub fn lend_vector(&mut self) {
+        let own = self.own_vector.clone();
+        self.vector = own.unwrap_or_else(|| right_vector(self.kind, &self.image));
     }
 
     pub fn entry(&self, slot: usize) -> &[u8] {
@@ -134,7 +156,7 @@ impl Call<'_> {
         self
     }
 
-    /// Does the call. A refusal must leave all four buffers unchanged.
+    /// Does the call. A refusal must leave all five buffers unchanged, all else a vector that agrees.
     pub fn go(self) -> Answer {
         let Call {
             world,
@@ -146,6 +168,7 @@ impl Call<'_> {
         } = self;
         world.fcb = fcb;
         world.dma = dma;
+        world.lend_vector();
         let before = world.clone();
         let word = reference::call(
             world.kind,
@@ -156,13 +179,19 @@ impl Call<'_> {
             &mut world.dma,
             &mut world.list,
             &mut world.image,
+            &mut world.vector,
         );
         let answer = split(word);
-        if Deed::of(function, count, word) == Deed::Refused {
-            assert!(
+        match Deed::of(function, count, word) {
+            Deed::Refused => assert!(
                 *world == before,
                 "refusal {answer:?} of {function} changed a buffer"
-            );
+            ),
+            _ => assert_eq!(
+                world.vector,
+                right_vector(world.kind, &world.image),
+                "the vector after {function}"
+            ),
         }
         answer
     }

@@ -1,4 +1,4 @@
-//! The reference behind the engine's eight C symbols, to try `pipe.c` and the feature `linked` with.
+//! The reference behind the engine's nine C symbols, to try `pipe.c` and the feature `linked` with.
 
 use std::slice::{from_raw_parts, from_raw_parts_mut};
 
@@ -21,7 +21,7 @@ unsafe fn lent_mut<'a>(bytes: *mut u8, length: usize) -> &'a mut [u8] {
 }
 
 /// # Safety
-/// The four buffers must be good for their lengths and separate.
+/// The five buffers must be good for their lengths and separate.
 #[no_mangle]
 #[allow(clippy::too_many_arguments)]
 pub unsafe extern "C" fn mpm_call(
@@ -37,6 +37,8 @@ pub unsafe extern "C" fn mpm_call(
     list_len: usize,
     image: *mut u8,
     image_len: usize,
+    vector: *mut u8,
+    vector_len: usize,
 ) -> u32 {
     reference::call(
         kind,
@@ -47,11 +49,12 @@ pub unsafe extern "C" fn mpm_call(
         lent_mut(dma, dma_len),
         lent_mut(list, list_len),
         lent_mut(image, image_len),
+        lent_mut(vector, vector_len),
     )
 }
 
 /// # Safety
-/// The four buffers must be good for their lengths and separate.
+/// The five buffers must be good for their lengths and separate.
 #[no_mangle]
 #[allow(clippy::too_many_arguments)]
 pub unsafe extern "C" fn mpm_singly(
@@ -67,6 +70,8 @@ pub unsafe extern "C" fn mpm_singly(
     list_len: usize,
     image: *mut u8,
     image_len: usize,
+    vector: *mut u8,
+    vector_len: usize,
 ) -> u32 {
     reference::call_singly(
         kind,
@@ -77,6 +82,7 @@ pub unsafe extern "C" fn mpm_singly(
         lent_mut(dma, dma_len),
         lent_mut(list, list_len),
         lent_mut(image, image_len),
+        lent_mut(vector, vector_len),
     )
 }
 
@@ -101,6 +107,19 @@ pub unsafe extern "C" fn mpm_start(
         lent(users, users_len),
         lent_mut(list, list_len),
     )
+}
+
+/// # Safety
+/// The two buffers must be good for their lengths and separate.
+#[no_mangle]
+pub unsafe extern "C" fn mpm_vector(
+    kind: u32,
+    image: *const u8,
+    image_len: usize,
+    vector: *mut u8,
+    vector_len: usize,
+) -> u32 {
+    reference::vector(kind, lent(image, image_len), lent_mut(vector, vector_len))
 }
 
 /// # Safety

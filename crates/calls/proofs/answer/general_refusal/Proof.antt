@@ -1,6 +1,7 @@
 -- `calls::answer::general_refusal` meets its contract.
 use borrow.Author.Needs.{needs}
-use Rattle.calls.proofs.Passing.{is-call, fcb-there, list-there, all-rows, code-unknown, code-bad}
+use Rattle.calls.proofs.Passing.{is-call, fcb-there, list-there, vector-there}
+use Rattle.calls.proofs.Fives.{table-five, code-long, code-other}
 use Rattle.calls.proofs.answer.general_refusal.Statement.{statement}
 use Rattle.calls.proofs.answer.general_refusal.Tie as tie
 
@@ -15,14 +16,14 @@ general-refusal-spec =
     -- enum-told
     (λ c. search needs)
     -- returns
-    (λ c. search code-unknown)
-    -- bad-numbers-requires
+    (λ c. search code-other)
+    -- bad-lengths-requires
     (λ c κs. search is-call)
     -- returns-2
-    (λ c. search code-bad)
+    (λ c. search code-long)
     -- unpack-requires
     (λ c κs. search list-there)
     -- refusal-requires
-    (λ c κs. (search is-call, search needs, search fcb-there, search list-there))
+    (λ c κs. (search is-call, search needs, search fcb-there, search list-there, search vector-there))
     -- returns-3
-    (λ c. search all-rows))
+    (λ c. search table-five))

@@ -1,8 +1,8 @@
 -- `calls::serve::serve` meets its contract.
-use mathlib.Core.Path.{refl}
 use borrow.Author.Needs.{needs}
+use mathlib.Core.Path.{refl}
 use Rattle.calls.specs.Drives.{usesCount}
-use Rattle.calls.proofs.Serving.{serve-any, serve-run}
+use Rattle.calls.proofs.Serving.{beside-any, beside-run, beside-make, beside-rename}
 use Rattle.calls.proofs.serve.serve.Statement.{statement}
 use Rattle.calls.proofs.serve.serve.Tie as tie
 
@@ -84,7 +84,7 @@ serve-spec =
     -- same-length-4
     (λ c. search needs)
     -- returns
-    (λ c. search (serve-any, refl))
+    (λ c. search (beside-any, refl))
     -- same-length-5
     (λ c. search needs)
     -- same-length-6
@@ -94,7 +94,7 @@ serve-spec =
     -- same-length-8
     (λ c. search needs)
     -- returns-2
-    (λ c. search (serve-any, refl))
+    (λ c. search (beside-any, refl))
     -- same-length-9
     (λ c. search needs)
     -- same-length-10
@@ -104,7 +104,7 @@ serve-spec =
     -- same-length-12
     (λ c. search needs)
     -- returns-3
-    (λ c. search (serve-any, refl))
+    (λ c. search (beside-any, refl))
     -- same-length-13
     (λ c. search needs)
     -- same-length-14
@@ -114,7 +114,7 @@ serve-spec =
     -- same-length-16
     (λ c. search needs)
     -- returns-4
-    (λ c. search (serve-any, refl))
+    (λ c. search (beside-any, refl))
     -- same-length-17
     (λ c. search needs)
     -- same-length-18
@@ -123,78 +123,76 @@ serve-spec =
     (λ c. search needs)
     -- same-length-20
     (λ c. search needs)
-    -- returns-5
-    (λ c. search (serve-any, refl))
     -- same-length-21
     (λ c. search needs)
+    -- returns-5
+    (λ c. search (beside-any, refl))
     -- same-length-22
     (λ c. search needs)
     -- same-length-23
     (λ c. search needs)
     -- same-length-24
     (λ c. search needs)
-    -- returns-6
-    (λ c. search (serve-any, refl))
     -- same-length-25
     (λ c. search needs)
+    -- returns-6
+    (λ c. search beside-make)
     -- same-length-26
     (λ c. search needs)
     -- same-length-27
     (λ c. search needs)
     -- same-length-28
     (λ c. search needs)
-    -- returns-7
-    (λ c. search (serve-any, refl))
     -- same-length-29
     (λ c. search needs)
+    -- returns-7
+    (λ c. search beside-rename)
     -- same-length-30
     (λ c. search needs)
     -- same-length-31
     (λ c. search needs)
     -- same-length-32
     (λ c. search needs)
-    -- returns-8
-    (λ c. search (serve-any, refl))
     -- same-length-33
     (λ c. search needs)
+    -- returns-8
+    (λ c. search (beside-any, refl))
     -- same-length-34
     (λ c. search needs)
     -- same-length-35
     (λ c. search needs)
     -- same-length-36
     (λ c. search needs)
-    -- returns-9
-    (λ c. search (serve-any, refl))
     -- same-length-37
     (λ c. search needs)
     -- same-length-38
     (λ c. search needs)
+    -- returns-9
+    (λ c. search (beside-any, refl))
     -- same-length-39
     (λ c. search needs)
     -- same-length-40
     (λ c. search needs)
-    -- returns-10
-    (λ c. search (serve-any, refl))
     -- same-length-41
     (λ c. search needs)
     -- same-length-42
     (λ c. search needs)
+    -- returns-10
+    (λ c. search (beside-any, refl))
     -- same-length-43
     (λ c. search needs)
     -- same-length-44
     (λ c. search needs)
-    -- returns-11
-    (λ c. search (serve-any, refl))
     -- same-length-45
     (λ c. search needs)
     -- same-length-46
     (λ c. search needs)
     -- same-length-47
     (λ c. search needs)
+    -- returns-11
+    (λ c. search (beside-any, refl))
     -- same-length-48
     (λ c. search needs)
-    -- returns-12
-    (λ c. search (serve-any, refl))
     -- same-length-49
     (λ c. search needs)
     -- same-length-50
@@ -203,8 +201,8 @@ serve-spec =
     (λ c. search needs)
     -- same-length-52
     (λ c. search needs)
-    -- returns-13
-    (λ c. search serve-run)
+    -- returns-12
+    (λ c. search (beside-any, refl))
     -- same-length-53
     (λ c. search needs)
     -- same-length-54
@@ -213,8 +211,8 @@ serve-spec =
     (λ c. search needs)
     -- same-length-56
     (λ c. search needs)
-    -- returns-14
-    (λ c. search serve-run)
+    -- returns-13
+    (λ c. search beside-run)
     -- same-length-57
     (λ c. search needs)
     -- same-length-58
@@ -223,8 +221,8 @@ serve-spec =
     (λ c. search needs)
     -- same-length-60
     (λ c. search needs)
-    -- returns-15
-    (λ c. search (serve-any, refl))
+    -- returns-14
+    (λ c. search beside-run)
     -- same-length-61
     (λ c. search needs)
     -- same-length-62
@@ -233,5 +231,17 @@ serve-spec =
     (λ c. search needs)
     -- same-length-64
     (λ c. search needs)
+    -- same-length-65
+    (λ c. search needs)
+    -- returns-15
+    (λ c. search (beside-any, refl))
+    -- same-length-66
+    (λ c. search needs)
+    -- same-length-67
+    (λ c. search needs)
+    -- same-length-68
+    (λ c. search needs)
+    -- same-length-69
+    (λ c. search needs)
     -- returns-16
-    (λ c. search (serve-any, refl)))
+    (λ c. search (beside-any, refl)))

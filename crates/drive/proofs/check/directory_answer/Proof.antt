@@ -8,17 +8,23 @@ pub directory-answer-spec : {M : Type 1} → statement M
 directory-answer-spec =
     tie.close
     (tie.spec
-    -- good-entries-requires
+    -- judge-all-requires
     (λ c κs. search needs)
     -- is-sound-requires
     (λ c κs. search needs)
+    -- same-length
+    (λ c. search needs)
     -- returns
     (λ c. search answering)
     -- headless-requires
     (λ c κs. search answering)
     -- entries-requires
     (λ c κs. search needs)
+    -- same-length-2
+    (λ c. search needs)
     -- returns-2
     (λ c. search answering)
+    -- same-length-3
+    (λ c. search needs)
     -- returns-3
     (λ c. search answering))

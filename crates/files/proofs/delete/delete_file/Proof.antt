@@ -18,5 +18,7 @@ delete-file-spec =
     (λ c. search needs)
     -- same-length-2
     (λ c. search needs)
+    -- same-length-3
+    (λ c. search needs)
     -- returns
-    (λ c. search delete-called))
+    (λ c. (search delete-called, search needs)))

@@ -19,4 +19,4 @@ test-write-spec =
     -- same-length
     (λ c. search needs)
     -- returns
-    (λ c. search test-called))
+    (λ c. (search test-called, search needs)))

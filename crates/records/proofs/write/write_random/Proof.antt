@@ -18,5 +18,7 @@ write-random-spec =
     (λ c κs. search needs)
     -- same-length
     (λ c. search needs)
+    -- same-length-2
+    (λ c. search needs)
     -- returns
-    (λ c. search write-called))
+    (λ c. (search write-called, search needs)))

@@ -18,5 +18,7 @@ write-zero-fill-spec =
     (λ c κs. search needs)
     -- same-length
     (λ c. search needs)
+    -- same-length-2
+    (λ c. search needs)
     -- returns
-    (λ c. search zeros-called))
+    (λ c. (search zeros-called, search needs)))

@@ -3,8 +3,9 @@ use Prim.Native.Nat.{_-_, _≤_}
 use mathlib.Core.Path.{_≡_}
 use mathlib.Core.Bool.{true}
 use Rattle.words.specs.Tests.{all}
+use Rattle.words.specs.Bytes.{sameByte}
 use Rattle.words.proofs.Sets.{alls}
-use Rattle.rules.specs.Locks.{sameByte, sameName}
+use Rattle.rules.specs.Locks.{sameName}
 use Rattle.rules.proofs.tests.same_name.Statement.{statement}
 use Rattle.rules.proofs.tests.same_name.Tie as tie
 

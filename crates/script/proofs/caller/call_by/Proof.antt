@@ -34,5 +34,7 @@ call-by-spec =
     (λ c. search needs)
     -- same-length-2
     (λ c. search needs)
+    -- same-length-3
+    (λ c. search needs)
     -- returns
     (λ c. search did-call))

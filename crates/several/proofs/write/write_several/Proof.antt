@@ -20,8 +20,10 @@ write-several-spec =
     -- mode-at-requires
     (λ c κs. search needs)
     -- write-run-requires
-    (λ c κs. (search needs, search stops-at, search asks))
+    (λ c κs. (search needs, search stops-at, search asks, search needs))
     -- same-length
+    (λ c. search needs)
+    -- same-length-2
     (λ c. search needs)
     -- returns
     (λ c. search needs))

@@ -24,6 +24,8 @@ call-one-spec =
     (λ c. search needs)
     -- same-length-3
     (λ c. search needs)
+    -- same-length-4
+    (λ c. search needs)
     -- returns
     (λ c. search one-refused)
     -- mul-put-bytes
@@ -36,11 +38,13 @@ call-one-spec =
     (λ c. search needs)
     -- put-bytes-requires
     (λ c κs. search needs)
-    -- same-length-4
-    (λ c. search needs)
     -- same-length-5
     (λ c. search needs)
     -- same-length-6
+    (λ c. search needs)
+    -- same-length-7
+    (λ c. search needs)
+    -- same-length-8
     (λ c. search needs)
     -- returns-2
     (λ c. search one-done))
