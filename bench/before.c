@@ -4,15 +4,16 @@
    Until version 2 there was one kind of drive, and nobody was told which. 4 has other names in its header, no more;
    with 5 the check of an unsound image tells an entry. Until 5 the list ended before the positions of searches, so an
    engine of those versions is lent what is before them; it has no searches. Until 6 there was no allocation vector: an
-   engine of those versions leaves it as it was. */
+   engine of those versions leaves it as it was. Until 7 there was one rule of where a file ends, which the books here
+   have, and the list ended before its byte. */
 #include <stddef.h>
 #include <stdint.h>
 
-#if VERSION < 2 || VERSION > 7
-#error "only engines of the versions 2 to 7 can be called"
+#if VERSION < 2 || VERSION > 8
+#error "only engines of the versions 2 to 8 can be called"
 #endif
 
-enum { LIST_LEN = 1315, POSITIONS = 1299 };
+enum { LIST_LEN = 1316, RULE = 1315, POSITIONS = 1299 };
 
 #define JOINED(name, what) name##_##what
 #define OF(name, what) JOINED(name, what)
@@ -41,7 +42,15 @@ enum { KEEPS_VECTORS = 1 };
 
 typedef uint32_t own_call(KIND_TYPE uint32_t, uint32_t, uint32_t, uint8_t *, size_t, uint8_t *, size_t, uint8_t *,
                           size_t, uint8_t *, size_t VECTOR_TYPE);
-typedef uint32_t own_check(KIND_TYPE const uint8_t *, size_t);
+#if VERSION < 8
+#define RULE_TYPE
+#define RULE_TOLD
+#else
+#define RULE_TYPE uint32_t,
+#define RULE_TOLD 0,
+#endif
+
+typedef uint32_t own_check(KIND_TYPE RULE_TYPE const uint8_t *, size_t);
 typedef uint32_t outer_call(uint32_t, uint32_t, uint32_t, uint32_t, uint8_t *, size_t, uint8_t *, size_t, uint8_t *,
                             size_t, uint8_t *, size_t, uint8_t *, size_t);
 typedef uint32_t outer_check(uint32_t, const uint8_t *, size_t);
@@ -61,8 +70,8 @@ uint32_t OUTER(keeps_vectors)(void) { return KEEPS_VECTORS; }
 
 /* The length of the list that the engine is lent. */
 static size_t own_list_len(size_t list_len) {
-    if (VERSION > 5 || list_len != LIST_LEN) return list_len;
-    return POSITIONS;
+    if (VERSION > 7 || list_len != LIST_LEN) return list_len;
+    return VERSION > 5 ? RULE : POSITIONS;
 }
 
 uint32_t OUTER(call)(uint32_t kind, uint32_t function, uint32_t process, uint32_t count, uint8_t *fcb, size_t fcb_len,
@@ -83,5 +92,5 @@ uint32_t OUTER(singly)(uint32_t kind, uint32_t function, uint32_t process, uint3
 
 uint32_t OUTER(check)(uint32_t kind, const uint8_t *image, size_t image_len) {
     (void)kind;
-    return OWN(check)(KIND image, image_len);
+    return OWN(check)(KIND RULE_TOLD image, image_len);
 }

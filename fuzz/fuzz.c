@@ -56,7 +56,7 @@ struct rule {
     WRITE, MPM_ERR_DIRECTORY_FULL, MPM_ERR_DISK_FULL, AFTER(MPM_ERR_PAST_END), AFTER(MPM_ERR_LOCKED),                  \
         AFTER(MPM_ERR_DIRECTORY_FULL), AFTER(MPM_ERR_DISK_FULL)
 #define PLACES {LIST, MPM_LIST_PLACES, MPM_LIST_POSITIONS}
-#define POSITION {LIST, MPM_LIST_POSITIONS, MPM_LIST_LEN} /* of the caller only */
+#define POSITION {LIST, MPM_LIST_POSITIONS, MPM_LIST_RULE} /* of the caller only */
 #define FINDS ALL, MPM_FOUND(1u), MPM_FOUND(2u), MPM_FOUND(3u), MPM_NO_MATCH
 #define FOUND {DMA, MPM_DMA_ENTRIES, MPM_RECORD_LEN}, POSITION
 #define OPENED {FCB, 12, 32}, {FCB, MPM_FCB_RECORD, MPM_FCB_LEN}, PLACES
@@ -266,6 +266,9 @@ static uint32_t run(engine *e, const struct call *c, struct state *s) {
              b[LIST].bytes, b[LIST].length, b[IMAGE].bytes, b[IMAGE].length, b[VECTOR].bytes, b[VECTOR].length);
 }
 
+/* The rule by which an image beside the list is judged. */
+static uint32_t judged_by(const struct state *s) { return mpm_rule_of(s->of[LIST].bytes, s->of[LIST].length); }
+
 /* ---- The checks of a call ---- */
 
 static bool bad_call(const struct call *c, const struct state *s) {
@@ -290,22 +293,22 @@ static uint32_t other_kind(uint32_t kind) { return kind == MPM_KIND_SMALL ? MPM_
 
 /* The image check of the told kind and of another: wrong length exactly where the kind has no such drive; the entry and
    the reason those of the plain C version. */
-static uint32_t check_kind(const struct call *c, uint32_t kind, const struct buffer *image) {
+static uint32_t check_kind(const struct call *c, uint32_t kind, uint32_t rule, const struct buffer *image) {
     bool whole = mpm_blocks(kind, image->length) != 0;
-    uint32_t check = mpm_check(kind, image->bytes, image->length), code = mpm_check_code(check);
+    uint32_t check = mpm_check(kind, rule, image->bytes, image->length), code = mpm_check_code(check);
     want(whole == (check != MPM_CHECK_WRONG_LENGTH), c, "the image check is wrong about the length");
     want(code <= MPM_CHECK_NO_EXTENT_0 && (code >= MPM_CHECK_BAD_USER || check == code), c, "no answer of a check");
     want(code < MPM_CHECK_BAD_USER || mpm_check_entry(check) < mpm_entries(kind), c, "no entry of the directory");
-    want(check == plain_check(kind, image->bytes, image->length), c, "the plain C version tells another entry");
+    want(check == plain_check(kind, rule, image->bytes, image->length), c, "the plain C version tells another entry");
     count_check(kind, code);
     return check;
 }
 
 /* Whether a buffer is the vector of an image that is sound, by the plain C version. */
-static bool agrees(uint32_t kind, const struct buffer *image, const struct buffer *vector) {
+static bool agrees(uint32_t kind, uint32_t rule, const struct buffer *image, const struct buffer *vector) {
     uint8_t due[MPM_LARGE_VECTOR_LEN];
     size_t length = mpm_vector_len(kind);
-    return vector->length == length && plain_vector(kind, image->bytes, image->length, due, length) == MPM_OK &&
+    return vector->length == length && plain_vector(kind, rule, image->bytes, image->length, due, length) == MPM_OK &&
            memcmp(due, vector->bytes, length) == 0;
 }
 
@@ -315,13 +318,13 @@ static void check_vector(const struct call *c, const struct state *before) {
     const struct buffer *image = &before->of[IMAGE], *vector = &before->of[VECTOR];
     bool judged =
         c->answer != MPM_ERR_BAD_CALL && c->answer != MPM_ERR_BAD_IMAGE && c->answer != MPM_ERR_BAD_LIST;
-    bool due = judged && !agrees(c->kind, image, vector);
+    bool due = judged && !agrees(c->kind, judged_by(before), image, vector);
     want((c->answer == MPM_ERR_BAD_VECTOR) == due, c, due ? "255/14 is due" : "255/14 is not due");
     struct buffer ours = new_buffer(vector->length), plain = new_buffer(vector->length);
     memset(ours.bytes, 0xAA, ours.length);
     memset(plain.bytes, 0xAA, plain.length);
-    want(mpm_vector(c->kind, image->bytes, image->length, ours.bytes, ours.length) ==
-             plain_vector(c->kind, image->bytes, image->length, plain.bytes, plain.length),
+    want(mpm_vector(c->kind, c->count, image->bytes, image->length, ours.bytes, ours.length) ==
+             plain_vector(c->kind, c->count, image->bytes, image->length, plain.bytes, plain.length),
          c, "the plain C version of building gives another answer");
     want(same_bytes(&ours, &plain), c, "the plain C version builds otherwise");
     free(ours.memory);
@@ -370,7 +373,7 @@ static void check_pack(const struct call *c, const struct state *before) {
                               plain.length),
          c, "the plain C version of packing gives another answer");
     want(same_bytes(&packed, &plain), c, "the plain C version packs otherwise");
-    want(answer != MPM_OK || mpm_check(c->kind, packed.bytes, packed.length) == MPM_CHECK_SOUND, c,
+    want(answer != MPM_OK || mpm_check(c->kind, judged_by(before), packed.bytes, packed.length) == MPM_CHECK_SOUND, c,
          "a packed book is not sound");
     if (answer == MPM_OK) check_moved(c, image, &packed);
     check_same(c, image, &packed);
@@ -382,19 +385,19 @@ static void check_pack(const struct call *c, const struct state *before) {
 }
 
 /* On copies: an image that is not sound is after salvage, and the plain C version leaves the same bytes. */
-static void check_salvage(const struct call *c, uint32_t kind, const struct buffer *image) {
+static void check_salvage(const struct call *c, uint32_t kind, uint32_t rule, const struct buffer *image) {
     struct buffer ours = new_buffer(image->length), plain = new_buffer(image->length);
     struct buffer report = new_buffer(mpm_entries(kind)), plain_report = new_buffer(mpm_entries(kind));
     memcpy(ours.bytes, image->bytes, image->length);
     memcpy(plain.bytes, image->bytes, image->length);
     memset(report.bytes, 0xAA, report.length);
     memset(plain_report.bytes, 0xAA, report.length);
-    uint32_t answer = mpm_salvage(kind, ours.bytes, ours.length, report.bytes, report.length);
-    want(answer == plain_salvage(kind, plain.bytes, plain.length, plain_report.bytes, plain_report.length), c,
+    uint32_t answer = mpm_salvage(kind, rule, ours.bytes, ours.length, report.bytes, report.length);
+    want(answer == plain_salvage(kind, rule, plain.bytes, plain.length, plain_report.bytes, plain_report.length), c,
          "the plain C version of salvage gives another answer");
     want(same_bytes(&ours, &plain), c, "the plain C version of salvage leaves another image");
     want(same_bytes(&report, &plain_report), c, "the plain C version of salvage reports otherwise");
-    want((answer == MPM_SALVAGE_DONE) == (mpm_check(kind, ours.bytes, ours.length) == MPM_CHECK_SOUND), c,
+    want((answer == MPM_SALVAGE_DONE) == (mpm_check(kind, rule, ours.bytes, ours.length) == MPM_CHECK_SOUND), c,
          "what was mended is not sound");
     free(ours.memory);
     free(plain.memory);
@@ -404,9 +407,11 @@ static void check_salvage(const struct call *c, uint32_t kind, const struct buff
 
 static void check_image(const struct call *c, const struct state *before) {
     const struct buffer *image = &before->of[IMAGE];
-    uint32_t check = check_kind(c, c->kind, image), other = check_kind(c, other_kind(c->kind), image);
+    uint32_t rule = judged_by(before), check = check_kind(c, c->kind, rule, image);
+    uint32_t other = check_kind(c, other_kind(c->kind), c->count, image);
+    check_kind(c, c->kind, 256u + c->count, image);
     want(check == MPM_CHECK_WRONG_LENGTH || other == MPM_CHECK_WRONG_LENGTH, c, "an image is one of both kinds");
-    if (check != MPM_CHECK_SOUND) check_salvage(c, c->kind, image);
+    if (check != MPM_CHECK_SOUND) check_salvage(c, c->kind, rule, image);
     if (c->function == MPM_FN_FREE_SPACE || c->function == MPM_FN_TERMINATE) check_pack(c, before);
     if (c->answer == MPM_ERR_BAD_CALL) return;
     want((c->answer == MPM_ERR_BAD_IMAGE) == (check != MPM_CHECK_SOUND), c, "the image check says otherwise");
@@ -435,9 +440,10 @@ static void check_sound(const struct call *c, struct state *copy, const struct s
     const struct call free_space = {c->kind, MPM_FN_FREE_SPACE, 0, 1, 0};
     const struct buffer *image = &after->of[IMAGE];
     copy_into(copy, after);
-    want(mpm_check(c->kind, image->bytes, image->length) == MPM_CHECK_SOUND, c, "the image is not sound afterwards");
+    want(mpm_check(c->kind, judged_by(after), image->bytes, image->length) == MPM_CHECK_SOUND, c,
+         "the image is not sound afterwards");
     want(run(mpm_call, &free_space, copy) == MPM_OK, c, "list or vector are not sound afterwards");
-    want(agrees(c->kind, image, &after->of[VECTOR]), c, "the vector disagrees afterwards");
+    want(agrees(c->kind, judged_by(after), image, &after->of[VECTOR]), c, "the vector disagrees afterwards");
     want(mpm_get(copy->of[DMA].bytes + MPM_DMA_FREE, 3) ==
              mpm_free_records(c->kind, image->length, after->of[VECTOR].bytes),
          c, "46 and the vector tell another free space");
@@ -451,8 +457,12 @@ static uint32_t look(const struct call *c, const struct state *s, uint32_t i) {
     struct buffer user = part(&s->of[LIST], MPM_LIST_USERS + c->process, 1);
     uint32_t record = c->count;
     if (number.length == 3) record = number.bytes[0] + 256u * number.bytes[1] + 65536u * number.bytes[2];
-    uint32_t at = mpm_look(c->kind, user.length == 1 ? user.bytes[0] : c->process, name.bytes, name.length, record + i,
-                           image->bytes, image->length);
+    uint32_t of_user = user.length == 1 ? user.bytes[0] : c->process;
+    uint32_t at = mpm_look(c->kind, judged_by(s), of_user, name.bytes, name.length, record + i, image->bytes,
+                           image->length);
+    want(at == plain_look(c->kind, judged_by(s), of_user, name.bytes, name.length, record + i, image->bytes,
+                          image->length),
+         c, "the plain C version looks elsewhere");
     bool whole = mpm_blocks(c->kind, image->length) != 0;
     bool inside = at >= MPM_DIRECTORY_BLOCKS * mpm_block_len(c->kind) && (size_t)at + MPM_RECORD_LEN <= image->length;
     want(at == 0 || (whole && inside && at % MPM_RECORD_LEN == 0), c, "Look shows something that is no record");
@@ -473,10 +483,10 @@ static void check_look(const struct call *c, const struct state *after) {
 
 /* Start, with the call's numbers and the list's users, over a list of the same length. */
 static void check_start(const struct call *c, const struct state *s) {
-    const uint32_t numbers[] = {c->function, c->process, c->count};
+    const uint32_t numbers[] = {c->function, c->process, c->count}, rule = c->count % 3u;
     struct buffer users = part(&s->of[LIST], MPM_LIST_USERS, MPM_USERS_LEN);
     struct buffer list = new_buffer(s->of[LIST].length), due = new_buffer(list.length);
-    bool good = c->kind < MPM_KINDS && list.length == MPM_LIST_LEN;
+    bool good = c->kind < MPM_KINDS && rule < MPM_RULES && list.length == MPM_LIST_LEN;
     for (size_t i = 0; i < 3; i++) good = good && numbers[i] >= 1 && numbers[i] <= MPM_PLACES;
     for (size_t i = 0; i < users.length; i++) good = good && users.bytes[i] < MPM_USERS;
     memset(list.bytes, 0xA5, list.length);
@@ -484,8 +494,9 @@ static void check_start(const struct call *c, const struct state *s) {
     for (size_t i = 0; good && i < 3; i++) due.bytes[i] = (uint8_t)numbers[i];
     if (good) memcpy(due.bytes + MPM_LIST_USERS, users.bytes, users.length);
     if (good) memset(due.bytes + MPM_LIST_POSITIONS, (int)mpm_entries(c->kind), MPM_PROCESSES);
-    uint32_t answer =
-        mpm_start(c->kind, numbers[0], numbers[1], numbers[2], users.bytes, users.length, list.bytes, list.length);
+    if (good) due.bytes[MPM_LIST_RULE] = (uint8_t)rule;
+    uint32_t answer = mpm_start(c->kind, numbers[0], numbers[1], numbers[2], rule, users.bytes, users.length,
+                                list.bytes, list.length);
     want(answer == (good ? MPM_OK : MPM_ERR_BAD_CALL) && same_bytes(&list, &due), c, "Start does otherwise");
     free(list.memory);
     free(due.memory);
@@ -563,7 +574,7 @@ static void build_vector(struct state *s, uint32_t kind) {
     struct buffer *vector = &s->of[VECTOR], *image = &s->of[IMAGE];
     if (kind >= MPM_KINDS) return;
     if (vector->length != mpm_vector_len(kind)) set_length(vector, mpm_vector_len(kind), 0);
-    mpm_vector(kind, image->bytes, image->length, vector->bytes, vector->length);
+    mpm_vector(kind, judged_by(s), image->bytes, image->length, vector->bytes, vector->length);
 }
 
 static void play_call(struct state *s, uint32_t drive, const uint8_t *step) {

@@ -192,6 +192,10 @@ selftest() {
         "DIRECTORY_NOT_JUDGED takes any bits of the directory" "TAKES_A_LONGER_ONE takes a longer vector"
         "KEEPS_OLD_BITS builds over old bits" "FORGETS_THE_DIRECTORY builds without the directory's bits"
         "CLEARS_AT_REFUSAL clears what it does not build" "IMAGE_BEFORE_LENGTH has 255/1 before 255/13")
+    local rules=("ALWAYS_MPM has one rule" "LOCKS_BY_MPM locks by one rule" "TAKES_A_BYTE_OF_2 takes a rule of 2"
+        "LIST_BEFORE_IMAGE has 255/12 before 255/1 for a bad rule" "STARTS_WITH_ANY_RULE starts with any rule"
+        "FORGETS_THE_RULE starts without the rule" "CHECK_CUTS_THE_RULE checks by a rule cut to a byte"
+        "LOOKS_BY_MPM looks by one rule" "BUILDS_BY_MPM builds by one rule")
     local n fault
     for n in "${!stubs[@]}"; do
         compile bad.o -DSTUB=$((n + 1)) "$root/tests/pipe/stub.c"
@@ -210,6 +214,12 @@ selftest() {
     compile bad-fuzz.o -Dmpm_call=wrong_call -Dmpm_singly=wrong_singly -Dmpm_vector=wrong_vector "$here/fuzz.c"
     for fault in "${vectors[@]}"; do
         compile bad.o -DWRONG="${fault%% *}" "$root/tests/pipe/wrong_vector.c"
+        finds "${fault#* }" bad-fuzz.o bad.o engine1.o
+    done
+    compile bad-fuzz.o -Dmpm_call=wrong_call -Dmpm_singly=wrong_singly -Dmpm_start=wrong_start \
+        -Dmpm_check=wrong_check -Dmpm_look=wrong_look -Dmpm_vector=wrong_vector "$here/fuzz.c"
+    for fault in "${rules[@]}"; do
+        compile bad.o -DWRONG="${fault%% *}" "$root/tests/pipe/wrong_rule.c"
         finds "${fault#* }" bad-fuzz.o bad.o engine1.o
     done
 }

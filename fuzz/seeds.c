@@ -539,6 +539,28 @@ static void wrong_bits(uint32_t kind) {
     save();
 }
 
+/* Both rules at their ends, a rule that is none, and a module that is good by one of them. */
+static void both_rules(uint32_t kind) {
+    static const uint32_t ends[] = {65535, 65536, 262143, 262144};
+    set_drive(kind, fewest(kind, 9));
+    call(1, MPM_FN_MAKE, A_UNLOCKED, 0, 1, 0);
+    for (size_t i = 0; i < sizeof ends / sizeof ends[0]; i++) {
+        PUT(LIST, MPM_LIST_RULE, 1, 1, NOTHING_RISES, "\001");
+        call(1, MPM_FN_WRITE, A, ends[i] - 1, 2, 0);
+        call(1, MPM_FN_LOCK, A, ends[i], 1, 0);
+        call(1, MPM_FN_UNLOCK, A, ends[i] - 1, 2, 0);
+        PUT(LIST, MPM_LIST_RULE, 1, 1, NOTHING_RISES, "\000");
+        call(1, MPM_FN_WRITE_ZEROS, A, ends[i] - 1, 2, 0);
+        call(1, MPM_FN_READ, A, ends[i], 1, 0);
+        call(1, MPM_FN_TEST_WRITE, A, ends[i], 1, 0);
+    }
+    PUT(LIST, MPM_LIST_RULE, 1, 1, NOTHING_RISES, "\001");
+    call(1, MPM_FN_SIZE, A, 0, 1, 0);
+    PUT(LIST, MPM_LIST_RULE, 1, 1, NOTHING_RISES, "\002");
+    call(1, MPM_FN_SIZE, A, 0, 1, 0);
+    save();
+}
+
 static void wrong_numbers(void) {
     set_drive(MPM_KIND_SMALL, 4);
     call(0, 271, A, 0, 1, 0)[1] = WILD_FUNCTION;
@@ -568,6 +590,7 @@ static void seeds_of(uint32_t kind) {
     all_full(kind);
     bad_entries(kind);
     wrong_bits(kind);
+    both_rules(kind);
 }
 
 int main(int argc, char **argv) {

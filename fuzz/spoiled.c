@@ -96,8 +96,8 @@ static void set_record(uint8_t *fcb, uint32_t record) {
 
 /* Where a record of the call's file is in the image, or 0. */
 static uint32_t look(const struct lent *c, uint32_t record) {
-    return mpm_look(c->kind, c->list[MPM_LIST_USERS + c->process], c->fcb + MPM_FCB_NAME, MPM_NAME_LEN, record,
-                    c->image, c->image_len);
+    return mpm_look(c->kind, mpm_rule_of(c->list, c->list_len), c->list[MPM_LIST_USERS + c->process],
+                    c->fcb + MPM_FCB_NAME, MPM_NAME_LEN, record, c->image, c->image_len);
 }
 
 /* ---- Faults of calls ---- */
@@ -243,7 +243,7 @@ static bool is_readable(const struct lent *c) {
 }
 
 static bool is_sound_large(const struct lent *c) {
-    return c->kind == MPM_KIND_LARGE && mpm_check(c->kind, c->image, c->image_len) == MPM_CHECK_SOUND;
+    return c->kind == MPM_KIND_LARGE && mpm_check(c->kind, MPM_RULE_MPM, c->image, c->image_len) == MPM_CHECK_SOUND;
 }
 
 /* Of the numbers that the call has given. */
@@ -465,10 +465,10 @@ static uint32_t extent_0_in_turn(uint32_t kind, const uint8_t *image, uint32_t c
     return check;
 }
 
-uint32_t spoiled_check(uint32_t kind, const uint8_t *image, size_t image_len);
+uint32_t spoiled_check(uint32_t kind, uint32_t rule, const uint8_t *image, size_t image_len);
 
-uint32_t spoiled_check(uint32_t kind, const uint8_t *image, size_t image_len) {
-    uint32_t check = mpm_check(kind, image, image_len);
+uint32_t spoiled_check(uint32_t kind, uint32_t rule, const uint8_t *image, size_t image_len) {
+    uint32_t check = mpm_check(kind, rule, image, image_len);
     if (check == MPM_CHECK_SOUND) return check;
     if (check == MPM_CHECK_WRONG_LENGTH) return SPOILED == LENGTH_OF_ENTRY_1 ? check + 256u : check;
     switch (SPOILED) {

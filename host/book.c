@@ -13,6 +13,9 @@
                                        how many of them were moved
      book compare OLD NEW              one line: whether two images hold the same book, or what differs first
 
+   Before the images, --rule 2.2 has them judged by the rule of CP/M 2.2, under which modules end at 15; else it is that
+   of MP/M II. Two images are compared by that of MP/M II, whatever is said.
+
    Exit status: 0 if all images are sound, all files there and both books the same, 1 if one is not; for salvage 1 if
    the image was not sound and NEW is. 2 for an image that cannot be read, mended or compared, a new file that cannot be
    made or was there already, a word that is no file's name or no user and for wrong use. NEW is made with status 0, and
@@ -35,6 +38,11 @@ enum { NAME_PART = 8, TEXT = 16 };
 static uint8_t bytes[MPM_LARGE_MAX_BLOCKS * MPM_LARGE_BLOCK_LEN + 1];
 /* What is made of it, or another image. */
 static uint8_t made[sizeof bytes];
+
+/* By which images are judged. */
+static uint32_t rule = MPM_RULE_MPM;
+
+static uint32_t last_module(void) { return mpm_records(rule) / (32u * MPM_EXTENT_RECORDS) - 1u; }
 
 struct image {
     const char *path;
@@ -140,7 +148,7 @@ static uint32_t own_fault(const struct image *image, uint32_t entry) {
     const uint8_t *at = entry_at(image, entry);
     if (at[0] >= MPM_USERS) return MPM_CHECK_BAD_USER;
     if (illegal_at(image, entry) < MPM_NAME_LEN) return MPM_CHECK_BAD_NAME;
-    return at[EX] > 31 || at[MODULE] > 63 || at[COUNT] > 128 ? MPM_CHECK_BAD_NUMBER : MPM_CHECK_SOUND;
+    return at[EX] > 31 || at[MODULE] > last_module() || at[COUNT] > 128 ? MPM_CHECK_BAD_NUMBER : MPM_CHECK_SOUND;
 }
 
 /* The lowest entry of the same file and extent that is good in itself; the entry where there is none before it. */
@@ -177,8 +185,8 @@ static void say_number(const struct image *image, uint32_t entry, const char *do
     say_file(image, entry, done);
     if (at[EX] > 31) {
         printf("its ex is %u, over 31", at[EX]);
-    } else if (at[MODULE] > 63) {
-        printf("its module is %u, over 63", at[MODULE]);
+    } else if (at[MODULE] > last_module()) {
+        printf("its module is %u, over %u", at[MODULE], (unsigned)last_module());
     } else {
         printf("its record count is %u, over 128", at[COUNT]);
     }
@@ -260,7 +268,7 @@ static int say_check(const struct image *image, uint32_t check) {
 
 static int check_image(const struct image *image) {
     printf("%s: ", image->path);
-    int status = say_check(image, mpm_check(image->kind, image->bytes, image->length));
+    int status = say_check(image, mpm_check(image->kind, rule, image->bytes, image->length));
     printf("\n");
     return status;
 }
@@ -295,7 +303,7 @@ static uint32_t user_of(const char *word, const char **name) {
 static uint32_t start_list(const struct image *image, uint32_t user, uint8_t *list) {
     uint8_t users[MPM_USERS_LEN];
     memset(users, (int)user, sizeof users);
-    return mpm_start(image->kind, 1, 1, 1, users, sizeof users, list, MPM_LIST_LEN);
+    return mpm_start(image->kind, 1, 1, 1, rule, users, sizeof users, list, MPM_LIST_LEN);
 }
 
 /* A book of the image on which every process is this user. The image stays as it is: 17, 18 and 35, which are all that
@@ -338,7 +346,7 @@ static int size_all(int count, char **words) {
     struct image image;
     int status = DONE;
     if (!load(&image, words[0])) return fail(words[0], "cannot be read");
-    if (mpm_check(image.kind, image.bytes, image.length) != MPM_CHECK_SOUND) return check_image(&image);
+    if (mpm_check(image.kind, rule, image.bytes, image.length) != MPM_CHECK_SOUND) return check_image(&image);
     for (int i = 1; i < count; i++) status = worse(status, say_size(&image, words[i]));
     return status;
 }
@@ -406,7 +414,7 @@ static int list_files(int count, char **words) {
     if (count > 1) first = last = user_told(words[1]);
     if (first == MPM_USERS) return fail(words[1], "A user is a number from 0 to 15.");
     if (!load(&image, words[0])) return fail(words[0], "cannot be read");
-    if (mpm_check(image.kind, image.bytes, image.length) != MPM_CHECK_SOUND) return check_image(&image);
+    if (mpm_check(image.kind, rule, image.bytes, image.length) != MPM_CHECK_SOUND) return check_image(&image);
     for (uint32_t user = first; user <= last; user++) files += list_user(&image, user, &status);
     if (files == 0 && status == DONE) printf("%s: no files\n", image.path);
     return status;
@@ -417,7 +425,8 @@ static int list_files(int count, char **words) {
 /* As the allocation vector tells it. */
 static int say_free(const struct image *image) {
     uint8_t vector[MPM_LARGE_VECTOR_LEN];
-    uint32_t answer = mpm_vector(image->kind, image->bytes, image->length, vector, mpm_vector_len(image->kind));
+    uint32_t answer =
+        mpm_vector(image->kind, rule, image->bytes, image->length, vector, mpm_vector_len(image->kind));
     if (answer != MPM_OK) return fail(image->path, mpm_answer_text(0, answer));
     uint32_t records = mpm_free_records(image->kind, image->length, vector);
     printf("%s: %u of %u blocks free, ", image->path, (unsigned)(records / mpm_block_records(image->kind)),
@@ -431,7 +440,7 @@ static int say_free(const struct image *image) {
 static int free_image(const char *path) {
     struct image image;
     if (!load(&image, path)) return fail(path, "cannot be read");
-    if (mpm_check(image.kind, image.bytes, image.length) != MPM_CHECK_SOUND) return check_image(&image);
+    if (mpm_check(image.kind, rule, image.bytes, image.length) != MPM_CHECK_SOUND) return check_image(&image);
     return say_free(&image);
 }
 
@@ -513,9 +522,10 @@ static int salvage(int count, char **words) {
     if (before.kind == MPM_KINDS) return worse(FAILED, check_image(&before));
     after = before, after.path = words[2], after.bytes = made;
     memcpy(made, before.bytes, before.length);
-    uint32_t answer = mpm_salvage(after.kind, made, after.length, report, mpm_entries(after.kind));
+    uint32_t answer = mpm_salvage(after.kind, rule, made, after.length, report, mpm_entries(after.kind));
     if (answer != MPM_SALVAGE_DONE) return fail(before.path, mpm_salvage_text(answer));
-    if (mpm_check(after.kind, made, after.length) != MPM_CHECK_SOUND) return fail(before.path, "cannot be mended");
+    if (mpm_check(after.kind, rule, made, after.length) != MPM_CHECK_SOUND)
+        return fail(before.path, "cannot be mended");
     int status = keep(after.path, made, after.length);
     return status == DONE ? say_salvaged(&before, &after, report) : status;
 }
@@ -559,7 +569,7 @@ static int pack(int count, char **words) {
     (void)count;
     if (!is_output(words)) return wrong_use();
     if (!load(&before, words[0])) return fail(words[0], "cannot be read");
-    if (mpm_check(before.kind, before.bytes, before.length) != MPM_CHECK_SOUND) return check_image(&before);
+    if (mpm_check(before.kind, rule, before.bytes, before.length) != MPM_CHECK_SOUND) return check_image(&before);
     after = before, after.path = words[2], after.bytes = made;
     uint32_t answer = start_list(&before, 0, list);
     if (answer == MPM_OK)
@@ -730,16 +740,29 @@ static const struct verb {
 
 static int wrong_use(void) {
     for (size_t i = 0; i < sizeof verbs / sizeof verbs[0]; i++)
-        fprintf(stderr, "use: book %s %s\n", verbs[i].word, verbs[i].words);
+        fprintf(stderr, "use: book %s [--rule 2.2] %s\n", verbs[i].word, verbs[i].words);
     return FAILED;
 }
 
+/* Takes --rule 2.2 from behind the verb, if it stands there. 0 for another rule. */
+static int take_rule(int *count, char ***words) {
+    if (*count == 0 || strcmp((*words)[0], "--rule") != 0) return 1;
+    if (*count == 1 || strcmp((*words)[1], "2.2") != 0) return 0;
+    rule = MPM_RULE_CPM;
+    *count -= 2;
+    *words += 2;
+    return 1;
+}
+
 int main(int argc, char **argv) {
-    for (size_t i = 0; argc > 1 && i < sizeof verbs / sizeof verbs[0]; i++) {
+    int count = argc - 2;
+    char **words = argv + 2;
+    if (argc < 2 || !take_rule(&count, &words)) return wrong_use();
+    for (size_t i = 0; i < sizeof verbs / sizeof verbs[0]; i++) {
         const struct verb *verb = &verbs[i];
         if (strcmp(argv[1], verb->word) != 0) continue;
-        if (argc - 2 < verb->least || (verb->most > 0 && argc - 2 > verb->most)) return wrong_use();
-        return verb->run(argc - 2, argv + 2);
+        if (count < verb->least || (verb->most > 0 && count > verb->most)) return wrong_use();
+        return verb->run(count, words);
     }
     return wrong_use();
 }

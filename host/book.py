@@ -294,6 +294,32 @@ def frees(desk, kind):
     desk.has_kept(some, Image(kind).bytes)
 
 
+def rules(desk, kind):
+    """A module of 15 is sound by both rules, one of 16 by that of MP/M II alone."""
+    low, high = (desk.keep(Image(kind).poke(9, 14, module).bytes) for module in (15, 16))
+    why = f"{high}: entry 9, BUDGET.DAT of user 3: its module is 16, over 15"
+    desk.says(["check", low, high], [f"{low}: sound", f"{high}: sound"], DONE)
+    desk.says(["check", "--rule", "2.2", low, high], [f"{low}: sound", why], NOT_SO)
+    for verb in (["size", "--rule", "2.2", high, "3:BUDGET.DAT"], ["list", "--rule", "2.2", high]):
+        desk.says(verb, [why], NOT_SO)
+    desk.says(["free", "--rule", "2.2", high, low], [why, free_line(low, kind, kind.blocks, 4)], NOT_SO)
+    desk.says(["size", "--rule", "2.2", low, "3:BUDGET.DAT"], [f"{low}: BUDGET.DAT of user 3: {size_line(15)}"], DONE)
+    desk.says(["size", high, "3:BUDGET.DAT"], [f"{high}: BUDGET.DAT of user 3: {size_line(16)}"], DONE)
+    new = desk.new()
+    lines = [
+        f"entry 9, BUDGET.DAT of user 3: emptied, its module is 16, over 15",
+        f"{high}: 1 entry emptied, 0 block numbers zeroed in 0 entries; sound now, in {new}",
+    ]
+    desk.says(["salvage", "--rule", "2.2", high, "-o", new], lines, NOT_SO)
+    desk.says(["pack", "--rule", "2.2", high, "-o", desk.new()], [why], NOT_SO)
+
+
+def size_line(module):
+    """Extent 1 of the module, with seven records of it."""
+    records = 128 * (1 + 32 * module) + 7
+    return f"{records} records, {128 * records} bytes"
+
+
 class Mended:
     """A damaged image, what it has to become, and the lines that have to be said of its entries."""
 
@@ -551,9 +577,10 @@ VERBS = (
 
 
 def wrong_use(desk):
-    use = "".join(f"use: book {verb}\n" for verb in VERBS)
+    words = (verb.partition(" ") for verb in VERBS)
+    use = "".join(f"use: book {verb} [--rule 2.2] {rest}\n" for verb, _, rest in words)
     bad = [[], ["check"], ["chekc", "x"], ["-h"], ["size"], ["size", "x"], ["list"], ["list", "x", "0", "1"]]
-    bad.append(["free"])
+    bad += [["free"], ["check", "--rule"], ["check", "--rule", "2.3", "x"], ["check", "--rule", "2.2"]]
     for verb in ("salvage", "pack"):
         bad += [[verb], [verb, "x"], [verb, "x", "-o"], [verb, "x", "y", "z"], [verb, "x", "-o", "y", "z"]]
     bad += [["compare"], ["compare", "x"], ["compare", "x", "y", "z"]]
@@ -571,6 +598,7 @@ def main():
         sizes(desk, kind)
         lists(desk, kind)
         frees(desk, kind)
+        rules(desk, kind)
         salvages(desk, kind)
         packs(desk, kind)
         compares(desk, kind)

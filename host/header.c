@@ -8,17 +8,18 @@
 #include "mpm.h"
 #include "mpm.h"
 
-#if MPM_VERSION != 7
-#error "the checks below are those of version 7"
+#if MPM_VERSION != 8
+#error "the checks below are those of version 8"
 #endif
 
 typedef uint32_t call_type(uint32_t, uint32_t, uint32_t, uint32_t, uint8_t *, size_t, uint8_t *, size_t, uint8_t *,
                            size_t, uint8_t *, size_t, uint8_t *, size_t);
-typedef uint32_t vector_type(uint32_t, const uint8_t *, size_t, uint8_t *, size_t);
-typedef uint32_t start_type(uint32_t, uint32_t, uint32_t, uint32_t, const uint8_t *, size_t, uint8_t *, size_t);
-typedef uint32_t check_type(uint32_t, const uint8_t *, size_t);
-typedef uint32_t look_type(uint32_t, uint32_t, const uint8_t *, size_t, uint32_t, const uint8_t *, size_t);
-typedef uint32_t salvage_type(uint32_t, uint8_t *, size_t, uint8_t *, size_t);
+typedef uint32_t vector_type(uint32_t, uint32_t, const uint8_t *, size_t, uint8_t *, size_t);
+typedef uint32_t start_type(uint32_t, uint32_t, uint32_t, uint32_t, uint32_t, const uint8_t *, size_t, uint8_t *,
+                            size_t);
+typedef uint32_t check_type(uint32_t, uint32_t, const uint8_t *, size_t);
+typedef uint32_t look_type(uint32_t, uint32_t, uint32_t, const uint8_t *, size_t, uint32_t, const uint8_t *, size_t);
+typedef uint32_t salvage_type(uint32_t, uint32_t, uint8_t *, size_t, uint8_t *, size_t);
 typedef uint32_t pack_type(uint32_t, const uint8_t *, size_t, const uint8_t *, size_t, uint8_t *, size_t);
 typedef uint32_t same_type(uint32_t, const uint8_t *, size_t, const uint8_t *, size_t);
 typedef uint32_t book_call_type(struct mpm_book *, uint32_t, uint32_t, uint32_t, uint8_t *, uint8_t *);
@@ -52,7 +53,8 @@ book_vector_type *const header_book_vector = mpm_book_vector;
 
 HOLDS(byte_is_one, sizeof(uint8_t) == 1 && sizeof(uint32_t) == 4 && sizeof(size_t) == sizeof(void *));
 HOLDS(places_fit, MPM_LIST_PLACES + MPM_PLACES * MPM_PLACE_LEN == MPM_LIST_POSITIONS);
-HOLDS(list_is_whole, MPM_LIST_POSITIONS + MPM_PROCESSES == MPM_LIST_LEN && MPM_LIST_LEN == 1315u);
+HOLDS(list_is_whole, MPM_LIST_POSITIONS + MPM_PROCESSES == MPM_LIST_RULE && MPM_LIST_RULE + 1u == MPM_LIST_LEN);
+HOLDS(rules_are_all, MPM_RULE_MPM == 0u && MPM_RULE_CPM == 1u && MPM_RULES == 2u && MPM_LIST_LEN == 1316u);
 HOLDS(users_fit, MPM_LIST_USERS + MPM_USERS_LEN == MPM_LIST_PLACES && MPM_USERS_LEN == MPM_PROCESSES);
 HOLDS(place_is_whole, MPM_PLACE_NAME + MPM_NAME_LEN == MPM_PLACE_MODE && MPM_PLACE_RECORD + 4u == MPM_PLACE_LEN);
 HOLDS(fcb_is_whole, MPM_FCB_RECORD + 3u == MPM_FCB_LEN && MPM_FCB_NEW_NAME + MPM_NAME_LEN <= MPM_FCB_RECORD);

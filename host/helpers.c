@@ -8,6 +8,8 @@
 
 #define COUNT(array) (sizeof(array) / sizeof(array)[0])
 
+enum { RULE = MPM_RULE_MPM }; /* of the books below */
+
 static int faults;
 
 static void want(int holds, const char *what) {
@@ -148,6 +150,18 @@ static void try_vectors(void) {
     want(mpm_free_records(MPM_KIND_LARGE, 4096 * 2048, large) == 4093 * 16, "4,093 free blocks of 4,096");
 }
 
+static void try_rules(void) {
+    static uint8_t list[MPM_LIST_LEN];
+    want(mpm_records(MPM_RULE_MPM) == MPM_RECORDS && mpm_records(MPM_RULE_CPM) == 65536, "the records of each rule");
+    want(mpm_records(2) == MPM_RECORDS && mpm_records(257) == MPM_RECORDS, "any other number is MP/M's rule");
+    want(mpm_rule_of(list, sizeof list) == MPM_RULE_MPM, "a list with MP/M's rule");
+    list[MPM_LIST_RULE] = 1;
+    want(mpm_rule_of(list, sizeof list) == MPM_RULE_CPM, "a list with CP/M's rule");
+    want(mpm_rule_of(list, sizeof list - 1) == MPM_RULE_MPM && mpm_rule_of(0, 0) == MPM_RULE_MPM, "no whole list");
+    list[MPM_LIST_RULE] = 2;
+    want(mpm_rule_of(list, sizeof list) == MPM_RULE_MPM, "a list with no rule");
+}
+
 /* ---- Answers ---- */
 
 /* Every answer of every function has a name and a sentence, and no two names have one sentence. */
@@ -262,7 +276,7 @@ static void try_book(void) {
     static const uint8_t users[MPM_USERS_LEN] = {0};
     struct mpm_book book = {MPM_KIND_SMALL, list, sizeof list, image, sizeof image, 0, 0};
     memset(image, MPM_EMPTY, sizeof image);
-    want(mpm_start(book.kind, 4, 2, 2, users, sizeof users, list, sizeof list) == MPM_OK, "a list is started");
+    want(mpm_start(book.kind, 4, 2, 2, RULE, users, sizeof users, list, sizeof list) == MPM_OK, "a list is begun");
     mpm_set_fcb(fcb, "ORDERS.DAT", MPM_MODE_UNLOCKED);
     want(mpm_book_call(&book, MPM_FN_MAKE, 3, 1, fcb, dma) == MPM_ERR_BAD_CALL, "a book without a vector is taken");
     add_vector(&book);
@@ -276,7 +290,7 @@ static void try_book(void) {
     book.vector[31] ^= 1;
     want(mpm_book_call(&book, MPM_FN_SIZE, 9, 1, fcb, dma) == MPM_ERR_BAD_VECTOR, "a bit past the drive is taken");
     book.vector[31] ^= 1;
-    want(mpm_look(book.kind, 0, fcb + 1, 11, 7, image, sizeof image) == 2 * 1024 + 7 * 128, "Look shows the record");
+    want(mpm_look(book.kind, RULE, 0, fcb + 1, 11, 7, image, sizeof image) == 2 * 1024 + 7 * 128, "Look shows it");
     want(mpm_book_call(&book, MPM_FN_SIZE, 9, 1, fcb, dma) == MPM_OK && mpm_size(fcb) == 8, "eight records");
     mpm_set_record(fcb, 7);
     mpm_set_file_id(dma, file_id);
@@ -295,16 +309,16 @@ static void try_book(void) {
     book.list_len--;
     want(mpm_book_call(&book, MPM_FN_FREE_SPACE, 3, 1, fcb, dma) == MPM_ERR_BAD_CALL, "a short list is taken");
     image[MPM_ENTRY_LEN] = 16;
-    uint32_t check = mpm_check(book.kind, image, sizeof image);
+    uint32_t check = mpm_check(book.kind, RULE, image, sizeof image);
     want(mpm_check_code(check) == MPM_CHECK_BAD_USER && mpm_check_entry(check) == 1, "entry 1 has a bad user byte");
     static uint8_t report[MPM_SMALL_ENTRIES], packed[sizeof image];
-    want(mpm_salvage(book.kind, image, sizeof image, report, 1) == MPM_SALVAGE_WRONG_REPORT, "a short report is taken");
-    want(mpm_salvage(MPM_KINDS, image, sizeof image, report, mpm_entries(book.kind)) == MPM_SALVAGE_WRONG_LENGTH,
+    want(mpm_salvage(book.kind, RULE, image, sizeof image, report, 1) == MPM_SALVAGE_WRONG_REPORT, "a short report");
+    want(mpm_salvage(MPM_KINDS, RULE, image, sizeof image, report, mpm_entries(book.kind)) == MPM_SALVAGE_WRONG_LENGTH,
          "an unknown kind is mended");
     want(image[MPM_ENTRY_LEN] == 16, "a refused salvage has changed the image");
-    want(mpm_salvage(book.kind, image, sizeof image, report, sizeof report) == MPM_SALVAGE_DONE, "it is mended");
+    want(mpm_salvage(book.kind, RULE, image, sizeof image, report, sizeof report) == MPM_SALVAGE_DONE, "it is mended");
     want(report[0] == MPM_SALVAGE_UNTOUCHED && report[1] == MPM_SALVAGE_EMPTIED, "entry 1 was emptied");
-    want(mpm_check(book.kind, image, sizeof image) == MPM_CHECK_SOUND, "a mended image is sound");
+    want(mpm_check(book.kind, RULE, image, sizeof image) == MPM_CHECK_SOUND, "a mended image is sound");
     want(mpm_book_vector(&book) == MPM_OK && book.vector[0] == 0xE0, "a mended image gets its vector");
     book.list_len++;
     want(mpm_pack(book.kind, image, sizeof image, list, sizeof list, packed, sizeof packed) == MPM_ERR_IN_USE,
@@ -312,7 +326,7 @@ static void try_book(void) {
     want(mpm_book_call(&book, MPM_FN_TERMINATE, 3, 1, fcb, dma) == MPM_OK, "the process is ended");
     want(mpm_pack(book.kind, image, sizeof image, list, sizeof list, packed, 9) == MPM_ERR_BAD_CALL, "another length");
     want(mpm_pack(book.kind, image, sizeof image, list, sizeof list, packed, sizeof packed) == MPM_OK, "it is packed");
-    want(mpm_look(book.kind, 0, fcb + 1, 11, 7, packed, sizeof packed) == 2 * 1024 + 7 * 128, "Look shows the record");
+    want(mpm_look(book.kind, RULE, 0, fcb + 1, 11, 7, packed, sizeof packed) == 2 * 1024 + 7 * 128, "Look shows it");
     want(mpm_same(book.kind, image, sizeof image, packed, sizeof packed) == MPM_SAME_BOOK, "it is the same book");
     packed[2 * 1024]++;
     want(mpm_same(book.kind, image, sizeof image, packed, sizeof packed) == MPM_SAME_DIFFERENT, "a byte is another");
@@ -329,7 +343,7 @@ static int make_files(struct mpm_book *book) {
     char name[] = "A0";
     memset(book->image, MPM_EMPTY, book->image_len);
     if (mpm_book_vector(book) != MPM_OK) return 0;
-    if (mpm_start(book->kind, 1, 1, 1, users, sizeof users, book->list, book->list_len) != MPM_OK) return 0;
+    if (mpm_start(book->kind, 1, 1, 1, RULE, users, sizeof users, book->list, book->list_len) != MPM_OK) return 0;
     for (uint32_t file = 0; file < 64; file++) {
         name[0] = (char)('A' + file / 8), name[1] = (char)('0' + file % 8);
         mpm_set_fcb(fcb, name, MPM_MODE_UNLOCKED);
@@ -350,7 +364,7 @@ static uint32_t fill(struct mpm_book *book, uint32_t capacity, uint32_t processe
     static uint8_t dma[MPM_DMA_LEN], fcb[MPM_FCB_LEN];
     uint32_t file_ids[MPM_PROCESSES] = {0}, answer;
     char name[] = "A0";
-    answer = mpm_start(book->kind, capacity, opens, locks, users, sizeof users, book->list, book->list_len);
+    answer = mpm_start(book->kind, capacity, opens, locks, RULE, users, sizeof users, book->list, book->list_len);
     for (uint32_t i = 0; i < processes * opens && answer == MPM_OK; i++) {
         name[0] = (char)('A' + i % opens / 8), name[1] = (char)('0' + i % opens % 8);
         mpm_set_fcb(fcb, name, MPM_MODE_UNLOCKED);
@@ -393,6 +407,7 @@ int main(void) {
     try_numbers();
     try_kinds();
     try_vectors();
+    try_rules();
     try_searches();
     try_answers();
     try_refusals();

@@ -105,19 +105,20 @@ static void welcome(int caller) {
 
 /* ---- Serving ---- */
 
-/* After a start every program is dead, so nobody holds anything: a new list, with the limits and users of the old. The
-   vector was built when the book was opened. */
+/* After a start every program is dead, so nobody holds anything: a new list, with the limits, users and rule of the
+   old. The vector was built when the book was opened. */
 static int begin(const char *path) {
     if (!save_open(&save, path)) return 0;
     const uint8_t *old = save.saved_list;
     const struct mpm_book *book = &save.book;
-    if (mpm_check(book->kind, book->image, book->image_len) != MPM_CHECK_SOUND) {
+    uint32_t rule = old[MPM_LIST_RULE];
+    if (mpm_check(book->kind, rule, book->image, book->image_len) != MPM_CHECK_SOUND) {
         fail(path, "the image is not sound");
         return 0;
     }
     if (mpm_start(book->kind, old[MPM_LIST_CAPACITY], old[MPM_LIST_OPEN_LIMIT], old[MPM_LIST_LOCK_LIMIT],
-                  old + MPM_LIST_USERS, MPM_USERS_LEN, book->list, book->list_len) != MPM_OK) {
-        fail(path, "the list has bad limits or users");
+                  rule, old + MPM_LIST_USERS, MPM_USERS_LEN, book->list, book->list_len) != MPM_OK) {
+        fail(path, "the list has bad limits, users or rule");
         return 0;
     }
     return save_book(&save);
@@ -169,8 +170,9 @@ static int make_book(const char *path, const char *image_path) {
     fclose(stream);
     const struct mpm_book book = {mpm_kind_of(length), list, sizeof list, image, length, 0, 0};
     if (book.kind == MPM_KINDS) return fail(image_path, "no drive has an image of this length");
-    if (mpm_check(book.kind, image, length) != MPM_CHECK_SOUND) return fail(image_path, "the image is not sound");
-    mpm_start(book.kind, CAPACITY, OPEN_LIMIT, LOCK_LIMIT, users, sizeof users, list, sizeof list);
+    if (mpm_check(book.kind, MPM_RULE_MPM, image, length) != MPM_CHECK_SOUND)
+        return fail(image_path, "the image is not sound");
+    mpm_start(book.kind, CAPACITY, OPEN_LIMIT, LOCK_LIMIT, MPM_RULE_MPM, users, sizeof users, list, sizeof list);
     return save_new(path, &book) ? DONE : FAILED;
 }
 

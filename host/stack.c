@@ -19,15 +19,16 @@ static uint32_t function, process, count, answer;
 static size_t highest;
 
 static void start(void) {
-    answer = mpm_start(book.kind, 64, 2, 20, users, sizeof users, book.list, book.list_len);
+    answer = mpm_start(book.kind, 64, 2, 20, MPM_RULE_MPM, users, sizeof users, book.list, book.list_len);
 }
-static void check(void) { answer = mpm_check(book.kind, book.image, book.image_len); }
+static void check(void) { answer = mpm_check(book.kind, MPM_RULE_MPM, book.image, book.image_len); }
 static void look(void) {
-    answer = mpm_look(book.kind, 0, fcb + MPM_FCB_NAME, MPM_NAME_LEN, 0, book.image, book.image_len) != 0 ? 0u : 1u;
+    uint32_t at = mpm_look(book.kind, MPM_RULE_MPM, 0, fcb + MPM_FCB_NAME, MPM_NAME_LEN, 0, book.image, book.image_len);
+    answer = at != 0 ? 0u : 1u;
 }
 static void build(void) { answer = mpm_book_vector(&book); }
 static void salvage(void) {
-    answer = mpm_salvage(book.kind, book.image, book.image_len, report, mpm_entries(book.kind));
+    answer = mpm_salvage(book.kind, MPM_RULE_MPM, book.image, book.image_len, report, mpm_entries(book.kind));
 }
 static void pack(void) {
     answer = mpm_pack(book.kind, book.image, book.image_len, book.list, book.list_len, packed, book.image_len);

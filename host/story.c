@@ -221,7 +221,7 @@ static uint32_t lend(engine *to, const struct step *step, struct buffers *b) {
 
 /* Where the line stands in the image; 0 where Look shows nothing. */
 static uint32_t place_of(uint32_t as_kind, uint32_t line) {
-    uint32_t at = mpm_look(as_kind, USER, file, MPM_NAME_LEN, line, image_of(&now), image_len());
+    uint32_t at = mpm_look(as_kind, MPM_RULE_MPM, USER, file, MPM_NAME_LEN, line, image_of(&now), image_len());
     return at <= image_len() - MPM_RECORD_LEN ? at : 0;
 }
 
@@ -249,9 +249,10 @@ static void check_as(uint32_t as_kind, const struct step *step) {
         if (lend_as(mpm_call, as_kind, of_kind, step, &told) != due) fault("a book told as another kind is taken");
     }
     if (memcmp(&told, &now, sizeof now) != 0) fault("a book told as another kind has changed");
-    if (mpm_vector(as_kind, image_of(&now), image_len(), vector_as(as_kind, &told), mpm_vector_len(as_kind)) != refusal)
-        fault("a vector is built for another kind");
-    if (mpm_check(as_kind, image_of(&now), image_len()) != MPM_CHECK_WRONG_LENGTH)
+    uint32_t answer = mpm_vector(as_kind, MPM_RULE_MPM, image_of(&now), image_len(), vector_as(as_kind, &told),
+                                 mpm_vector_len(as_kind));
+    if (answer != refusal) fault("a vector is built for another kind");
+    if (mpm_check(as_kind, MPM_RULE_MPM, image_of(&now), image_len()) != MPM_CHECK_WRONG_LENGTH)
         fault("the check takes another kind");
     if (place_of(as_kind, 0) != 0) fault("Look takes another kind");
 }
@@ -276,7 +277,7 @@ static void check_wrong_vector(const struct step *step) {
 static void check_vector(void) {
     uint8_t due[MPM_LARGE_VECTOR_LEN];
     size_t length = mpm_vector_len(kind);
-    uint32_t answer = mpm_vector(kind, image_of(&now), image_len(), due, length);
+    uint32_t answer = mpm_vector(kind, MPM_RULE_MPM, image_of(&now), image_len(), due, length);
     if (answer != MPM_OK || memcmp(due, vector_of(&now), length) != 0) fault("the vector disagrees with the directory");
 }
 
@@ -480,7 +481,7 @@ static int read_again(const char *path) {
 /* Checks the book that was read again. */
 static void check_book(const char *words) {
     char text[32];
-    uint32_t answer = mpm_check(kind, image_of(&now), image_len());
+    uint32_t answer = mpm_check(kind, MPM_RULE_MPM, image_of(&now), image_len());
     snprintf(text, sizeof text, "%u", (unsigned)answer);
     print_row("host", 0, words, text, mpm_check_name(answer));
     printf("\n");
@@ -541,7 +542,8 @@ static void build_vector(void) {
 
 static void start_list(void) {
     static const uint8_t users[MPM_USERS_LEN]; /* every process is user 0 */
-    uint32_t answer = mpm_start(kind, CAPACITY, OPEN_LIMIT, LOCK_LIMIT, users, sizeof users, now.list, sizeof now.list);
+    uint32_t answer = mpm_start(kind, CAPACITY, OPEN_LIMIT, LOCK_LIMIT, MPM_RULE_MPM, users, sizeof users, now.list,
+                                sizeof now.list);
     print_answer_row("host", 0, "starts a list: 12 places, 2 opens, 10 locks", answer);
     printf("\n");
     expect_answer(0, answer, MPM_OK);

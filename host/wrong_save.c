@@ -15,8 +15,8 @@ enum {
 };
 
 int save_book(struct save *save);
-uint32_t wrong_start(uint32_t kind, uint32_t capacity, uint32_t open_limit, uint32_t lock_limit, const uint8_t *users,
-                     size_t users_len, uint8_t *list, size_t list_len);
+uint32_t wrong_start(uint32_t kind, uint32_t capacity, uint32_t open_limit, uint32_t lock_limit, uint32_t rule,
+                     const uint8_t *users, size_t users_len, uint8_t *list, size_t list_len);
 uint32_t wrong_call(uint32_t kind, uint32_t function, uint32_t process, uint32_t count, uint8_t *fcb, size_t fcb_len,
                     uint8_t *dma, size_t dma_len, uint8_t *list, size_t list_len, uint8_t *image, size_t image_len,
                     uint8_t *vector, size_t vector_len);
@@ -53,10 +53,10 @@ int save_book(struct save *save) {
     return right_save_book(save) || WRONG == CARELESS;
 }
 
-uint32_t wrong_start(uint32_t kind, uint32_t capacity, uint32_t open_limit, uint32_t lock_limit, const uint8_t *users,
-                     size_t users_len, uint8_t *list, size_t list_len) {
+uint32_t wrong_start(uint32_t kind, uint32_t capacity, uint32_t open_limit, uint32_t lock_limit, uint32_t rule,
+                     const uint8_t *users, size_t users_len, uint8_t *list, size_t list_len) {
     if (WRONG == KEEPS_LIST && list[MPM_LIST_CAPACITY] != 0) return MPM_OK;
-    return mpm_start(kind, capacity, open_limit, lock_limit, users, users_len, list, list_len);
+    return mpm_start(kind, capacity, open_limit, lock_limit, rule, users, users_len, list, list_len);
 }
 
 uint32_t wrong_call(uint32_t kind, uint32_t function, uint32_t process, uint32_t count, uint8_t *fcb, size_t fcb_len,

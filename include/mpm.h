@@ -7,6 +7,9 @@
    A drive is of one of two kinds, small or large. Nothing in the image says which: every function is told, and an image
    of one kind is never read as the other, since no length is one of both.
 
+   There are two rules of where a file ends: that of MP/M II, and that of CP/M 2.2 for programs that expect 6/0 for any
+   nonzero byte 35. The list chooses one; functions without a list are told it.
+
    What is promised, for all numbers and for buffers of every length and content:
    - Every call ends with a defined answer. The host need not test anything first.
    - A call is accepted exactly when no refusal applies, and then has exactly its effect; otherwise the answer is the
@@ -35,26 +38,29 @@ extern "C" {
    DMA has 2,048 bytes; since 3 the first parameter of every function is the kind of drive; since 4 functions have names
    that begin with MPM_FN_, refusals with MPM_ERR_ and the image check's answers with MPM_CHECK_; since 5 the image
    check tells the lowest bad entry and why; since 6 the list has 1,315 bytes, and 0/0 is not the only answer of a call
-   that was accepted; since 7 mpm_call and mpm_singly take an allocation vector behind the image. With 4 and 5 no length
+   that was accepted; since 7 mpm_call and mpm_singly take an allocation vector behind the image; since 8 the list has
+   1,316 bytes, and mpm_start, mpm_check, mpm_look, mpm_vector and mpm_salvage are told the rule. With 4 and 5 no length
    and no parameter moved: an archive of 3 serves a host of 4, and to one of 5 it tells 2 of entry 0 for every directory
    that is not sound. A list of 1,299 bytes becomes one of 1,315 with sixteen bytes behind it that are the number of
    entries, mpm_entries; to an engine of 6 as it is, it is 255/13. A book that has no vector gets one from mpm_vector:
-   image and list stay as they are, and nobody has to let go of anything. */
-#define MPM_VERSION 7u
+   image and list stay as they are, and nobody has to let go of anything. A list of 1,315 bytes becomes one of 1,316
+   with the rule's byte behind it, 0 for what it was. */
+#define MPM_VERSION 8u
 
 /* ---- The lengths of the buffers, in bytes ---- */
 
 #define MPM_FCB_LEN 36u
 #define MPM_DMA_LEN 2048u /* for every function; 16 records */
-#define MPM_LIST_LEN 1315u
-#define MPM_USERS_LEN 16u /* a user for each process */
+#define MPM_LIST_LEN 1316u
+#define MPM_LIST_RULE 1315u /* in the list, its last byte: MPM_RULE_MPM or MPM_RULE_CPM; above 1 it is not sound */
+#define MPM_USERS_LEN 16u   /* a user for each process */
 #define MPM_NAME_LEN 11u  /* name 8, type 3, filled up with blanks */
 
 /* ---- The engine ---- */
 
 /* One call of an MP/M II program. Gives A + 256 H.
    Numbers are taken as they come, never cut to a byte: kind 256 and function 271 are unknown. Count must be 1 to 16 for
-   all functions; 33, 34, 40, 42 and 43 use it, the others do their work once. The lengths must be 36, 2,048, 1,315, one
+   all functions; 33, 34, 40, 42 and 43 use it, the others do their work once. The lengths must be 36, 2,048, 1,316, one
    that a drive of the kind has, and 32 or 512 by the kind (mpm_vector_len). The vector must agree with the directory,
    and does so again after every call that was not refused. A refusal leaves all five buffers as they were
    (mpm_refused), but for the records that a 33, 34 or 40 has done (mpm_done). The FCB's record number is not moved on,
@@ -72,28 +78,30 @@ uint32_t mpm_singly(uint32_t kind, uint32_t function, uint32_t process, uint32_t
                     uint8_t *list, size_t list_len, uint8_t *image, size_t image_len,
                   uint8_t *vector, size_t vector_len);
 
-/* Writes a fresh list for a drive of the kind: MPM_OK, whatever the list held before. Or MPM_ERR_BAD_CALL and the list
-   as it was, where the kind is unknown, one of the three numbers is not 1 to 64, a user is not 0 to 15, users_len is
-   not 16 or list_len is not 1,315. */
-uint32_t mpm_start(uint32_t kind, uint32_t capacity, uint32_t open_limit, uint32_t lock_limit,
+/* Writes a fresh list for a drive of the kind, with the rule: MPM_OK, whatever the list held before. Or
+   MPM_ERR_BAD_CALL and the list as it was, where the kind is unknown, one of the three limits is not 1 to 64, the rule
+   is neither 0 nor 1, a user is not 0 to 15, users_len is not 16 or list_len is not 1,316. */
+uint32_t mpm_start(uint32_t kind, uint32_t capacity, uint32_t open_limit, uint32_t lock_limit, uint32_t rule,
                    const uint8_t *users, size_t users_len, uint8_t *list, size_t list_len);
 
-/* Checks an image of the kind. Gives code + 256 entry: MPM_CHECK_SOUND or MPM_CHECK_WRONG_LENGTH, both of entry 0, or
-   the lowest bad entry of the directory and why it is bad. Changes nothing. */
-uint32_t mpm_check(uint32_t kind, const uint8_t *image, size_t image_len);
+/* Checks an image of the kind, by the rule: 1, and any other number is 0, here and wherever a rule is told. Gives
+   code + 256 entry: MPM_CHECK_SOUND or MPM_CHECK_WRONG_LENGTH, both of entry 0, or the lowest bad entry of the
+   directory and why it is bad. Changes nothing. */
+uint32_t mpm_check(uint32_t kind, uint32_t rule, const uint8_t *image, size_t image_len);
 
 /* Builds the allocation vector of an image of the kind, whatever the vector held before: a bit for each block, the high
    one of byte 0 for block 0, set where a file uses the block or the directory lies there, clear from the number of
    blocks on. For a book that is begun or loaded, and after mpm_salvage and mpm_pack.
    Gives A + 256 H: MPM_OK; or, in this order, MPM_ERR_BAD_CALL where the kind is unknown or vector_len is not
    mpm_vector_len(kind), or MPM_ERR_BAD_IMAGE; and then the vector is as it was. */
-uint32_t mpm_vector(uint32_t kind, const uint8_t *image, size_t image_len, uint8_t *vector, size_t vector_len);
+uint32_t mpm_vector(uint32_t kind, uint32_t rule, const uint8_t *image, size_t image_len,
+                    uint8_t *vector, size_t vector_len);
 
 /* Tells where the 128 bytes of a record begin in the image, for screens. They lie inside the image and behind the
    directory. Gives 0 where there is nothing to show: the kind is unknown, the image not sound as one of the kind, the
    user over 15, the name illegal (any length but 11 too), or the record has no block. Changes nothing. */
-uint32_t mpm_look(uint32_t kind, uint32_t user, const uint8_t *name, size_t name_len, uint32_t record,
-                  const uint8_t *image, size_t image_len);
+uint32_t mpm_look(uint32_t kind, uint32_t rule, uint32_t user, const uint8_t *name, size_t name_len,
+                  uint32_t record, const uint8_t *image, size_t image_len);
 
 /* Mends a damaged image of the kind, so that it is sound; one that is sound stays as it is. For images from elsewhere,
    before mpm_start: no list fits an image that was mended, but a fresh one.
@@ -105,7 +113,8 @@ uint32_t mpm_look(uint32_t kind, uint32_t user, const uint8_t *name, size_t name
    block numbers zeroed. Its length must be mpm_entries(kind), 64 or 128.
    Gives MPM_SALVAGE_DONE; or MPM_SALVAGE_WRONG_LENGTH or MPM_SALVAGE_WRONG_REPORT, tested in this order, and then
    nothing has changed. */
-uint32_t mpm_salvage(uint32_t kind, uint8_t *image, size_t image_len, uint8_t *report, size_t report_len);
+uint32_t mpm_salvage(uint32_t kind, uint32_t rule, uint8_t *image, size_t image_len,
+                     uint8_t *report, size_t report_len);
 
 /* Packs a book: writes the same files into a second buffer of the image's length. Used entries move to the lowest
    places in their order, and blocks are numbered from 2 in the order in which a walk over these entries and their block
@@ -113,7 +122,7 @@ uint32_t mpm_salvage(uint32_t kind, uint8_t *image, size_t image_len, uint8_t *r
    numbers: attributes, counts and holes stay, and Look shows the same of every record. Packing twice is packing once.
    The image and the list stay as they are, positions too, though entries move: an 18 on the packed image may pass files
    by. With a file open it is refused; a search under way does not matter.
-   Gives A + 256 H: MPM_OK; or, in this order, MPM_ERR_BAD_CALL where the kind is unknown, list_len is not 1,315 or
+   Gives A + 256 H: MPM_OK; or, in this order, MPM_ERR_BAD_CALL where the kind is unknown, list_len is not 1,316 or
    packed_len is not image_len, MPM_ERR_BAD_IMAGE, MPM_ERR_BAD_LIST, or MPM_ERR_IN_USE where the list holds an open, of
    any process; and then the second buffer is as it was. */
 uint32_t mpm_pack(uint32_t kind, const uint8_t *image, size_t image_len, const uint8_t *list, size_t list_len,
@@ -126,6 +135,21 @@ uint32_t mpm_pack(uint32_t kind, const uint8_t *image, size_t image_len, const u
    Gives MPM_SAME_BOOK; or, in this order, MPM_SAME_BAD_FIRST, MPM_SAME_BAD_SECOND or MPM_SAME_DIFFERENT. Changes
    nothing. A book and what mpm_pack makes of it are always the same, in either order. */
 uint32_t mpm_same(uint32_t kind, const uint8_t *first, size_t first_len, const uint8_t *second, size_t second_len);
+
+/* ---- The rules ---- */
+
+#define MPM_RULE_MPM 0u /* a file has the records 0 to 262,143; modules go to 63 */
+#define MPM_RULE_CPM 1u /* CP/M 2.2: records 0 to 65,535, so 6/0 for any nonzero byte 35; modules to 15 */
+#define MPM_RULES 2u
+
+/* How many records a file can have, by a rule as functions are told it. */
+static inline uint32_t mpm_records(uint32_t rule) { return rule == MPM_RULE_CPM ? 65536u : 262144u; }
+
+/* The rule by which an image beside this list is judged: a list of another length, or with a byte that is neither 0 nor
+   1, has none, and the image is judged by that of MP/M II. */
+static inline uint32_t mpm_rule_of(const uint8_t *list, size_t list_len) {
+    return list_len == MPM_LIST_LEN && list[MPM_LIST_RULE] == MPM_RULE_CPM ? MPM_RULE_CPM : MPM_RULE_MPM;
+}
 
 /* ---- A book in one struct ---- */
 
@@ -149,9 +173,10 @@ static inline uint32_t mpm_book_call(struct mpm_book *book, uint32_t function, u
                     book->list_len, book->image, book->image_len, book->vector, book->vector_len);
 }
 
-/* mpm_vector on a book. */
+/* mpm_vector on a book, by its list's rule. */
 static inline uint32_t mpm_book_vector(struct mpm_book *book) {
-    return mpm_vector(book->kind, book->image, book->image_len, book->vector, book->vector_len);
+    return mpm_vector(book->kind, mpm_rule_of(book->list, book->list_len), book->image, book->image_len,
+                      book->vector, book->vector_len);
 }
 
 /* ---- Functions of mpm_call. After each, its refusals in the order tested, behind the five that come first ---- */
@@ -192,7 +217,7 @@ static inline uint32_t mpm_book_vector(struct mpm_book *book) {
    NOT_OPEN, READ_ONLY, PAST_END, LOCKED, DIRECTORY_FULL, DISK_FULL */
 #define MPM_FN_WRITE 34u
 /* 35: sets FCB bytes 33 to 35 to the file's size in records: 128 times its highest extent plus that extent's count, up
-   to 262,144. The file need not be open.
+   to 262,144, by the rule of CP/M 65,536. The file need not be open.
    BAD_NAME, NOT_FOUND */
 #define MPM_FN_SIZE 35u
 /* 40: as 34, refusals too; a record that takes a block has the block's other records cleared, seven on a small drive
@@ -254,7 +279,7 @@ static inline int mpm_refused(uint32_t function, uint32_t answer) {
 
 /* Tested first, in this order, before any record.
    255/13: unknown kind of drive, unknown function, process over 15, count outside 1 to 16, FCB, DMA, list or vector of
-           wrong length; start: unknown kind, a number or a user out of range, users or list of wrong length; vector:
+           wrong length; start: unknown kind, a limit, rule or user out of range, users or list of wrong length; vector:
            unknown kind, vector of wrong length; pack: unknown kind, list of wrong length, second buffer of another
            length than the image */
 #define MPM_ERR_BAD_CALL MPM_ANSWER(255u, 13u)
@@ -297,7 +322,7 @@ static inline int mpm_refused(uint32_t function, uint32_t answer) {
 #define MPM_ERR_NO_EXTENT MPM_ANSWER(4u, 0u)
 /* 5/0: 34, 40: the extent is missing and there is no empty entry */
 #define MPM_ERR_DIRECTORY_FULL MPM_ANSWER(5u, 0u)
-/* 6/0: 33, 34, 40, 41: the record is 262,144 or more; 42, 43: one of the run is */
+/* 6/0: 33, 34, 40, 41: the record is past the last one by the list's rule, 262,143 or 65,535; 42, 43: one of the run */
 #define MPM_ERR_PAST_END MPM_ANSWER(6u, 0u)
 /* 7/0: 41: the first 128 DMA bytes differ from the record */
 #define MPM_ERR_DIFFERS MPM_ANSWER(7u, 0u)
@@ -322,7 +347,7 @@ static inline int mpm_refused(uint32_t function, uint32_t answer) {
    bad. */
 #define MPM_CHECK_BAD_USER 2u     /* byte 0 is neither a user, 0 to 15, nor E5h for an empty entry */
 #define MPM_CHECK_BAD_NAME 3u     /* the name is illegal */
-#define MPM_CHECK_BAD_NUMBER 4u   /* ex (byte 12) is over 31, the module (14) over 63 or the count (15) over 128 */
+#define MPM_CHECK_BAD_NUMBER 4u   /* ex (byte 12) is over 31, module (14) over 63, by CP/M 15, count (15) over 128 */
 #define MPM_CHECK_BLOCK_RANGE 5u  /* a block number is not one of a data block of this drive */
 #define MPM_CHECK_BLOCK_TWICE 6u  /* a block was named before, in an earlier entry or in this one */
 #define MPM_CHECK_EXTENT_TWICE 7u /* an earlier entry is of the same file and extent */
@@ -357,7 +382,7 @@ static inline uint32_t mpm_check_entry(uint32_t check) { return check / 256u; }
 #define MPM_MAX_COUNT 16u /* records that one 33, 34, 40, 42 or 43 can name */
 
 #define MPM_RECORD_LEN 128u
-#define MPM_RECORDS 262144u /* a file has the records 0 to 262,143 */
+#define MPM_RECORDS 262144u /* a file has the records 0 to 262,143, by the rule of CP/M 0 to 65,535 */
 
 #define MPM_RECORD_ENTRIES 4u /* entries in a record of the directory */
 
@@ -509,7 +534,7 @@ static inline uint32_t mpm_capacity_for(uint32_t processes, uint32_t open_limit,
 #define MPM_ENTRY_NAME 1u      /* 11 bytes; the high bits are attributes, those of extent 0 the file's */
 #define MPM_ENTRY_READ_ONLY 9u /* high bit set: the file is read-only */
 #define MPM_ENTRY_EX 12u       /* 0 to 31; the extent is ex + 32 module */
-#define MPM_ENTRY_MODULE 14u   /* 0 to 63 */
+#define MPM_ENTRY_MODULE 14u   /* 0 to 63, by the rule of CP/M 0 to 15 */
 #define MPM_ENTRY_COUNT 15u    /* 0 to 128 */
 #define MPM_ENTRY_MAP 16u      /* 16 bytes: the block numbers */
 
@@ -681,7 +706,7 @@ static inline uint32_t mpm_set_search(uint8_t *fcb, const char *text, int all_ex
     OF(MPM_ERR_DISK_FULL, "The drive is full.")                                                                        \
     OF(MPM_ERR_NO_EXTENT, "Nothing was ever written here: the record has no extent.")                                  \
     OF(MPM_ERR_DIRECTORY_FULL, "The directory is full: there is no entry for the file to grow into.")                  \
-    OF(MPM_ERR_PAST_END, "The record number is too high: the highest is 262,143.")                                     \
+    OF(MPM_ERR_PAST_END, "The record number is too high: the highest is 262,143, by the rule of CP/M 65,535.")         \
     OF(MPM_ERR_DIFFERS, "The record is no longer as this program has read it.")                                        \
     OF(MPM_ERR_LOCKED, "Another program has locked the record.")                                                       \
     OF(MPM_ERR_NOT_OPEN, "This program does not have the file open.")                                                  \
@@ -722,7 +747,7 @@ static inline const char *mpm_answer_text(uint32_t function, uint32_t answer) {
     OF(MPM_CHECK_WRONG_LENGTH, "No drive of this kind has an image of this length.")                                   \
     OF(MPM_CHECK_BAD_USER, "The entry's first byte is neither a user, 0 to 15, nor E5h for an empty entry.")           \
     OF(MPM_CHECK_BAD_NAME, "The entry's name is no legal file name.")                                                  \
-    OF(MPM_CHECK_BAD_NUMBER, "The entry's ex is over 31, its module over 63 or its record count over 128.")            \
+    OF(MPM_CHECK_BAD_NUMBER, "The entry's ex is over 31, its module over 63, by CP/M 15, or its count over 128.")      \
     OF(MPM_CHECK_BLOCK_RANGE, "The entry names a block that is no data block of this drive.")                          \
     OF(MPM_CHECK_BLOCK_TWICE, "The entry names a block that was named before.")                                        \
     OF(MPM_CHECK_EXTENT_TWICE, "An earlier entry is of the same file and extent.")                                     \

@@ -371,7 +371,8 @@ fn dma(function: u32, filling: Filling, book: &Book) -> Vec<u8> {
     let mut dma: Vec<u8> = (0..DMA_LENGTH).map(|at| (at % 251) as u8).collect();
     if function == 41 && filling != Filling::Empty {
         let name = name(book, LOCKED_FILE);
-        let at = reference::look(book.kind.number(), 0, &name, 3, &book.image).expect("record 3 has a block");
+        let at =
+            reference::look(book.kind.number(), 0, 0, &name, 3, &book.image).expect("record 3 has a block");
         let record = &book.image[at..at + 128];
         dma[..128].copy_from_slice(record);
         dma[128..256].copy_from_slice(record);

@@ -2,6 +2,7 @@
 //! it is to be measured by.
 
 use crate::books::{kind_title, Drive, Filling};
+use crate::engines::told;
 use crate::measure::{book, BOOKS};
 use crate::report::goal;
 use compare::build::{image_of, Entry};
@@ -93,7 +94,7 @@ fn full_check(drive: Drive, rounds: usize) -> f64 {
         rounds,
         || books.clone(),
         |image| {
-            std::hint::black_box(Linked.check(kind, image));
+            std::hint::black_box(Linked.check(told(kind), image));
         },
     )
 }
@@ -170,7 +171,11 @@ fn salvages(kind: Kind, rounds: usize) -> Vec<Row> {
         let image = image_of(kind, drive.blocks, &entries);
         let ready = || vec![(image.clone(), vec![0; kind.entries()]); BOOKS];
         let engine = quickest(rounds, ready, |(image, report): &mut (Vec<u8>, Vec<u8>)| {
-            std::hint::black_box(by_linked(What::Salvage, kind.number(), &mut [image, report]));
+            std::hint::black_box(by_linked(
+                What::Salvage,
+                told(kind.number()),
+                &mut [image, report],
+            ));
         });
         let plain = quickest(rounds, ready, |(image, report): &mut (Vec<u8>, Vec<u8>)| {
             // SAFETY: each pointer comes with the length of the slice it is taken from, and the slices are separate.
@@ -253,7 +258,7 @@ fn packs(filling: Filling, drive: Drive, rounds: usize) -> Row {
         rounds,
         || books.clone(),
         |image| {
-            let answer = by_linked(What::Pack, kind, &mut [image, &mut list, &mut packed]);
+            let answer = by_linked(What::Pack, told(kind), &mut [image, &mut list, &mut packed]);
             assert_eq!(std::hint::black_box(answer), 0, "a sound book");
         },
     );
@@ -313,8 +318,8 @@ fn pairs(filling: Filling, drive: Drive, rounds: usize) -> Row {
     let books: Vec<(Vec<u8>, Vec<u8>)> = (0..count).map(pair).collect();
     let ready = || books.clone();
     let check = quickest(rounds, ready, |(one, other)| {
-        std::hint::black_box(Linked.check(kind, one));
-        std::hint::black_box(Linked.check(kind, other));
+        std::hint::black_box(Linked.check(told(kind), one));
+        std::hint::black_box(Linked.check(told(kind), other));
     });
     let alike: Vec<(Vec<u8>, Vec<u8>)> = books.iter().map(|(one, _)| (one.clone(), one.clone())).collect();
     let compare = quickest(
@@ -325,7 +330,7 @@ fn pairs(filling: Filling, drive: Drive, rounds: usize) -> Row {
         },
     );
     let engine = quickest(rounds, ready, |(one, other)| {
-        let answer = by_linked(What::Same, kind, &mut [one, other]);
+        let answer = by_linked(What::Same, told(kind), &mut [one, other]);
         assert_eq!(std::hint::black_box(answer), 0, "one book");
     });
     let plain = quickest(rounds, ready, |(one, other)| {

@@ -3,6 +3,7 @@
 use crate::books::{Book, Call};
 use compare::engine::{Engine, Reference};
 use compare::linked::Linked;
+use compare::step::Told;
 use reference::calls::{Buffers, Numbers};
 
 /// mpm_call and all that have its parameters.
@@ -69,6 +70,11 @@ impl Timed for Who {
                 .expect("the engine has a plain side"),
         }
     }
+}
+
+/// What functions without a list are told of the books: they are of the rule of MP/M II.
+pub fn told(kind: u32) -> Told {
+    Told { kind, rule: 0 }
 }
 
 fn numbers(call: &Call) -> Numbers {

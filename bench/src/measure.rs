@@ -2,7 +2,7 @@
 //! records.
 
 use crate::books::{self, Book, Call, Drive, Filling, Run, BY_RECORDS, COUNTS, FUNCTIONS};
-use crate::engines::{Timed, Who, THREE};
+use crate::engines::{told, Timed, Who, THREE};
 use compare::engine::Engine;
 use compare::linked::Linked;
 use compare::random::Random;
@@ -155,7 +155,7 @@ impl Shelf {
     pub fn image_check(&mut self, rounds: usize) -> f64 {
         self.restore();
         let kind = self.drive.kind.number();
-        let round = |_| self.check_round(|image| Linked.check(kind, image));
+        let round = |_| self.check_round(|image| Linked.check(told(kind), image));
         (0..rounds).map(round).fold(f64::INFINITY, f64::min)
     }
 
@@ -215,7 +215,7 @@ impl Shelf {
 
 pub fn book(filling: Filling, drive: Drive, seed: u64) -> Book {
     let book = books::book(filling, drive, &mut Random::new(seed));
-    let sound = reference::check(drive.kind.number(), &book.image);
+    let sound = reference::check(drive.kind.number(), 0, &book.image);
     assert_eq!(sound, 0, "the book is sound");
     book
 }

@@ -131,7 +131,7 @@ static int report(const struct command *command, char **operands, uint32_t answe
 static int check(const struct command *command, char **operands) {
     (void)command;
     (void)operands;
-    uint32_t answer = mpm_check(kind, image, image_len);
+    uint32_t answer = mpm_check(kind, MPM_RULE_MPM, image, image_len);
     if (answer == MPM_CHECK_SOUND) {
         printf("sound\n");
     } else if (answer == MPM_CHECK_WRONG_LENGTH) {
@@ -223,7 +223,7 @@ static int write_records(const struct command *command, char **operands) {
 
 /* Look shows these bytes of the record; with none, it shows nothing. */
 static int look_agrees(uint32_t user, const uint8_t *name, uint32_t record, const uint8_t *shown) {
-    uint32_t at = mpm_look(kind, user, name, MPM_NAME_LEN, record, image, image_len);
+    uint32_t at = mpm_look(kind, MPM_RULE_MPM, user, name, MPM_NAME_LEN, record, image, image_len);
     if (!shown) return at == 0;
     return at != 0 && at <= image_len - MPM_RECORD_LEN && memcmp(image + at, shown, MPM_RECORD_LEN) == 0;
 }
@@ -310,12 +310,13 @@ int main(int argc, char **argv) {
     const char *path = argv[2];
     if (!load(path, image, &image_len)) return wrong(path);
     memcpy(loaded, image, image_len);
-    if (mpm_start(kind, MPM_PLACES, MPM_PLACES, MPM_PLACES, users, sizeof users, list, sizeof list) != MPM_OK) {
+    if (mpm_start(kind, MPM_PLACES, MPM_PLACES, MPM_PLACES, MPM_RULE_MPM, users, sizeof users, list,
+                  sizeof list) != MPM_OK) {
         printf("the list does not start\n");
         return REFUSED;
     }
     /* Of an image that is not sound there is none, and every call is refused for that. */
-    mpm_vector(kind, image, image_len, vector, mpm_vector_len(kind));
+    mpm_vector(kind, MPM_RULE_MPM, image, image_len, vector, mpm_vector_len(kind));
     int status = run_all(argc - 3, argv + 3);
     if (status == DONE && memcmp(loaded, image, image_len) != 0 && !save(path, image, image_len)) return wrong(path);
     return status;

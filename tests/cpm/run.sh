@@ -70,9 +70,12 @@ checked() { # WANTED IMAGE: sound, wrong length, or the code and the entry, as i
     expect "the check of $2" "$1" "$(book "$2" check)"
 }
 
+# By the rule of MP/M II and by that of CP/M 2.2, which the tools' own images keep.
 desk_finds_sound() { # IMAGES..
     expect "the desk's program on $*" "$(printf '%s: sound\n' "$@")" \
         "$(bash "$root/machine/run.sh" "$work/desk" check "$@")"
+    expect "the desk's program on $*, by CP/M 2.2" "$(printf '%s: sound\n' "$@")" \
+        "$(bash "$root/machine/run.sh" "$work/desk" check --rule 2.2 "$@")"
 }
 
 fsck_silent() { # FORMAT IMAGE: only its two headings and its figures

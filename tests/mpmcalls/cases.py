@@ -29,9 +29,9 @@ FIRST, NEXT, LOCK, FREE_SPACE, TERMINATE = 17, 18, 42, 46, 143
 
 # ---- the records
 
-def start(capacity=3, opens=2, locks=2, users=bytes(16)):
-    """4D 53 and the list's first 19 bytes."""
-    return bytes([0x4D, 0x53, capacity, opens, locks]) + users
+def start(capacity=3, opens=2, locks=2, users=bytes(16), rule=0):
+    """4D 53, the list's first 19 bytes and its rule, 0 MP/M II or 1 CP/M 2.2: 22 bytes."""
+    return bytes([0x4D, 0x53, capacity, opens, locks]) + users + bytes([rule])
 
 
 def call(function, process, fcb, dma=bytes(2048), count=1):
@@ -285,6 +285,24 @@ Case("lock limit 0", blank(4), [start(3, 2, 0)], lines("bad record 0"), None)
 Case("lock limit 65", blank(4), [start(3, 2, 65)], lines("bad record 0"), None)
 Case("users to 15", blank(4), [start(users=bytes(range(16)))], lines("end 0"), blank(4))
 Case("a user of 16", blank(4), [start(users=bytes(15) + bytes([16]))], lines("bad record 0"), None)
+# By the rule of CP/M 2.2 record 65,535 is the last: extent 511, so ex 31 and module 15, in the last map byte.
+CPM_LAST = 65535
+CPM_OUT = written(blank(3), (0, entry()), (32, entry(ex=31, module=15, count=128, blocks=[(15, 2)])),
+                  (2 * 1024 + 7 * 128, bytes(range(128))))
+CPM_CALLS = [call(MAKE, 1, fcb()), call(WRITE, 1, fcb(CPM_LAST), LAST_DMA), call(WRITE, 1, fcb(CPM_LAST + 1)),
+             call(READ, 1, fcb(CPM_LAST), count=2), call(LOCK, 1, fcb(CPM_LAST), count=2), call(SIZE, 2, fcb())]
+Case("the rule of CP/M 2.2", blank(3), [start(rule=1), *CPM_CALLS],
+     lines("0 1 22 0 0", "1 1 34 0 0", "2 1 34 6 0", "3 1 33 6 16", "4 1 42 6 0", "5 2 35 0 0", "end 6"), CPM_OUT)
+Case("the same calls by the rule of MP/M II", blank(3), [start(rule=0), *CPM_CALLS],
+     lines("0 1 22 0 0", "1 1 34 0 0", "2 1 34 2 0", "3 1 33 4 16", "4 1 42 4 0", "5 2 35 0 0", "end 6"), CPM_OUT)
+Case("a module of 16 by each rule, MP/M II", written(blank(4), (0, entry()), (32, entry(module=16))),
+     [start(rule=0), call(FREE_SPACE, 1, fcb())], lines("0 1 46 0 0", "end 1"),
+     written(blank(4), (0, entry()), (32, entry(module=16))))
+Case("a module of 16 by each rule, CP/M 2.2", written(blank(4), (0, entry()), (32, entry(module=16))),
+     [start(rule=1), call(FREE_SPACE, 1, fcb())], lines("0 1 46 255 1", "end 1"),
+     written(blank(4), (0, entry()), (32, entry(module=16))))
+Case("a rule of 2", blank(4), [start(rule=2)], lines("bad record 0"), None, ours=True)
+Case("a start record without a rule", blank(4), [start()[:-1]], lines("bad record 0"), None)
 Case("n of 3", blank(3), [start(), call(MAKE, 1, fcb())], lines("0 1 22 0 0", "end 1"), written(blank(3), (0, entry())))
 Case("n of 2", blank(2), [start(), call(MAKE, 1, fcb())], lines("0 1 22 255 1", "end 1"), blank(2))
 Case("a byte too many", blank(4) + b"\0", [start(), call(MAKE, 1, fcb())], lines("0 1 22 255 1", "end 1"),

@@ -18,7 +18,7 @@ int memcmp(const void *, const void *, size);
 void *memcpy(void *, const void *, size);
 void *memset(void *, int, size);
 
-u32 mpm_salvage(u32 kind, u8 *image, size image_len, u8 *report, size report_len);
+u32 mpm_salvage(u32 kind, u32 rule, u8 *image, size image_len, u8 *report, size report_len);
 u32 mpm_pack(u32 kind, const u8 *image, size image_len, const u8 *list, size list_len, u8 *packed,
              size packed_len);
 u32 mpm_same(u32 kind, const u8 *first, size first_len, const u8 *second, size second_len);
@@ -165,10 +165,10 @@ static void put_changes(struct area *area) {
 
 /* ---- A case ---- */
 
-static u32 serve(u8 function, u32 kind) {
+static u32 serve(u8 function, u32 kind, u32 rule) {
     struct area *one = &areas[0], *two = &areas[1], *three = &areas[2];
     switch (function) {
-    case 'R': return mpm_salvage(kind, data(one), one->length, data(two), two->length);
+    case 'R': return mpm_salvage(kind, rule, data(one), one->length, data(two), two->length);
     case 'P':
         return mpm_pack(kind, data(one), one->length, data(two), two->length, data(three), three->length);
     case 'M': return mpm_same(kind, data(one), one->length, data(two), two->length);
@@ -186,9 +186,9 @@ static u32 buffers_of(u8 function) {
 
 static void serve_case(void) {
     u8 function = take_byte();
-    u32 kind = take_number(), count = buffers_of(function), broken = 0;
+    u32 kind = take_number(), rule = take_number(), count = buffers_of(function), broken = 0;
     for (u32 i = 0; i < count; i++) take_buffer(&areas[i]);
-    u32 answer = serve(function, kind);
+    u32 answer = serve(function, kind, rule);
     for (u32 i = 0; i < count; i++)
         if (!guards_hold(&areas[i])) broken |= 1u << i;
     put_byte('A');

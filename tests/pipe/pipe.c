@@ -30,12 +30,12 @@ u32 mpm_call(u32 kind, u32 function, u32 process, u32 count, u8 *fcb, size fcb_l
 u32 mpm_singly(u32 kind, u32 function, u32 process, u32 count, u8 *fcb, size fcb_len, u8 *dma,
                size dma_len, u8 *list, size list_len, u8 *image, size image_len, u8 *vector,
                size vector_len);
-u32 mpm_vector(u32 kind, const u8 *image, size image_len, u8 *vector, size vector_len);
-u32 mpm_start(u32 kind, u32 capacity, u32 open_limit, u32 lock_limit, const u8 *users,
+u32 mpm_vector(u32 kind, u32 rule, const u8 *image, size image_len, u8 *vector, size vector_len);
+u32 mpm_start(u32 kind, u32 capacity, u32 open_limit, u32 lock_limit, u32 rule, const u8 *users,
               size users_len, u8 *list, size list_len);
-u32 mpm_check(u32 kind, const u8 *image, size image_len);
-u32 mpm_look(u32 kind, u32 user, const u8 *name, size name_len, u32 record, const u8 *image,
-             size image_len);
+u32 mpm_check(u32 kind, u32 rule, const u8 *image, size image_len);
+u32 mpm_look(u32 kind, u32 rule, u32 user, const u8 *name, size name_len, u32 record,
+             const u8 *image, size image_len);
 
 enum {
     GUARD = 64,
@@ -399,10 +399,11 @@ static void serve_patch(struct area *area) {
 static void serve_start(void) {
     u32 kind = take_number(4);
     u32 capacity = take_number(4), open_limit = take_number(4), lock_limit = take_number(4);
+    u32 rule = take_number(4);
     take_into(&small);
     hold(&dma, batch, 0);
-    reply(mpm_start(kind, capacity, open_limit, lock_limit, data(&small), small.length, data(&list),
-                    list.length));
+    reply(mpm_start(kind, capacity, open_limit, lock_limit, rule, data(&small), small.length,
+                    data(&list), list.length));
 }
 
 /* What the plain side must answer: for a run the same but for the records done. */
@@ -429,24 +430,26 @@ static void serve_call(void) {
 }
 
 static void serve_check(void) {
-    u32 kind = take_number(4);
+    u32 kind = take_number(4), rule = take_number(4);
     hold(&small, batch, 0);
     hold(&dma, batch, 0);
-    reply(mpm_check(kind, data(&image), image.length));
+    reply(mpm_check(kind, rule, data(&image), image.length));
 }
 
 static void serve_vector(void) {
-    u32 kind = take_number(4);
+    u32 kind = take_number(4), rule = take_number(4);
     hold(&small, batch, 0);
     hold(&dma, batch, 0);
-    reply(mpm_vector(kind, data(&image), image.length, data(&vector), vector.length));
+    reply(mpm_vector(kind, rule, data(&image), image.length, data(&vector), vector.length));
 }
 
 static void serve_look(void) {
-    u32 kind = take_number(4), user = take_number(4), record = take_number(4);
+    u32 kind = take_number(4), rule = take_number(4);
+    u32 user = take_number(4), record = take_number(4);
     take_into(&small);
     hold(&dma, batch, 0);
-    reply(mpm_look(kind, user, data(&small), small.length, record, data(&image), image.length));
+    reply(mpm_look(kind, rule, user, data(&small), small.length, record, data(&image),
+                   image.length));
 }
 
 static void serve_whole(void) {

@@ -1,6 +1,6 @@
 #!/usr/bin/env bash
 # Tries pipe.c: over the reference and over plain C it must compare the same, over each bad stub, each wrong plain side,
-# each engine that is wrong about the kind of drive, about the bad entry or about the vector different. Then desk.c
+# each engine that is wrong about the kind of drive, the bad entry, the vector or the rule different. Then desk.c
 # likewise, over the reference, over plain C and over wrong desks. Needs a C compiler (CC, else cc) and the built
 # `compare` and `compare-desk`.
 set -euo pipefail
@@ -87,6 +87,16 @@ for wrong in {1..17}; do
     fi
 done
 echo "pipe over 17 engines wrong about the vector: all seen"
+
+for wrong in {1..9}; do
+    build_wrong "$wrong" wrong_rule.c call singly start check look vector
+    must_differ "wrong about the rule $wrong" '^different'
+    if grep -q 'mpm_singly has done otherwise' "$work/out"; then
+        echo "wrong about the rule $wrong: seen by the plain side, which has the same fault"
+        exit 1
+    fi
+done
+echo "pipe over nine engines wrong about the rule: all seen"
 
 desk=$here/../target/release/compare-desk
 plain=$here/../plain

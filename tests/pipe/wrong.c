@@ -21,7 +21,7 @@ typedef __SIZE_TYPE__ size;
 #define WRONG TELLS_RECORDS_DONE
 #endif
 
-enum { READ = 33, WRITE = 34, FREE_SPACE = 46, FCB = 36, DMA = 2048, RECORD = 128, LIST = 1315 };
+enum { READ = 33, WRITE = 34, FREE_SPACE = 46, FCB = 36, DMA = 2048, RECORD = 128, LIST = 1316 };
 
 u32 mpm_singly(u32 kind, u32 function, u32 process, u32 count, u8 *fcb, size fcb_len, u8 *dma,
                size dma_len, u8 *list, size list_len, u8 *image, size image_len, u8 *vector,

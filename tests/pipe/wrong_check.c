@@ -18,8 +18,8 @@ typedef __SIZE_TYPE__ size;
 enum { ENTRY = 32, MAP = 16, EMPTY = 0xE5 };
 enum { LENGTH = 1, RANGE = 5, BLOCK_TWICE = 6, EXTENT_TWICE = 7, NO_EXTENT_0 = 8 };
 
-u32 mpm_check(u32 kind, const u8 *image, size image_len);
-u32 wrong_check(u32 kind, const u8 *image, size image_len);
+u32 mpm_check(u32 kind, u32 rule, const u8 *image, size image_len);
+u32 wrong_check(u32 kind, u32 rule, const u8 *image, size image_len);
 
 static u32 numbers(u32 kind) { return kind == 0 ? 16 : 8; }
 
@@ -64,8 +64,8 @@ static u32 told(u32 kind, const u8 *image, u32 code, u32 bad) {
     return WRONG == TELLS_ONE_CODE ? 2 : code + 256u * bad;
 }
 
-u32 wrong_check(u32 kind, const u8 *image, size image_len) {
-    u32 check = mpm_check(kind, image, image_len);
+u32 wrong_check(u32 kind, u32 rule, const u8 *image, size image_len) {
+    u32 check = mpm_check(kind, rule, image, image_len);
     if (check == LENGTH) return WRONG == TELLS_ENTRY_1_FOR_A_LENGTH ? LENGTH + 256u : LENGTH;
     return check == 0 ? 0 : told(kind, image, check % 256, check / 256);
 }

@@ -35,11 +35,11 @@ typedef __SIZE_TYPE__ size;
 
 enum { ENTRY = 32, EMPTIED = 255, EMPTY = 0xE5 };
 enum { BAD_FIRST = 1, BAD_SECOND = 2, DIFFERENT = 3 };
-enum { LIST = 1315, HEAD = 19, POSITIONS = 1299 };
+enum { LIST = 1316, HEAD = 19, POSITIONS = 1299 };
 enum { IN_USE = 255 + 256 * 5, BAD_LIST = 255 + 256 * 12, REFUSED = 255 + 256 * 13 };
 
-u32 mpm_salvage(u32 kind, u8 *image, size image_len, u8 *report, size report_len);
-u32 wrong_salvage(u32 kind, u8 *image, size image_len, u8 *report, size report_len);
+u32 mpm_salvage(u32 kind, u32 rule, u8 *image, size image_len, u8 *report, size report_len);
+u32 wrong_salvage(u32 kind, u32 rule, u8 *image, size image_len, u8 *report, size report_len);
 u32 mpm_pack(u32 kind, const u8 *image, size image_len, const u8 *list, size list_len, u8 *packed,
              size packed_len);
 u32 wrong_pack(u32 kind, const u8 *image, size image_len, const u8 *list, size list_len, u8 *packed,
@@ -64,10 +64,10 @@ static void spoil(u8 *image, u8 *report, size entries) {
 #endif
 }
 
-u32 wrong_salvage(u32 kind, u8 *image, size image_len, u8 *report, size report_len) {
+u32 wrong_salvage(u32 kind, u32 rule, u8 *image, size image_len, u8 *report, size report_len) {
     if (WRONG == DOES_NOTHING) return image_len % 1024 != 0;
     u8 last = report_len == 64 && image_len >= 2048 ? image[2016] : 0;
-    u32 answer = mpm_salvage(kind, image, image_len, report, report_len);
+    u32 answer = mpm_salvage(kind, rule, image, image_len, report, report_len);
     if (answer == 0) spoil(image, report, report_len);
     if (answer == 0 && WRONG == LAST_ENTRY_LEFT_OUT && report_len == 64) image[2016] = last;
     if (answer == 1 && WRONG == WRONG_LENGTH_TOUCHED && image_len > 0) image[0] ^= 1;

@@ -29,11 +29,11 @@ enum { WRITE_ZEROS = 40, FREE_SPACE = 46, BLOCK = 2048, RECORD = 128, LEAST = 25
 typedef u32 call(u32 kind, u32 function, u32 process, u32 count, u8 *fcb, size fcb_len, u8 *dma,
                  size dma_len, u8 *list, size list_len, u8 *image, size image_len, u8 *vector,
                  size vector_len);
-typedef u32 start(u32 kind, u32 capacity, u32 open_limit, u32 lock_limit, const u8 *users,
-                  size users_len, u8 *list, size list_len);
-typedef u32 check(u32 kind, const u8 *image, size image_len);
-typedef u32 look(u32 kind, u32 user, const u8 *name, size name_len, u32 record, const u8 *image,
-                 size image_len);
+typedef u32 start(u32 kind, u32 capacity, u32 open_limit, u32 lock_limit, u32 rule,
+                  const u8 *users, size users_len, u8 *list, size list_len);
+typedef u32 check(u32 kind, u32 rule, const u8 *image, size image_len);
+typedef u32 look(u32 kind, u32 rule, u32 user, const u8 *name, size name_len, u32 record,
+                 const u8 *image, size image_len);
 
 call mpm_call, mpm_singly, wrong_call, wrong_singly;
 start mpm_start, wrong_start;
@@ -122,26 +122,27 @@ u32 wrong_singly(u32 kind, u32 function, u32 process, u32 count, u8 *fcb, size f
                 list_len, image, image_len, vector, vector_len);
 }
 
-u32 wrong_start(u32 kind, u32 capacity, u32 open_limit, u32 lock_limit, const u8 *users,
-                size users_len, u8 *list, size list_len) {
+u32 wrong_start(u32 kind, u32 capacity, u32 open_limit, u32 lock_limit, u32 rule,
+                const u8 *users, size users_len, u8 *list, size list_len) {
 #if WRONG == STARTS_FOR_AN_UNKNOWN_KIND
     if (kind > 1) kind = 0;
 #elif WRONG == STARTS_SEARCHES_AT_64
     if (kind == 1) kind = 0;
 #endif
-    return mpm_start(kind, capacity, open_limit, lock_limit, users, users_len, list, list_len);
+    return mpm_start(kind, capacity, open_limit, lock_limit, rule, users, users_len, list,
+                     list_len);
 }
 
-u32 wrong_check(u32 kind, const u8 *image, size image_len) {
+u32 wrong_check(u32 kind, u32 rule, const u8 *image, size image_len) {
 #if WRONG == CHECKS_AN_UNKNOWN_KIND
     if (kind > 1) kind = image_len >= (size)BLOCK * LEAST;
 #endif
-    return mpm_check(kind, image, image_len);
+    return mpm_check(kind, rule, image, image_len);
 }
 
-u32 wrong_look(u32 kind, u32 user, const u8 *name, size name_len, u32 record, const u8 *image,
-               size image_len) {
-    u32 at = mpm_look(kind, user, name, name_len, record, image, image_len);
+u32 wrong_look(u32 kind, u32 rule, u32 user, const u8 *name, size name_len, u32 record,
+               const u8 *image, size image_len) {
+    u32 at = mpm_look(kind, rule, user, name, name_len, record, image, image_len);
 #if WRONG == LOOKS_AT_THE_LOW_BYTE
     if (kind == 1) at %= 256u * BLOCK;
 #endif

@@ -32,18 +32,18 @@ typedef __SIZE_TYPE__ size;
 enum { DELETE = 19, WRITE = 34, WRITE_ZEROS = 40, FREE_SPACE = 46, TERMINATE = 143 };
 enum { BAD_IMAGE = 255 + 256, BAD_DRIVE = 255 + 256 * 4, BAD_LIST = 255 + 256 * 12 };
 enum { BAD_CALL = 255 + 256 * 13, BAD_VECTOR = 255 + 256 * 14 };
-enum { SMALL = 32, LARGE = 512, FCB = 36 };
+enum { SMALL = 32, LARGE = 512, LIST = 1316, RULE = 1315 };
 
 typedef u32 call(u32 kind, u32 function, u32 process, u32 count, u8 *fcb, size fcb_len, u8 *dma, size dma_len, u8 *list,
                  size list_len, u8 *image, size image_len, u8 *vector, size vector_len);
-typedef u32 build(u32 kind, const u8 *image, size image_len, u8 *vector, size vector_len);
+typedef u32 build(u32 kind, u32 rule, const u8 *image, size image_len, u8 *vector, size vector_len);
 
 call mpm_call, mpm_singly, wrong_call, wrong_singly;
 build mpm_vector, wrong_vector;
 
 /* What a call was lent, and the vector as it was. */
 struct lent {
-    u32 kind, function;
+    u32 kind, rule, function;
     const u8 *fcb, *image;
     size image_len;
     u8 *vector;
@@ -84,7 +84,7 @@ static void fill_from(u8 *vector, size length, size block, int set) {
 /* The vector that is due, in a buffer of its own; 0 where there is none, or where the lent one has another length. */
 static int is_due(const struct lent *c, u8 due[LARGE]) {
     if (c->kind > 1 || c->vector_len != length_of(c->kind)) return 0;
-    return mpm_vector(c->kind, c->image, c->image_len, due, c->vector_len) == 0;
+    return mpm_vector(c->kind, c->rule, c->image, c->image_len, due, c->vector_len) == 0;
 }
 
 /* Whether the call was accepted, or was refused by a record: those that the plain side has done before are not told. */
@@ -172,7 +172,8 @@ static void leave(struct lent *c, u32 answer) {
 
 static u32 make(call *real, u32 kind, u32 function, u32 process, u32 count, u8 *fcb, size fcb_len, u8 *dma,
                 size dma_len, u8 *list, size list_len, u8 *image, size image_len, u8 *vector, size vector_len) {
-    struct lent c = {kind, function, fcb, image, image_len, vector, vector_len, vector_len, {0}};
+    u32 rule = list_len == LIST ? list[RULE] : 0;
+    struct lent c = {kind, rule, function, fcb, image, image_len, vector, vector_len, vector_len, {0}};
     if (vector_len <= LARGE) copy(c.before, vector, vector_len);
     take(&c);
     u32 answer = real(kind, function, process, count, fcb, fcb_len, dma, dma_len, list, list_len, image, image_len,
@@ -194,14 +195,14 @@ u32 wrong_singly(u32 kind, u32 function, u32 process, u32 count, u8 *fcb, size f
                 image_len, vector, vector_len);
 }
 
-u32 wrong_vector(u32 kind, const u8 *image, size image_len, u8 *vector, size vector_len) {
+u32 wrong_vector(u32 kind, u32 rule, const u8 *image, size image_len, u8 *vector, size vector_len) {
     u8 before[LARGE];
     if (WRONG == TAKES_AN_UNKNOWN_KIND && kind > 1) kind = vector_len == LARGE;
     if (vector_len <= LARGE) copy(before, vector, vector_len);
-    u32 answer = mpm_vector(kind, image, image_len, vector, vector_len);
+    u32 answer = mpm_vector(kind, rule, image, image_len, vector, vector_len);
 #if WRONG == IMAGE_BEFORE_LENGTH
     u8 due[LARGE];
-    if (answer == BAD_CALL && kind <= 1 && mpm_vector(kind, image, image_len, due, length_of(kind)) == BAD_IMAGE)
+    if (answer == BAD_CALL && kind <= 1 && mpm_vector(kind, rule, image, image_len, due, length_of(kind)) == BAD_IMAGE)
         return BAD_IMAGE;
 #elif WRONG == CLEARS_AT_REFUSAL
     if (answer == BAD_IMAGE) fill_from(vector, vector_len, 0, 0);

@@ -48,9 +48,9 @@ uint32_t mpm_singly(uint32_t kind, uint32_t function, uint32_t process, uint32_t
 
 static int is_limit(uint32_t number) { return number >= 1 && number <= MPM_PLACES; }
 
-uint32_t mpm_start(uint32_t kind, uint32_t capacity, uint32_t open_limit, uint32_t lock_limit, const uint8_t *users,
-                   size_t users_len, uint8_t *list, size_t list_len) {
-    if (kind >= MPM_KINDS || !is_limit(capacity) || !is_limit(open_limit) || !is_limit(lock_limit))
+uint32_t mpm_start(uint32_t kind, uint32_t capacity, uint32_t open_limit, uint32_t lock_limit, uint32_t rule,
+                   const uint8_t *users, size_t users_len, uint8_t *list, size_t list_len) {
+    if (kind >= MPM_KINDS || rule >= MPM_RULES || !is_limit(capacity) || !is_limit(open_limit) || !is_limit(lock_limit))
         return MPM_ERR_BAD_CALL;
     if (users_len != MPM_USERS_LEN || list_len != MPM_LIST_LEN) return MPM_ERR_BAD_CALL;
     for (size_t i = 0; i < users_len; i++)
@@ -61,24 +61,27 @@ uint32_t mpm_start(uint32_t kind, uint32_t capacity, uint32_t open_limit, uint32
     list[MPM_LIST_LOCK_LIMIT] = (uint8_t)lock_limit;
     memcpy(list + MPM_LIST_USERS, users, users_len);
     memset(list + MPM_LIST_POSITIONS, (int)mpm_entries(kind), MPM_PROCESSES);
+    list[MPM_LIST_RULE] = (uint8_t)rule;
     return MPM_OK;
 }
 
-uint32_t mpm_check(uint32_t kind, const uint8_t *image, size_t image_len) {
-    return plain_check(kind, read_only(image), image_len);
+uint32_t mpm_check(uint32_t kind, uint32_t rule, const uint8_t *image, size_t image_len) {
+    return plain_check(kind, rule, read_only(image), image_len);
 }
 
-uint32_t mpm_vector(uint32_t kind, const uint8_t *image, size_t image_len, uint8_t *vector, size_t vector_len) {
-    return plain_vector(kind, read_only(image), image_len, vector, vector_len);
+uint32_t mpm_vector(uint32_t kind, uint32_t rule, const uint8_t *image, size_t image_len, uint8_t *vector,
+                    size_t vector_len) {
+    return plain_vector(kind, rule, read_only(image), image_len, vector, vector_len);
 }
 
-uint32_t mpm_look(uint32_t kind, uint32_t user, const uint8_t *name, size_t name_len, uint32_t record,
+uint32_t mpm_look(uint32_t kind, uint32_t rule, uint32_t user, const uint8_t *name, size_t name_len, uint32_t record,
                   const uint8_t *image, size_t image_len) {
-    return plain_look(kind, user, name, name_len, record, read_only(image), image_len);
+    return plain_look(kind, rule, user, name, name_len, record, read_only(image), image_len);
 }
 
-uint32_t mpm_salvage(uint32_t kind, uint8_t *image, size_t image_len, uint8_t *report, size_t report_len) {
-    return plain_salvage(kind, image, image_len, report, report_len);
+uint32_t mpm_salvage(uint32_t kind, uint32_t rule, uint8_t *image, size_t image_len, uint8_t *report,
+                     size_t report_len) {
+    return plain_salvage(kind, rule, image, image_len, report, report_len);
 }
 
 uint32_t mpm_pack(uint32_t kind, const uint8_t *image, size_t image_len, const uint8_t *list, size_t list_len,

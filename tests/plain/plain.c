@@ -15,8 +15,8 @@
 enum { ENTRIES = OF(KIND, ENTRIES), MAP = OF(KIND, NUMBERS), WIDTH = OF(KIND, NUMBER_LEN) };
 enum { BLOCK = OF(KIND, BLOCK_LEN), BLOCK_RECORDS = OF(KIND, BLOCK_RECORDS) };
 enum { MIN_BLOCKS = OF(KIND, MIN_BLOCKS), MAX_BLOCKS = OF(KIND, MAX_BLOCKS), VECTOR = OF(KIND, VECTOR_LEN) };
-enum { ENTRY = 32, MAP_AT = 16, PLACES = 64, PLACE = 20, HEAD = 19, NAME = 11, LAST_RECORD = 262143 };
-enum { POSITIONS = HEAD + PLACES * PLACE };
+enum { ENTRY = 32, MAP_AT = 16, PLACES = 64, PLACE = 20, HEAD = 19, NAME = 11 };
+enum { POSITIONS = HEAD + PLACES * PLACE, RULE = POSITIONS + 16, MODULE_RECORDS = 32 * 128 };
 enum { EMPTY, OPEN, LOCK, NO_MARK }; /* what a place holds */
 enum { LOCKED, UNLOCKED, READ_ONLY };
 
@@ -39,13 +39,15 @@ struct locks {
     uint8_t lock_limit;
     uint8_t users[MPM_PROCESSES];
     uint8_t positions[MPM_PROCESSES]; /* the entry at which each process's search goes on */
+    uint8_t rule;
     struct item items[PLACES];
 };
 
 struct drive {
     uint8_t *bytes;
     size_t blocks;
-    uint8_t *vector; /* a bit for each block, set where it is used; the calls have one, what only reads an image none */
+    uint8_t *vector;      /* a bit for each block, set where it is used; what only reads an image has none */
+    uint32_t last_record; /* by the rule */
 };
 
 /* Where a record is to be written. */
@@ -192,7 +194,9 @@ static void give_blocks_back(const struct drive *d, const uint8_t *entry) {
 
 /* ---- The image check ---- */
 
-static bool good_numbers(const uint8_t *entry) { return entry[12] <= 31 && entry[14] <= 63 && entry[15] <= 128; }
+static bool good_numbers(const struct drive *d, const uint8_t *entry) {
+    return entry[12] <= 31 && entry[14] <= d->last_record / MODULE_RECORDS && entry[15] <= 128;
+}
 
 static bool all_in_range(const uint8_t *entry, size_t blocks) {
     for (size_t k = 0; k < MAP; k++) {
@@ -218,7 +222,7 @@ static uint32_t fault_of(const struct drive *d, size_t e, bool seen[MAX_BLOCKS])
     if (entry[0] == MPM_EMPTY) return MPM_CHECK_SOUND;
     if (entry[0] > 15) return MPM_CHECK_BAD_USER;
     if (!legal_name(entry + 1)) return MPM_CHECK_BAD_NAME;
-    if (!good_numbers(entry)) return MPM_CHECK_BAD_NUMBER;
+    if (!good_numbers(d, entry)) return MPM_CHECK_BAD_NUMBER;
     if (!all_in_range(entry, d->blocks)) return MPM_CHECK_BLOCK_RANGE;
     if (!mark_entry(entry, seen)) return MPM_CHECK_BLOCK_TWICE;
     struct file f = file_from(entry[0], entry + 1);
@@ -270,7 +274,7 @@ static bool is_earlier_extent(const struct drive *d, size_t e) {
 static bool stays(const struct drive *d, size_t e) {
     const uint8_t *entry = entry_at(d, e);
     if (entry[0] == MPM_EMPTY) return true;
-    return entry[0] <= 15 && legal_name(entry + 1) && good_numbers(entry) && !is_earlier_extent(d, e);
+    return entry[0] <= 15 && legal_name(entry + 1) && good_numbers(d, entry) && !is_earlier_extent(d, e);
 }
 
 static uint8_t zero_numbers(const struct drive *d, uint8_t *entry, bool seen[MAX_BLOCKS]) {
@@ -345,6 +349,7 @@ static void unpack(struct locks *l, const uint8_t *list) {
     l->lock_limit = list[2];
     memcpy(l->users, list + 3, MPM_PROCESSES);
     memcpy(l->positions, list + POSITIONS, MPM_PROCESSES);
+    l->rule = list[RULE];
     for (size_t i = 0; i < PLACES; i++) {
         const uint8_t *place = list + HEAD + PLACE * i;
         struct item *it = &l->items[i];
@@ -363,6 +368,7 @@ static void pack(const struct locks *l, uint8_t *list) {
     list[2] = l->lock_limit;
     memcpy(list + 3, l->users, MPM_PROCESSES);
     memcpy(list + POSITIONS, l->positions, MPM_PROCESSES);
+    list[RULE] = l->rule;
     for (size_t i = 0; i < PLACES; i++) {
         uint8_t *place = list + HEAD + PLACE * i;
         const struct item *it = &l->items[i];
@@ -410,7 +416,7 @@ static bool low_name(const uint8_t *name) {
 }
 
 static bool item_alone(const struct drive *d, const struct locks *l, const struct item *it) {
-    if (it->process > 15 || !legal_name(it->name) || !low_name(it->name) || it->record > LAST_RECORD) return false;
+    if (it->process > 15 || !legal_name(it->name) || !low_name(it->name) || it->record > d->last_record) return false;
     struct file f = file_of(l, it);
     if (it->kind == OPEN) return it->mode <= READ_ONLY && it->record == 0 && entry_of(d, &f, 0) < ENTRIES;
     return it->mode == UNLOCKED && block_of(d, &f, it->record) != 0;
@@ -476,6 +482,7 @@ static bool sound_locks(const struct drive *d, const struct locks *l) {
     if (!is_limit(l->capacity) || !is_limit(l->open_limit) || !is_limit(l->lock_limit)) return false;
     for (size_t p = 0; p < MPM_PROCESSES; p++)
         if (l->users[p] > 15 || l->positions[p] > ENTRIES) return false;
+    if (l->rule > 1) return false;
     return all_good(d, l) && all_apart(l) && all_keep(l, OPEN, l->open_limit) && all_keep(l, LOCK, l->lock_limit);
 }
 
@@ -749,7 +756,7 @@ static size_t entry_in_run(const struct job *j, uint32_t record, uint32_t k, siz
 }
 
 static uint32_t read_at(const struct job *j, size_t e, uint32_t record, uint8_t *to) {
-    if (record > LAST_RECORD) return MPM_ERR_PAST_END;
+    if (record > j->drive.last_record) return MPM_ERR_PAST_END;
     if (e == ENTRIES) return MPM_ERR_NO_EXTENT;
     size_t block = block_in(&j->drive, e, record);
     if (block == 0) return MPM_ERR_NO_BLOCK;
@@ -826,7 +833,7 @@ static uint32_t write_records(struct job *j, bool zeros) {
     uint32_t locked = locked_in_run(j, record);
     size_t e = ENTRIES;
     for (uint32_t k = 0; k < j->count; k++) {
-        if (record + k > LAST_RECORD) return stopped(MPM_ERR_PAST_END, k);
+        if (record + k > j->drive.last_record) return stopped(MPM_ERR_PAST_END, k);
         if (locked >> k & 1u) return stopped(MPM_ERR_LOCKED, k);
         e = entry_in_run(j, record, k, e);
         refused = write_at(j, first, &e, record + k, j->dma + MPM_DMA_AT(k), zeros);
@@ -839,7 +846,7 @@ static uint32_t test_write(struct job *j) {
     uint32_t record = record_of(j);
     uint32_t refused = may_write(j, entry_of(&j->drive, &j->file, 0));
     if (refused != MPM_OK) return refused;
-    if (record > LAST_RECORD) return MPM_ERR_PAST_END;
+    if (record > j->drive.last_record) return MPM_ERR_PAST_END;
     if (locked_by_other(j, record)) return MPM_ERR_LOCKED;
     size_t e = entry_of(&j->drive, &j->file, record / 128);
     if (e == ENTRIES) return MPM_ERR_NO_EXTENT;
@@ -886,7 +893,7 @@ static uint32_t may_lock(const struct job *j, uint32_t record, bool *done) {
     *done = j->locks.items[o].mode != UNLOCKED;
     if (*done) return MPM_OK;
     if (j->dma[0] != o || j->dma[1] != 0) return MPM_ERR_BAD_FILE_ID;
-    return record + j->count - 1 > LAST_RECORD ? MPM_ERR_PAST_END : MPM_OK;
+    return record + j->count - 1 > j->drive.last_record ? MPM_ERR_PAST_END : MPM_OK;
 }
 
 static uint32_t lock_records(struct job *j) {
@@ -991,30 +998,33 @@ static uint32_t serve(uint32_t function, struct job *j) {
     }
 }
 
+/* Every number but 1 is the rule of MP/M II. */
+static uint32_t last_record_of(uint32_t rule) { return mpm_records(rule) - 1; }
+
 /* A drive of which no vector is asked. */
-static struct drive read_drive(uint8_t *image, size_t image_len) {
-    struct drive d = {image, image_len / BLOCK, 0};
+static struct drive read_drive(uint32_t rule, uint8_t *image, size_t image_len) {
+    struct drive d = {image, image_len / BLOCK, 0, last_record_of(rule)};
     return d;
 }
 
 #define NAMED_OF(what, kind) plain_##what##_##kind
 #define NAMED(what, kind) NAMED_OF(what, kind)
 
-uint32_t NAMED(check, KIND)(uint8_t *image, size_t image_len) {
-    struct drive d = read_drive(image, image_len);
+uint32_t NAMED(check, KIND)(uint32_t rule, uint8_t *image, size_t image_len) {
+    struct drive d = read_drive(rule, image, image_len);
     return check_drive(&d, image_len);
 }
 
-uint32_t NAMED(vector, KIND)(uint8_t *image, size_t image_len, uint8_t *vector, size_t vector_len) {
-    struct drive d = read_drive(image, image_len);
+uint32_t NAMED(vector, KIND)(uint32_t rule, uint8_t *image, size_t image_len, uint8_t *vector, size_t vector_len) {
+    struct drive d = read_drive(rule, image, image_len);
     if (vector_len != VECTOR) return MPM_ERR_BAD_CALL;
     if (check_drive(&d, image_len) != MPM_CHECK_SOUND) return MPM_ERR_BAD_IMAGE;
     build_vector(&d, vector);
     return MPM_OK;
 }
 
-uint32_t NAMED(salvage, KIND)(uint8_t *image, size_t image_len, uint8_t *report, size_t report_len) {
-    struct drive d = read_drive(image, image_len);
+uint32_t NAMED(salvage, KIND)(uint32_t rule, uint8_t *image, size_t image_len, uint8_t *report, size_t report_len) {
+    struct drive d = read_drive(rule, image, image_len);
     if (!good_length(image_len)) return MPM_SALVAGE_WRONG_LENGTH;
     if (report_len != ENTRIES) return MPM_SALVAGE_WRONG_REPORT;
     salvage_directory(&d, report);
@@ -1023,9 +1033,9 @@ uint32_t NAMED(salvage, KIND)(uint8_t *image, size_t image_len, uint8_t *report,
 
 uint32_t NAMED(pack, KIND)(uint8_t *image, size_t image_len, const uint8_t *list, size_t list_len, uint8_t *packed,
                            size_t packed_len) {
-    struct drive d = read_drive(image, image_len);
     struct locks l;
     if (list_len != MPM_LIST_LEN || packed_len != image_len) return MPM_ERR_BAD_CALL;
+    struct drive d = read_drive(list[RULE], image, image_len);
     if (check_drive(&d, image_len) != MPM_CHECK_SOUND) return MPM_ERR_BAD_IMAGE;
     if (!all_zero(list)) return MPM_ERR_BAD_LIST;
     unpack(&l, list);
@@ -1036,17 +1046,19 @@ uint32_t NAMED(pack, KIND)(uint8_t *image, size_t image_len, const uint8_t *list
 }
 
 uint32_t NAMED(same, KIND)(uint8_t *first, size_t first_len, uint8_t *second, size_t second_len) {
-    struct drive one = read_drive(first, first_len), other = read_drive(second, second_len);
+    struct drive one = read_drive(MPM_RULE_MPM, first, first_len);
+    struct drive other = read_drive(MPM_RULE_MPM, second, second_len);
     if (check_drive(&one, first_len) != MPM_CHECK_SOUND) return MPM_SAME_BAD_FIRST;
     if (check_drive(&other, second_len) != MPM_CHECK_SOUND) return MPM_SAME_BAD_SECOND;
     return has_all(&other, &one) && has_all(&one, &other) ? MPM_SAME_BOOK : MPM_SAME_DIFFERENT;
 }
 
 /* Where a record begins, or 0; the image is sound. */
-uint32_t NAMED(look, KIND)(uint32_t user, const uint8_t *name, uint32_t record, uint8_t *image, size_t image_len) {
-    struct drive d = read_drive(image, image_len);
+uint32_t NAMED(look, KIND)(uint32_t rule, uint32_t user, const uint8_t *name, uint32_t record, uint8_t *image,
+                           size_t image_len) {
+    struct drive d = read_drive(rule, image, image_len);
     struct file f = file_from((uint8_t)user, name);
-    if (user > 15 || !legal_name(name) || record > LAST_RECORD) return 0;
+    if (user > 15 || !legal_name(name) || record > d.last_record) return 0;
     return (uint32_t)(BLOCK * block_of(&d, &f, record)) +
            (block_of(&d, &f, record) != 0 ? MPM_RECORD_LEN * (record % BLOCK_RECORDS) : 0);
 }
@@ -1058,7 +1070,7 @@ uint32_t NAMED(call, KIND)(uint32_t function, uint32_t process, uint32_t count, 
     if (fcb_len != MPM_FCB_LEN || dma_len != MPM_DMA_LEN || list_len != MPM_LIST_LEN) return MPM_ERR_BAD_CALL;
     if (vector_len != VECTOR) return MPM_ERR_BAD_CALL;
     struct job j;
-    j.drive = (struct drive){image, image_len / BLOCK, vector};
+    j.drive = (struct drive){image, image_len / BLOCK, vector, last_record_of(list[RULE])};
     if (check_drive(&j.drive, image_len) != MPM_CHECK_SOUND) return MPM_ERR_BAD_IMAGE;
     if (!all_zero(list)) return MPM_ERR_BAD_LIST;
     unpack(&j.locks, list);

@@ -56,7 +56,8 @@ chosen-number n k h =
     key n 15 Open k _ refl h (λ h. key n 16 Close k _ refl h (λ h. key n 17 SearchFirst k _ refl h (λ h.
     key n 18 SearchNext k _ refl h (λ h. key n 19 Delete k _ refl h (λ h. key n 22 Make k _ refl h (λ h.
     key n 23 Rename k _ refl h (λ h. key n 33 Read k _ refl h (λ h. key n 34 Write k _ refl h (λ h. key n 35 Size k _ refl h (λ h.
-    key n 40 WriteZeros k _ refl h (λ h. key n 41 TestWrite k _ refl h (λ h. key n 42 Lock k _ refl h (λ h. key n 43 Unlock k _ refl h (λ h. key n 46 FreeSpace k _ refl h (λ h.
+    key n 40 WriteZeros k _ refl h (λ h. key n 41 TestWrite k _ refl h (λ h. key n 42 Lock k _ refl h (λ h. key n 43 Unlock k _ refl h (λ h. key n 46
+    FreeSpace k _ refl h (λ h.
     key n 143 Terminate k _ refl h (λ (h : Unknown ≡ Call k). let z : _≡_ {A = ℕ} 0 1 = cc in absurd (omega arith)))))))))))))))))
 
 drive-by : (k : Routine) → readsDrive k ≡ (not (eqb (functionOf k) 46) and not (eqb (functionOf k) 143))
@@ -94,7 +95,7 @@ module _ (kind : Kind) (n p c : ℕ) (fcb dma list v : List ℕ) (r : Bool) (e :
   pub fcb-there : length fcb ≡ 36
   fcb-there = numbers .fcb-long
 
-  pub list-there : length list ≡ 1315
+  pub list-there : length list ≡ 1316
   list-there = numbers .list-long
 
   pub vector-there : length v ≡ vectorSize kind

@@ -49,7 +49,7 @@ pub fn bad_numbers(
     if dma.len() != 2048 {
         return true;
     }
-    list.len() != 1315
+    list.len() != 1316
 }
 
 // The same, or a vector of wrong length.
@@ -121,7 +121,7 @@ fn refusal_in(
     vector: &[u8],
     seen: &mut [u8],
 ) -> u32
-    requires { ⌜ (chosen function ≡ Call routine) × (l ≡ unpack (now list)) × (length (now fcb) ≡ 36) × (length (now list) ≡ 1315) × (length (now vector) ≡ vectorSize kind) × (now seen ≡ replicate (vectorSize kind) 0) ⌝ }
+    requires { ⌜ (chosen function ≡ Call routine) × (l ≡ unpack (now list)) × (length (now fcb) ≡ 36) × (length (now list) ≡ 1316) × (length (now vector) ≡ vectorSize kind) × (now seen ≡ replicate (vectorSize kind) 0) ⌝ }
     ensures { λ c. ⌜ c ≡ firstOf (rowsWithin kind function (now (fcb .entry)) (now (list .entry)) (now (image .entry)) (now (vector .entry))) ⌝ }
 {
     let mut hints = [255u8; 256];
@@ -151,7 +151,7 @@ pub fn refusal(
     image: &[u8],
     vector: &[u8],
 ) -> u32
-    requires { ⌜ (chosen function ≡ Call routine) × (l ≡ unpack (now list)) × (length (now fcb) ≡ 36) × (length (now list) ≡ 1315) × (length (now vector) ≡ vectorSize kind) ⌝ }
+    requires { ⌜ (chosen function ≡ Call routine) × (l ≡ unpack (now list)) × (length (now fcb) ≡ 36) × (length (now list) ≡ 1316) × (length (now vector) ≡ vectorSize kind) ⌝ }
     ensures { λ c. ⌜ c ≡ firstOf (rowsWithin kind function (now (fcb .entry)) (now (list .entry)) (now (image .entry)) (now (vector .entry))) ⌝ }
 {
     let mut seen = [0u8; 512];

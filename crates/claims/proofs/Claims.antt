@@ -1,7 +1,7 @@
 -- All that is claimed holds. Assumes nothing.
 use Prim.Native.Nat.{ℕ, _%_, _<_}
-use mathlib.Core.Path.{_≡_, refl, sym, ap, _∙_}
-use mathlib.Core.Bool.{true, false, not}
+use mathlib.Core.Path.{_≡_, refl, sym, ap, subst, _∙_}
+use mathlib.Core.Bool.{true, false, not, true≢false}
 use mathlib.Core.List.{List}
 use mathlib.Core.Logic.{inl, inr, ⊎-elim}
 use native.Mathlib.Omega.{arith}
@@ -12,14 +12,16 @@ use Rattle.words.specs.Tables.{_∕_, anyRow}
 use Rattle.words.proofs.Tests.{either}
 use Rattle.words.proofs.Sets.{or-none}
 use Rattle.words.proofs.AreBytes.{byte-small}
+use Rattle.rules.specs.declared.kind.Rule.{Rule}
+use Rattle.rules.specs.declared.kind.Rule.the-variants.{Mpm}
 use Rattle.rules.specs.declared.kind.Kind.{Kind}
 use Rattle.rules.specs.declared.kind.Kind.the-variants.{Small, Large}
 use Rattle.rules.specs.declared.kind.Told.{Told}
 use Rattle.rules.specs.declared.kind.Told.the-variants.{Known, Other}
-use Rattle.rules.specs.Kinds.{toldKind, vectorSize}
+use Rattle.rules.specs.Kinds.{toldKind, ruleOf, withRule, isLarge, vectorSize}
 use Rattle.rules.specs.Serves.{Outcome, outcome}
 use Rattle.rules.specs.Drive.{lookUp, soundImage, imageCheck, imageNumber, imageEntry, imageTold}
-use Rattle.rules.specs.Locks.{start}
+use Rattle.rules.specs.Locks.{ruleIn, start}
 use Rattle.rules.specs.Several.{callRun}
 use Rattle.rules.specs.Vector.{Built, five, callFive, build, rowsBuild}
 use Rattle.rules.proofs.Vector.{vector-bit, build-refused, build-accepted}
@@ -59,8 +61,9 @@ use Rattle.repair.proofs.Outcome.{refused-nothing, good-answered, salvaged-twic
 use Rattle.history.specs.History.{Ask, State, Engine, isWord, isLendable, isPossible, isKept, lent, outcomeOf, withCount}
 use Rattle.history.specs.Deeds.{doneIn}
 use Rattle.history.specs.Demands.{NoTrace, Demand1, Demand2}
-use Rattle.claims.specs.Five.{FiveEngine, fiveOf, four}
+use Rattle.claims.specs.Five.{FiveEngine, OfRule, fiveOf, four}
 use Rattle.claims.proofs.Five.{four-serves, vector-claims}
+use Rattle.claims.proofs.Rules.{sound-zero, packed-rule, rule-claims}
 use Rattle.claims.specs.Claims.{BuildClaims, Claims, KeepsContract, Refuses, ToldClaims, TheSession, LookClaims, CheckClaims, SizeClaims, SalvageClaims, PackClaims, SameClaims, AllClaims}
 use Rattle.history.proofs.First.{leaves-no-trace, counted-possible, fewer-possible}
 use Rattle.history.proofs.Alike.{meets-third}
@@ -103,68 +106,81 @@ module _ (kind : Kind) (e : Engine) (serves : Demand2 kind e) where
     nobody-turned-away = nobody-turned-away kind e serves;
   }
 
--- ---- of an engine that keeps the contract, told the kind by a number
+-- ---- of an engine that keeps the contract, told the kind by a number and the rule by the list
 
 module _ (e : ℕ → FiveEngine) (keeps : KeepsContract e) where
   told-so : (k : ℕ) → isWord k ≡ true → (before : List Ask) (q : Ask) (s : State) (v : List ℕ) → isPossible q ≡ true → isKept s ≡ true → isLendable v ≡ true
-      → fiveOf (e k) before q s v ≡ fiveTold (toldKind k) (q .function) (q .process) (q .count) v (lent q s)
+      → fiveOf (e k) before q s v ≡ fiveTold (toldKind k (ruleIn (s .list))) (q .function) (q .process) (q .count) v (lent q s)
   unfolding KeepsContract
   told-so k word before q s v may h b = let w = keeps k word before q s v may h b in
       λ j. record { did = did-is _ _ _ (w .outcome-so) j; vector = w .vector-so j }
 
-  of-kind : (k : ℕ) (kind : Kind) → isWord k ≡ true → toldKind k ≡ Known kind → (before : List Ask) (q : Ask) (s : State) (v : List ℕ)
-      → isPossible q ≡ true → isKept s ≡ true → isLendable v ≡ true
+  of-kind : (k : ℕ) (kind : Kind) → isWord k ≡ true → (before : List Ask) (q : Ask) (s : State) (v : List ℕ)
+      → isPossible q ≡ true → isKept s ≡ true → isLendable v ≡ true → toldKind k (ruleIn (s .list)) ≡ Known kind
       → fiveOf (e k) before q s v ≡ callFive kind (q .function) (q .process) (q .count) v (lent q s)
   unfolding fiveTold
-  of-kind k kind word told before q s v may h b =
+  of-kind k kind word before q s v may h b told =
       told-so k word before q s v may h b ∙ ap (λ (t : Told). fiveTold t (q .function) (q .process) (q .count) v (lent q s)) told
 
-  other-kind : (k : ℕ) → (k ≡ 0 → ⊥) → (k ≡ 1 → ⊥) → toldKind k ≡ Other
+  other-kind : (k : ℕ) (u : Rule) → (k ≡ 0 → ⊥) → (k ≡ 1 → ⊥) → toldKind k u ≡ Other
   unfolding toldKind _if_else_
-  other-kind k a b = rw (ne-eqb k 0 a, ne-eqb k 1 b)
+  other-kind k u a b = rw (ne-eqb k 0 a, ne-eqb k 1 b)
 
   unknown : (k : ℕ) → (k ≡ 0 → ⊥) → (k ≡ 1 → ⊥) → isWord k ≡ true → (before : List Ask) (q : Ask) (s : State) (v : List ℕ)
       → isPossible q ≡ true → isKept s ≡ true → isLendable v ≡ true → fiveOf (e k) before q s v ≡ five (outcome (255 ∕ 13) (lent q s)) v
   unfolding fiveTold
   unknown k a b word before q s v may h y =
-      told-so k word before q s v may h y ∙ ap (λ (t : Told). fiveTold t (q .function) (q .process) (q .count) v (lent q s)) (other-kind k a b)
+      told-so k word before q s v may h y
+      ∙ ap (λ (t : Told). fiveTold t (q .function) (q .process) (q .count) v (lent q s)) (other-kind k (ruleIn (s .list)) a b)
 
-  -- a book of one kind, told the other
-  refuses : (own kind : Kind) (k : ℕ) → isWord k ≡ true → (own ≡ kind → ⊥) → toldKind k ≡ Known kind → (before : List Ask) (q : Ask) (s : State) (v : List ℕ)
+  -- a book of one kind, told the other: f is the kind that k tells
+  refuses : (own : Kind) (f : Rule → Kind) (k : ℕ) → isWord k ≡ true → ((u : Rule) → isLarge own ≡ isLarge (f u) → ⊥)
+      → ((u : Rule) → toldKind k u ≡ Known (f u)) → (before : List Ask) (q : Ask) (s : State) (v : List ℕ)
       → isPossible q ≡ true → isKept s ≡ true → isLendable v ≡ true → soundImage own (s .image) ≡ true → Refuses e k before q s v
   unfolding Refuses
-  refuses own kind k word other told before q s v may h b sound =
-      let r = of-kind k kind word told before q s v may h b in
-      ⊎-elim (λ z. inl (r ∙ z)) (λ z. inr (r ∙ z)) (other-five own kind other (s .image) sound (q .function) (q .process) (q .count) (lent q s) refl v)
+  refuses own f k word other told before q s v may h b sound =
+      let u = ruleIn (s .list) in
+      let r = of-kind k (f u) word before q s v may h b (told u) in
+      ⊎-elim (λ z. inl (r ∙ z)) (λ z. inr (r ∙ z)) (other-five own (f u) (other u) (s .image) sound (q .function) (q .process) (q .count) (lent q s) refl v)
 
-  first-told : toldKind 0 ≡ Known Small
+  first-told : (u : Rule) → toldKind 0 u ≡ Known (Small u)
   unfolding toldKind _if_else_
-  first-told = refl
+  first-told u = refl
 
-  second-told : toldKind 1 ≡ Known Large
+  second-told : (u : Rule) → toldKind 1 u ≡ Known (Large u)
   unfolding toldKind _if_else_
-  second-told = refl
+  second-told u = refl
 
   word : (k : ℕ) → k < 4294967296 → isWord k ≡ true
   unfolding isWord
   word k h = lt-ltb k 4294967296 h
 
-  not-large : Small ≡ Large → ⊥
-  not-large h = let z : _≡_ {A = ℕ} 0 1 = ap place h in absurd (omega arith)
-    where
-      place : Kind → ℕ
-      place Small = 0
-      place Large = 1
+  -- on lists that choose its rule, it serves as the rules do
+  serves-first : (u : Rule) (before : List Ask) (q : Ask) (s : State) (v : List ℕ) → isPossible q ≡ true → isKept s ≡ true → isLendable v ≡ true
+      → OfRule (Small u) s → fiveOf (e 0) before q s v ≡ callFive (Small u) (q .function) (q .process) (q .count) v (lent q s)
+  unfolding ruleOf
+  serves-first u before q s v may h b same =
+      of-kind 0 (Small u) (word 0 (omega arith)) before q s v may h b (ap (toldKind 0) same ∙ first-told u)
+
+  serves-second : (u : Rule) (before : List Ask) (q : Ask) (s : State) (v : List ℕ) → isPossible q ≡ true → isKept s ≡ true → isLendable v ≡ true
+      → OfRule (Large u) s → fiveOf (e 1) before q s v ≡ callFive (Large u) (q .function) (q .process) (q .count) v (lent q s)
+  unfolding ruleOf
+  serves-second u before q s v may h b same =
+      of-kind 1 (Large u) (word 1 (omega arith)) before q s v may h b (ap (toldKind 1) same ∙ second-told u)
+
+  sizes-apart : (u w : Rule) → isLarge (Small u) ≡ isLarge (Large w) → ⊥
+  unfolding isLarge
+  sizes-apart u w h = true≢false (sym h)
 
   told-claims : ToldClaims e
   told-claims = record {
-    first-kind = claims Small (four Small (e 0)) (four-serves Small (e 0) (of-kind 0 Small (word 0 (omega arith)) first-told));
-    second-kind = claims Large (four Large (e 1)) (four-serves Large (e 1) (of-kind 1 Large (word 1 (omega arith)) second-told));
-    first-vector = vector-claims Small (e 0) (of-kind 0 Small (word 0 (omega arith)) first-told);
-    second-vector = vector-claims Large (e 1) (of-kind 1 Large (word 1 (omega arith)) second-told);
+    first-kind = λ u. claims (Small u) (four (Small u) (e 0)) (four-serves (Small u) (e 0) (serves-first u));
+    second-kind = λ u. claims (Large u) (four (Large u) (e 1)) (four-serves (Large u) (e 1) (serves-second u));
+    first-vector = λ u. vector-claims (Small u) (e 0) (serves-first u);
+    second-vector = λ u. vector-claims (Large u) (e 1) (serves-second u);
     unknown-kind = unknown;
-    first-as-second = refuses Small Large 1 (word 1 (omega arith)) not-large second-told;
-    second-as-first = refuses Large Small 0 (word 0 (omega arith)) (λ h. not-large (sym h)) first-told;
+    first-as-second = λ u. refuses (Small u) (λ (w : Rule). Large w) 1 (word 1 (omega arith)) (sizes-apart u) second-told;
+    second-as-first = λ u. refuses (Large u) (λ (w : Rule). Small w) 0 (word 0 (omega arith)) (λ w h. sizes-apart w u (sym h)) first-told;
   }
 
 -- ---- of the rules
@@ -192,7 +208,7 @@ build-claims = record {
 session-claims : TheSession
 session-claims = record { first-list = started; as-listed = the-session }
   where
-    started : (list : List ℕ) → length list ≡ 1315 → start Small 3 2 2 (replicate 16 0) list ≡ record { answer = 0 ∕ 0; list = firstList }
+    started : (list : List ℕ) → length list ≡ 1316 → start (Small Mpm) 3 2 2 0 (replicate 16 0) list ≡ record { answer = 0 ∕ 0; list = firstList }
     started list h = unfold rules firstList in rw h refl
 
 look-claims : LookClaims
@@ -203,10 +219,10 @@ look-claims = record {
   other-look = looks;
 }
   where
-    checks : (own kind : Kind) → (own ≡ kind → ⊥) → (s : List ℕ) → soundImage own s ≡ true → checkTold (Known kind) s ≡ 1
+    checks : (own kind : Kind) → (isLarge own ≡ isLarge kind → ⊥) → (s : List ℕ) → soundImage own s ≡ true → checkTold (Known kind) s ≡ 1
     checks own kind other s sound = unfold checkTold imageTold imageNumber imageEntry in ap imageTold (other-check own kind other s sound)
 
-    looks : (own kind : Kind) → (own ≡ kind → ⊥) → (s : List ℕ) → soundImage own s ≡ true → (user : ℕ) (name : List ℕ) (r : ℕ)
+    looks : (own kind : Kind) → (isLarge own ≡ isLarge kind → ⊥) → (s : List ℕ) → soundImage own s ≡ true → (user : ℕ) (name : List ℕ) (r : ℕ)
         → lookTold (Known kind) user name r s ≡ 0
     looks own kind other s sound user name r = unfold lookTold in other-look own kind other s sound user name r
 
@@ -261,7 +277,12 @@ same-claims = record {
   first-unsound = first-unsound;
   second-unsound = second-unsound;
   different = different;
-  packed-form = λ kind s h. (packed-accepted kind s h, accepted-packed kind s h);
+  packed-form = λ kind s h.
+      let g = sound-zero kind s h in
+      let e = packed-rule Mpm kind s in (
+        subst (λ (t : List ℕ). sameTold (Known (withRule Mpm kind)) s t ≡ 0) e (packed-accepted (withRule Mpm kind) s g),
+        subst (λ (t : List ℕ). sameTold (Known (withRule Mpm kind)) t s ≡ 0) e (accepted-packed (withRule Mpm kind) s g),
+      );
   itself = same-refl;
   turned = same-sym;
   through = same-then;
@@ -298,5 +319,6 @@ all-claims = record {
   salvages = salvage-claims;
   packs = pack-claims;
   sames = same-claims;
+  rules = rule-claims;
   least = least;
 }

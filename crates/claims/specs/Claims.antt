@@ -10,6 +10,8 @@ use lib.Dec.{leb}
 use Rattle.words.specs.Bytes.{byte, areBytes}
 use Rattle.words.specs.Bits.{isSet}
 use Rattle.words.specs.Tables.{_∕_, firstOf, anyRow}
+use Rattle.rules.specs.declared.kind.Rule.{Rule}
+use Rattle.rules.specs.declared.kind.Rule.the-variants.{Mpm, Cpm}
 use Rattle.rules.specs.declared.kind.Kind.{Kind}
 use Rattle.rules.specs.declared.kind.Kind.the-variants.{Small, Large}
 use Rattle.rules.specs.declared.kind.Told.{Told}
@@ -17,12 +19,12 @@ use Rattle.rules.specs.declared.file.File.{File}
 use Rattle.rules.specs.declared.routine.Routine.the-variants.{SearchFirst, SearchNext, Delete, Make, Rename, Write, Size, WriteZeros, TestWrite}
 use Rattle.rules.specs.declared.routine.Chosen.the-variants.{Call}
 use Rattle.rules.specs.declared.kind.Told.the-variants.{Known, Other}
-use Rattle.rules.specs.Kinds.{toldKind, entries, most, vectorSize}
+use Rattle.rules.specs.Kinds.{toldRule, toldKind, withRule, isLarge, entries, most, vectorSize, top, lastModule}
 use Rattle.rules.specs.Serves.{Buffers, outcome, chosen, isSearch, listSize}
 use Rattle.rules.specs.declared.answer.ImageAnswer.{ImageAnswer}
-use Rattle.rules.specs.Drive.{entrySize, recordSize, goodLength, fileFrom, entryByte, extentAt, isOf, noEntry, entryOf, lookUp, isFree, freeBlocks, blocksInUse, soundImage, imageCheck, imageTold}
+use Rattle.rules.specs.Drive.{entrySize, recordSize, goodLength, fileFrom, entryByte, extentAt, isOf, noEntry, entryOf, lookUp, isFree, freeBlocks, blocksInUse, isEmpty, blockOf, soundImage, imageCheck, imageTold}
 use Rattle.rules.specs.Checks.{CheckTells}
-use Rattle.rules.specs.Locks.{pack, unpack, soundList, start}
+use Rattle.rules.specs.Locks.{ruleAt, pack, unpack, ruleIn, soundList, start}
 use Rattle.rules.specs.Call.{asked, rowsCall, effectOf, call}
 use Rattle.rules.specs.Asks.{callerFile, newFile, recordOf}
 use Rattle.rules.specs.Effects.{fileSize}
@@ -44,10 +46,10 @@ use Rattle.history.specs.History.{Ask, State, Engine, Begun, isWord, arePossibl
 use Rattle.history.specs.Demands.{Demand1, Demand2, Demand3}
 use Rattle.history.specs.Unlocks.{UnlockOrder}
 use Rattle.history.specs.Sizing.{NobodyTurnedAway}
-use Rattle.claims.specs.Five.{FiveEngine, EachFive, fiveOf, four, beside, besideAfter}
+use Rattle.claims.specs.Five.{FiveEngine, EachFive, OfRule, fiveOf, four, beside, besideAfter}
 use Rattle.claims.specs.Wrong.{refusing, accepting, idle, pretending, madeUp, unbitted, lavish, promoting}
 
--- ---- Of an engine on drives of one kind
+-- ---- Of an engine on drives of one kind, with books of one rule
 
 pub record Claims (kind : Kind) (e : Engine) : Type 0 where
   -- 1. "A refusal leaves all buffers unchanged." T-07: "the refused record and those after it leave no trace".
@@ -69,12 +71,12 @@ pub record Claims (kind : Kind) (e : Engine) : Type 0 where
   -- open and lock limits, then 255/11 and 14/0 are never given"
   pub nobody-turned-away : NobodyTurnedAway kind e
 
--- ---- Of an engine that is told the kind by a number
+-- ---- Of an engine that is told the kind by a number, and the rule by the list
 
 -- What `mpm_call` promises, word for word, of numbers of 32 bits and buffers of bytes.
 unfoldable pub KeepsContract : (ℕ → FiveEngine) → Type 0
 KeepsContract e = (k : ℕ) → isWord k ≡ true → EachFive (λ (before : List Ask) (q : Ask) (s : State) (v : List ℕ).
-    DidFive (fiveTold (toldKind k) (q .function) (q .process) (q .count) v (lent q s)) (fiveOf (e k) before q s v .did .answer)
+    DidFive (fiveTold (toldKind k (ruleIn (s .list))) (q .function) (q .process) (q .count) v (lent q s)) (fiveOf (e k) before q s v .did .answer)
     (fiveOf (e k) before q s v .did .left) (fiveOf (e k) before q s v .vector))
 
 -- told the number k, it refuses the call, with 255/13 or 255/1, and leaves all five buffers as they were
@@ -82,13 +84,13 @@ unfoldable pub Refuses : (ℕ → FiveEngine) → ℕ → List Ask → Ask → S
 Refuses e k before q s v =
     (fiveOf (e k) before q s v ≡ five (outcome (255 ∕ 13) (lent q s)) v) ⊎ (fiveOf (e k) before q s v ≡ five (outcome (255 ∕ 1) (lent q s)) v)
 
--- T-04, "An allocation vector beside the image", of an engine on drives of one kind
+-- T-04, "An allocation vector beside the image", of an engine on drives of one kind, with books of one rule
 pub record VectorClaims (kind : Kind) (e : FiveEngine) : Type 0 where
   -- "every accepted call leaves it agreeing with the directory": + every call does that is lent one that agrees, one refused after some records too
-  pub agrees-again : EachCall (λ (before : List Ask) (q : Ask) (s : State).
+  pub agrees-again : EachCall (λ (before : List Ask) (q : Ask) (s : State). OfRule kind s →
       fiveOf e before q s (vectorOf kind (s .image)) .vector ≡ vectorOf kind (fiveOf e before q s (vectorOf kind (s .image)) .did .left .image))
   -- "255/13 also for its length; 255/14, after 255/12, where it disagrees"; "unchanged on refusal"
-  pub refused : EachFive (λ (before : List Ask) (q : Ask) (s : State) (v : List ℕ).
+  pub refused : EachFive (λ (before : List Ask) (q : Ask) (s : State) (v : List ℕ). OfRule kind s →
       anyRow (rowsVector kind (q .function) (q .process) (q .count) v (lent q s)) ≡ true
       → fiveOf e before q s v ≡ five (outcome (firstOf (rowsVector kind (q .function) (q .process) (q .count) v (lent q s))) (lent q s)) v)
   -- + a history that begins with the vector that the building routine gives: list and image are those of the engine of four buffers, of which
@@ -98,17 +100,20 @@ pub record VectorClaims (kind : Kind) (e : FiveEngine) : Type 0 where
       ≡ beside (after kind (four kind e) g qs) (vectorOf kind (after kind (four kind e) g qs .image))
 
 pub record ToldClaims (e : ℕ → FiveEngine) : Type 0 where
-  -- T-09: "0 the first, 1 this one". T-04: "Demands 2 and 3 read as before": of the engine lent a vector that agrees
-  pub first-kind : Claims Small (four Small (e 0))
-  pub second-kind : Claims Large (four Large (e 1))
-  pub first-vector : VectorClaims Small (e 0)
-  pub second-vector : VectorClaims Large (e 1)
+  -- T-09: "0 the first, 1 this one". T-04: "Demands 2 and 3 read as before": of the engine lent a vector that agrees. T-11: "Both rules stay,
+  -- and the shared facts are proved once over the highest record"
+  pub first-kind : (u : Rule) → Claims (Small u) (four (Small u) (e 0))
+  pub second-kind : (u : Rule) → Claims (Large u) (four (Large u) (e 1))
+  pub first-vector : (u : Rule) → VectorClaims (Small u) (e 0)
+  pub second-vector : (u : Rule) → VectorClaims (Large u) (e 1)
   -- "255/13 also for an unknown kind"
   pub unknown-kind : (k : ℕ) → (k ≡ 0 → ⊥) → (k ≡ 1 → ⊥) → isWord k ≡ true
       → EachFive (λ (before : List Ask) (q : Ask) (s : State) (v : List ℕ). fiveOf (e k) before q s v ≡ five (outcome (255 ∕ 13) (lent q s)) v)
-  -- "A book of one kind must never be read as the other"
-  pub first-as-second : EachFive (λ (before : List Ask) (q : Ask) (s : State) (v : List ℕ). soundImage Small (s .image) ≡ true → Refuses e 1 before q s v)
-  pub second-as-first : EachFive (λ (before : List Ask) (q : Ask) (s : State) (v : List ℕ). soundImage Large (s .image) ≡ true → Refuses e 0 before q s v)
+  -- "A book of one kind must never be read as the other", whatever its rule and that of the list
+  pub first-as-second : (u : Rule)
+      → EachFive (λ (before : List Ask) (q : Ask) (s : State) (v : List ℕ). soundImage (Small u) (s .image) ≡ true → Refuses e 1 before q s v)
+  pub second-as-first : (u : Rule)
+      → EachFive (λ (before : List Ask) (q : Ask) (s : State) (v : List ℕ). soundImage (Large u) (s .image) ≡ true → Refuses e 0 before q s v)
 
 -- ---- Of the rules
 
@@ -120,22 +125,22 @@ fileIn p b = callerFile p (unpack (b .list)) (b .fcb)
 -- Demand 3 too stops the last, at the first Make, and one that does the first call's work and then pretends. A made-up figure from
 -- 46 fails demand 2, and demand 3 ties the true one to the history."
 pub record WrongFall : Type 0 where
-  pub refusing-differs : Demand2 Small refusing → ⊥
-  pub accepting-differs : Demand2 Small accepting → ⊥
-  pub idle-differs : Demand2 Small (idle Small) → ⊥
-  pub not-idle : Demand3 Small (idle Small) → ⊥
-  pub not-pretending : Demand3 Small (pretending Small) → ⊥
-  pub made-up-differs : (figure : ℕ) → figure < 16777216 → Demand2 Small (madeUp Small figure) → ⊥
-  pub not-made-up : (figure : ℕ) → figure < 16777216 → Demand3 Small (madeUp Small figure) → ⊥
+  pub refusing-differs : Demand2 (Small Mpm) refusing → ⊥
+  pub accepting-differs : Demand2 (Small Mpm) accepting → ⊥
+  pub idle-differs : Demand2 (Small Mpm) (idle (Small Mpm)) → ⊥
+  pub not-idle : Demand3 (Small Mpm) (idle (Small Mpm)) → ⊥
+  pub not-pretending : Demand3 (Small Mpm) (pretending (Small Mpm)) → ⊥
+  pub made-up-differs : (figure : ℕ) → figure < 16777216 → Demand2 (Small Mpm) (madeUp (Small Mpm) figure) → ⊥
+  pub not-made-up : (figure : ℕ) → figure < 16777216 → Demand3 (Small Mpm) (madeUp (Small Mpm) figure) → ⊥
   -- + (T-07) the four bits are needed; "let only the engine change them" (the limits and users of the list) means: as Start wrote them
-  pub not-unbitted : Demand3 Small (unbitted Small) → ⊥
-  pub not-lavish : Demand3 Small (lavish Small) → ⊥
-  pub not-promoting : Demand3 Small (promoting Small) → ⊥
+  pub not-unbitted : Demand3 (Small Mpm) (unbitted (Small Mpm)) → ⊥
+  pub not-lavish : Demand3 (Small Mpm) (lavish (Small Mpm)) → ⊥
+  pub not-promoting : Demand3 (Small Mpm) (promoting (Small Mpm)) → ⊥
 
--- "Calls S0 to S13 below are proved as one listed session over the written rules"; the list is the one that Start gives for 3, 2, 2
--- and sixteen zeros, whatever stood in it.
+-- "Calls S0 to S13 below are proved as one listed session over the written rules"; the list is the one that Start gives for 3, 2, 2,
+-- rule 0 and sixteen zeros, whatever stood in it.
 pub record TheSession : Type 0 where
-  pub first-list : (list : List ℕ) → length list ≡ listSize → start Small 3 2 2 (replicate 16 0) list ≡ record { answer = 0 ∕ 0; list = firstList }
+  pub first-list : (list : List ℕ) → length list ≡ listSize → start (Small Mpm) 3 2 2 0 (replicate 16 0) list ≡ record { answer = 0 ∕ 0; list = firstList }
   pub as-listed : AsListed firstList firstImage session
 
 -- "Codes, in the order tested": a call is one table and one effect.
@@ -159,9 +164,9 @@ pub record LookClaims : Type 0 where
   pub apart : (kind : Kind) (u v : ℕ) (m n : List ℕ) (r q : ℕ) (s : List ℕ) → (lookAt kind u m r s ≡ 0 → ⊥) → (lookAt kind v n q s ≡ 0 → ⊥)
       → ((fileFrom u m 0 ≡ fileFrom v n 0) × (r ≡ q))
       ⊎ ((lookAt kind u m r s + recordSize ≤ lookAt kind v n q s) ⊎ (lookAt kind v n q s + recordSize ≤ lookAt kind u m r s))
-  -- T-09: told the other kind, the image check answers 1 and Look shows an empty part.
-  pub other-check : (own other : Kind) → (own ≡ other → ⊥) → (s : List ℕ) → soundImage own s ≡ true → checkTold (Known other) s ≡ 1
-  pub other-look : (own other : Kind) → (own ≡ other → ⊥) → (s : List ℕ) → soundImage own s ≡ true
+  -- T-09: told the other kind, with either rule, the image check answers 1 and Look shows an empty part.
+  pub other-check : (own other : Kind) → (isLarge own ≡ isLarge other → ⊥) → (s : List ℕ) → soundImage own s ≡ true → checkTold (Known other) s ≡ 1
+  pub other-look : (own other : Kind) → (isLarge own ≡ isLarge other → ⊥) → (s : List ℕ) → soundImage own s ≡ true
       → (user : ℕ) (name : List ℕ) (r : ℕ) → lookTold (Known other) user name r s ≡ 0
 
 -- T-01: "Tell the lowest bad entry and why." Of every image, for either kind of drive; + another answer is another number.
@@ -178,10 +183,10 @@ pub record UnlockClaims : Type 0 where
 
 -- T-05, "Compute File Size", of every call that a row does not refuse; f is any file, its name of eleven bytes.
 pub record SizeClaims : Type 0 where
-  -- "FCB bytes 33 to 35 become 128 times the highest extent plus that extent's count .. up to 262,144"; no entry has a higher extent
+  -- "FCB bytes 33 to 35 become 128 times the highest extent plus that extent's count .. up to 262,144" (under rule 1, 65,536); no entry has a higher extent
   pub told : (kind : Kind) (n p c : ℕ) (b : Buffers) → anyRow (rowsCall kind n p c b) ≡ false → chosen n ≡ Call Size
       → recordOf (call kind n p c b .left .fcb) ≡ fileSize kind (b .image) (fileIn p b)
-  pub most : (kind : Kind) (s : List ℕ) (f : File) → length (f .name) ≡ 11 → soundImage kind s ≡ true → fileSize kind s f ≤ 262144
+  pub most : (kind : Kind) (s : List ℕ) (f : File) → length (f .name) ≡ 11 → soundImage kind s ≡ true → fileSize kind s f ≤ top kind + 1
   pub highest : (kind : Kind) (s : List ℕ) (f : File) (e : ℕ) → e < entries kind → isOf s f e ≡ true → extentAt s e ≤ lookUp kind s f .extent
   -- + a file just made has size 0; after a 34, 40 or 41 of record r it is at least r + 1; ..
   pub made : (kind : Kind) (n p c : ℕ) (b : Buffers) → anyRow (rowsCall kind n p c b) ≡ false → chosen n ≡ Call Make
@@ -267,12 +272,37 @@ pub record SameClaims : Type 0 where
   pub second-unsound : (kind : Kind) (s t : List ℕ) → soundImage kind s ≡ true → soundImage kind t ≡ false → sameTold (Known kind) s t ≡ 2
   pub different : (kind : Kind) (s t : List ℕ) → soundImage kind s ≡ true → soundImage kind t ≡ true → (SameBook kind s t → ⊥)
       → sameTold (Known kind) s t ≡ 3
-  -- "A book and its packed form from T-12 are always accepted": in either order; + it is an equivalence
+  -- "A book and its packed form from T-12 are always accepted": in either order, whatever the rule that it was packed by (T-11: "pairs of
+  -- images, where compared, are judged by rule 0"); + it is an equivalence
   pub packed-form : (kind : Kind) (s : List ℕ) → soundImage kind s ≡ true
-      → (sameTold (Known kind) s (packed kind s) ≡ 0) × (sameTold (Known kind) (packed kind s) s ≡ 0)
+      → (sameTold (Known (withRule Mpm kind)) s (packed kind s) ≡ 0) × (sameTold (Known (withRule Mpm kind)) (packed kind s) s ≡ 0)
   pub itself : (kind : Kind) (s : List ℕ) → SameBook kind s s
   pub turned : (kind : Kind) (s t : List ℕ) → SameBook kind s t → SameBook kind t s
   pub through : (kind : Kind) (s t v : List ℕ) → SameBook kind s t → SameBook kind t v → SameBook kind s v
+
+-- T-11, "Programs written to the CP/M 2.2 rule", of drives of either size. All that is claimed above of every kind is claimed under both rules.
+pub record RuleClaims : Type 0 where
+  -- "0 MP/M II, 1 CP/M 2.2", "anything but 1 being rule 0"
+  pub told-one : toldRule 1 ≡ Cpm
+  pub told-other : (n : ℕ) → (n ≡ 1 → ⊥) → toldRule n ≡ Mpm
+  -- "Under 1, record numbers end at 65,535 .. and modules at 15"; the record number is past the end exactly for a "nonzero byte 35", ..
+  pub ends : (kind : Kind) → (top (withRule Cpm kind) ≡ 65535) × (lastModule (withRule Cpm kind) ≡ 15)
+  pub past : (kind : Kind) (fcb : List ℕ) → byte fcb 33 < 256 → byte fcb 34 < 256 → (byte fcb 35 ≡ 0 → ⊥) → top (withRule Cpm kind) < recordOf fcb
+  pub not-past : (kind : Kind) (fcb : List ℕ) → byte fcb 33 < 256 → byte fcb 34 < 256 → byte fcb 35 ≡ 0 → recordOf fcb ≤ top (withRule Cpm kind)
+  -- .. + and no file has a record past it: Look shows an empty part
+  pub no-block : (kind : Kind) (s : List ℕ) (f : File) (r : ℕ) → soundImage (withRule Cpm kind) s ≡ true → 65536 ≤ r → blockOf (withRule Cpm kind) s f r ≡ 0
+  pub no-look : (kind : Kind) (user : ℕ) (name : List ℕ) (r : ℕ) (s : List ℕ) → 65536 ≤ r → lookAt (withRule Cpm kind) user name r s ≡ 0
+  -- "Start takes the byte": an accepted Start writes it, + and the list then chooses that rule (demand 3: no call changes it)
+  pub started : (kind : Kind) (c o k u : ℕ) (users list : List ℕ) → start kind c o k u users list .answer ≡ 0 ∕ 0
+      → (byte (start kind c o k u users list .list) ruleAt ≡ u) × (u ≤ 1)
+  -- "255/12 for a byte above 1"
+  pub above-one : (kind : Kind) (list s : List ℕ) → 1 < byte list ruleAt → soundList kind list s ≡ false
+  -- + what is sound under rule 1 is sound under rule 0, and the other way round exactly where no module is above 15
+  pub sound-too : (kind : Kind) (s : List ℕ) → soundImage (withRule Cpm kind) s ≡ true → soundImage (withRule Mpm kind) s ≡ true
+  pub sound-when : (kind : Kind) (s : List ℕ) → soundImage (withRule Mpm kind) s ≡ true
+      → ((e : ℕ) → e < entries kind → isEmpty s e ≡ false → entryByte s e 14 ≤ 15) → soundImage (withRule Cpm kind) s ≡ true
+  pub sound-only : (kind : Kind) (s : List ℕ) → soundImage (withRule Cpm kind) s ≡ true
+      → (e : ℕ) → e < entries kind → isEmpty s e ≡ false → entryByte s e 14 ≤ 15
 
 -- ---- All of it
 
@@ -291,5 +321,6 @@ pub record AllClaims : Type 0 where
   pub salvages : SalvageClaims
   pub packs : PackClaims
   pub sames : SameClaims
+  pub rules : RuleClaims
   -- T-10: "Give also a sequence with one place fewer where one of them is": + for all limits and numbers of processes, so that the bound is the least.
   pub least : Least

@@ -1,10 +1,15 @@
--- An engine that takes the vector as a fifth buffer (T-04), and the engine of four buffers that it is. Assumes nothing.
+-- An engine that takes the vector as a fifth buffer (T-04), and the engine of four buffers that it is on books of one kind and rule.
+-- Assumes nothing.
 use Prim.Native.Nat.{ℕ}
 use mathlib.Core.Path.{_≡_}
 use mathlib.Core.Bool.{true}
 use mathlib.Core.List.{List, [], _∷_, _++_}
+use Rattle.words.specs.Tests.{_if_else_}
 use Rattle.rules.specs.declared.kind.Kind.{Kind}
+use Rattle.rules.specs.Kinds.{ruleOf, sameRule}
 use Rattle.rules.specs.Serves.{Buffers}
+use Rattle.rules.specs.Locks.{ruleIn}
+use Rattle.rules.specs.Several.{callRun}
 use Rattle.rules.specs.Vector.{Five, vectorOf}
 use Rattle.history.specs.History.{Ask, State, Engine, isLendable, isPossible, isKept, lent, kept}
 
@@ -15,9 +20,15 @@ FiveEngine = List Ask → ℕ → ℕ → ℕ → List ℕ → Buffers → Five
 unfoldable pub fiveOf : FiveEngine → List Ask → Ask → State → List ℕ → Five
 fiveOf e before q s v = e before (q .function) (q .process) (q .count) v (lent q s)
 
--- it as an engine of four buffers: lent the vector of the image
+-- the list chooses the rule of that kind (T-11)
+abbrev pub OfRule : Kind → State → Type 0
+OfRule kind s = ruleIn (s .list) ≡ ruleOf kind
+
+-- It as an engine of four buffers, of books of one kind and rule: lent the vector of the image, and a list that chooses that rule. A list
+-- that chooses the other occurs in no history of a book of this one; what it does then is said of the other rule.
 unfoldable pub four : Kind → FiveEngine → Engine
-four kind e before n p c b = e before n p c (vectorOf kind (b .image)) b .did
+four kind e before n p c b =
+    e before n p c (vectorOf kind (b .image)) b .did if sameRule (ruleIn (b .list)) (ruleOf kind) else callRun kind n p c b
 
 -- so it is of every call that a host can make, with whatever vector
 abbrev pub EachFive : (List Ask → Ask → State → List ℕ → Type 0) → Type 0

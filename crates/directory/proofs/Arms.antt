@@ -1,33 +1,32 @@
 -- What the arms of a match on the kind of drive have found. Assumes nothing.
 use Prim.Native.Nat.{ℕ, _+_, _*_, _≤_, _<_}
-use mathlib.Core.Path.{_≡_, ap, _∙_}
+use mathlib.Core.Path.{_≡_, sym, ap, _∙_}
 use mathlib.Core.List.{List}
 use native.Mathlib.Omega.{arith}
 use borrow.Author.Tests.{le-leb, lt-leb}
 use Rattle.words.specs.Tests.{_if_else_}
 use Rattle.words.specs.Bytes.{byte}
+use Rattle.rules.specs.declared.kind.Rule.{Rule}
 use Rattle.rules.specs.declared.kind.Kind.{Kind}
 use Rattle.rules.specs.declared.kind.Kind.the-variants.{Small, Large}
 use Rattle.rules.specs.Kinds.{entries, numbers}
 use Rattle.rules.specs.Drive.{mapNumber, mapPlace, blockIn}
 use Rattle.rules.proofs.Sizes.{map-small, map-large}
 
-pub small-is : (r : ℕ) (s : List ℕ) (e k : ℕ) → r ≡ byte s (32 * e + (16 + k)) → r ≡ mapNumber Small s e k
-small-is r s e k h = h ∙ map-small s e k
+-- the number that an arm has found, in its bytes
+pub small-is : (kind : Kind) (u : Rule) (r : ℕ) (s : List ℕ) (e k : ℕ) → kind ≡ Small u → r ≡ byte s (32 * e + (16 + k)) → r ≡ mapNumber kind s e k
+small-is kind u r s e k q h = h ∙ map-small u s e k ∙ ap (λ (one : Kind). mapNumber one s e k) (sym q)
 
-pub large-is : (r : ℕ) (s : List ℕ) (e k at : ℕ) → at ≡ 32 * e + (16 + 2 * k) → r ≡ byte s at + 256 * byte s (at + 1) → r ≡ mapNumber Large s e k
-large-is r s e k at q h = rw q at h ∙ map-large s e k
+pub large-is : (kind : Kind) (u : Rule) (r : ℕ) (s : List ℕ) (e k : ℕ) → kind ≡ Large u
+    → r ≡ byte s (32 * e + (16 + 2 * k)) + 256 * byte s (32 * e + (16 + 2 * k) + 1) → r ≡ mapNumber kind s e k
+large-is kind u r s e k q h = h ∙ map-large u s e k ∙ ap (λ (one : Kind). mapNumber one s e k) (sym q)
 
--- a number that an arm has found
-pub number-as : (kind one : Kind) (r : ℕ) (s : List ℕ) (e k : ℕ) → kind ≡ one → r ≡ mapNumber one s e k → r ≡ mapNumber kind s e k
-number-as kind one r s e k q h = rw q h
-
-module _ (kind : Kind) (q : kind ≡ Small) where
+module _ (kind : Kind) (u : Rule) (q : kind ≡ Small u) where
   pub small-places : (k : ℕ) → k < numbers kind → k < 16
   unfolding numbers
   small-places k l = rw q at l
 
-module _ (kind : Kind) (q : kind ≡ Large) where
+module _ (kind : Kind) (u : Rule) (q : kind ≡ Large u) where
   pub large-places : (k : ℕ) → k < numbers kind → k < 8
   unfolding numbers
   large-places k l = rw q at l

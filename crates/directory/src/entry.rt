@@ -7,7 +7,7 @@ ghost use mathlib.Core.Path.{_≡_};
 ghost use Prim.Native.Nat.{_+_, _*_, _<_, _≤_};
 ghost use lib.ListN.{length};
 ghost use Rattle.rules.specs.Kinds.{numbers};
-ghost use Rattle.rules.specs.declared.kind.Kind.the-variants.{Small, Large};
+ghost use Rattle.words.specs.Bytes.{byte};
 ghost use Rattle.rules.specs.Drive.{isEmpty, extentAt, mapNumber, fileAt, isOf, isEntry};
 
 // Entry `e` is empty.
@@ -29,7 +29,7 @@ pub fn extent_at(image: &[u8], e: usize) -> usize
 // A one-byte number.
 fn small_number(image: &[u8], e: usize, k: usize) -> usize
     requires { ⌜ (32 * e + 32 ≤ length (now image)) × (k < 16) ⌝ }
-    ensures { λ r. ⌜ (r ≡ mapNumber Small (now (image .entry)) e k) × (r < 65536) ⌝ }
+    ensures { λ r. ⌜ (r ≡ byte (now (image .entry)) (32 * e + (16 + k))) × (r < 65536) ⌝ }
 {
     wide(image[32 * e + (16 + k)])
 }
@@ -44,7 +44,7 @@ fn two_bytes(a: u8, b: u8) -> usize
 // A two-byte number.
 fn large_number(image: &[u8], e: usize, k: usize) -> usize
     requires { ⌜ (32 * e + 32 ≤ length (now image)) × (k < 8) ⌝ }
-    ensures { λ r. ⌜ (r ≡ mapNumber Large (now (image .entry)) e k) × (r < 65536) ⌝ }
+    ensures { λ r. ⌜ (r ≡ byte (now (image .entry)) (32 * e + (16 + 2 * k)) + 256 * byte (now (image .entry)) (32 * e + (16 + 2 * k) + 1)) × (r < 65536) ⌝ }
 {
     let at = 32 * e + (16 + 2 * k);
     two_bytes(image[at], image[at + 1])
@@ -56,8 +56,8 @@ pub fn map_number(kind: Kind, image: &[u8], e: usize, k: usize) -> usize
     ensures { λ r. ⌜ (r ≡ mapNumber kind (now (image .entry)) e k) × (r < 65536) ⌝ }
 {
     match kind {
-        Kind::Small => small_number(image, e, k),
-        Kind::Large => large_number(image, e, k),
+        Kind::Small(_) => small_number(image, e, k),
+        Kind::Large(_) => large_number(image, e, k),
     }
 }
 

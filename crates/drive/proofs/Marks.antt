@@ -18,6 +18,7 @@ use Rattle.words.proofs.Sets.{all-stops, all-ends, all-stops-as, all-ends-as, a
 use Rattle.words.proofs.AreBytes.{bytes-replicate}
 use Rattle.words.proofs.Bitwise.{length-bit, set-here, set-there, set-none, bytes-bit}
 use Rattle.words.specs.Hints.{Hints}
+use Rattle.rules.specs.declared.kind.Rule.{Rule}
 use Rattle.rules.specs.declared.kind.Kind.{Kind}
 use Rattle.rules.specs.declared.kind.Kind.the-variants.{Small, Large}
 use Rattle.rules.specs.declared.answer.ImageAnswer.{ImageAnswer}
@@ -44,13 +45,13 @@ zeros kind low s n h = record {
   mark = λ x p l. set-none n x (omega arith);
 }
 
-pub small-none : (low : ℕ) (s : List ℕ) → Marks Small low s 0 0 (replicate 32 0)
+pub small-none : (rule : Rule) (low : ℕ) (s : List ℕ) → Marks (Small rule) low s 0 0 (replicate 32 0)
 unfolding most
-small-none low s = zeros Small low s 32 refl
+small-none rule low s = zeros (Small rule) low s 32 refl
 
-pub large-none : (low : ℕ) (s : List ℕ) → Marks Large low s 0 0 (replicate 512 0)
+pub large-none : (rule : Rule) (low : ℕ) (s : List ℕ) → Marks (Large rule) low s 0 0 (replicate 512 0)
 unfolding most
-large-none low s = zeros Large low s 512 refl
+large-none rule low s = zeros (Large rule) low s 512 refl
 
 -- ---- one number
 

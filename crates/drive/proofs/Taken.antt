@@ -35,8 +35,8 @@ use Rattle.drive.proofs.Marks.{zeros, to-next}
 -- the directory's two are there
 two-blocks : (kind : Kind) (s : List ℕ) → goodLength kind s ≡ true → 2 ≤ blocks kind s
 unfolding goodLength fewest
-two-blocks Small s h = let k : 3 ≤ blocks Small s = leb-true _ _ (and-fst _ _ (and-snd _ _ h)) in omega arith
-two-blocks Large s h = let k : 257 ≤ blocks Large s = leb-true _ _ (and-fst _ _ (and-snd _ _ h)) in omega arith
+two-blocks (Small u) s h = let k : 3 ≤ blocks (Small u) s = leb-true _ _ (and-fst _ _ (and-snd _ _ h)) in omega arith
+two-blocks (Large u) s h = let k : 257 ≤ blocks (Large u) s = leb-true _ _ (and-fst _ _ (and-snd _ _ h)) in omega arith
 
 module _ (kind : Kind) (s : List ℕ) (sound : soundImage kind s ≡ true) where
   -- a block that an entry names is one of the drive's
@@ -208,7 +208,7 @@ module _ (kind : Kind) (s v zs : List ℕ) (z : zs ≡ replicate (vectorSize kin
 -- the first bytes of an array of zeros, as many as the kind has
 pub lent-zeros : (kind : Kind) (n : ℕ) → n ≡ vectorSize kind → n ≤ 512 → take {A = ℕ} (n - 0) (drop 0 (replicate 512 0)) ≡ replicate (vectorSize kind) 0
 unfolding vectorSize
-lent-zeros Small n h l = rw h refl
-lent-zeros Large n h l = rw h refl
+lent-zeros (Small u) n h l = rw h refl
+lent-zeros (Large u) n h l = rw h refl
 
 pub ruleset building = (needs, build-long, build-unsound, build-done, lent-zeros)

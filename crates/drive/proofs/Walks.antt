@@ -30,8 +30,8 @@ use Rattle.drive.specs.Walks.{Repeats, Walked, Answered, Surveyed, Marki
 -- its number is a byte
 pub entry-byte : (kind : Kind) (n e : ℕ) → n ≡ entries kind → e < n → e < 256
 unfolding entries
-entry-byte Small n e q l = omega arith
-entry-byte Large n e q l = omega arith
+entry-byte (Small u) n e q l = omega arith
+entry-byte (Large u) n e q l = omega arith
 
 -- it was looked for among those before it, then noted
 pub repeats-by : (s : List ℕ) (e d h x : ℕ) (f : File) (hints after : List ℕ) → Hints (slotAt s) (inUse s) e hints → f ≡ fileAt s e → x ≡ extentAt s e

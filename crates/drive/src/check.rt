@@ -10,6 +10,7 @@ use index::slot::slot_of;
 use rules::answer::ImageAnswer;
 use rules::answer::is_sound;
 use rules::kind::Kind;
+use rules::kind::Rule;
 use rules::kind::block_size;
 use rules::kind::entries;
 use rules::kind::fewest;
@@ -84,15 +85,15 @@ pub fn in_range(b: usize, n: usize) -> bool
 
 // All block numbers of entry `e` are in range. This loop and those that mark stand once for each kind, so that the kind is no
 // question inside them.
-fn small_in_range(image: &[u8], e: usize) -> bool
+fn small_in_range(rule: Rule, image: &[u8], e: usize) -> bool
     requires { ⌜ 32 * e + 32 ≤ length (now image) ⌝ }
-    ensures { λ r. ⌜ r ≡ all (inRange Small (now (image .entry)) e) (numbers Small) ⌝ }
+    ensures { λ r. ⌜ r ≡ all (inRange (Small rule) (now (image .entry)) e) (numbers (Small rule)) ⌝ }
 {
-    let n = blocks_in(Kind::Small, image);
-    let m = numbers(Kind::Small);
+    let n = blocks_in(Kind::Small(rule), image);
+    let m = numbers(Kind::Small(rule));
     let mut k = 0;
     while k < m {
-        if !in_range(map_number(Kind::Small, image, e, k), n) {
+        if !in_range(map_number(Kind::Small(rule), image, e, k), n) {
             return false;
         }
         k += 1;
@@ -100,15 +101,15 @@ fn small_in_range(image: &[u8], e: usize) -> bool
     true
 }
 
-fn large_in_range(image: &[u8], e: usize) -> bool
+fn large_in_range(rule: Rule, image: &[u8], e: usize) -> bool
     requires { ⌜ 32 * e + 32 ≤ length (now image) ⌝ }
-    ensures { λ r. ⌜ r ≡ all (inRange Large (now (image .entry)) e) (numbers Large) ⌝ }
+    ensures { λ r. ⌜ r ≡ all (inRange (Large rule) (now (image .entry)) e) (numbers (Large rule)) ⌝ }
 {
-    let n = blocks_in(Kind::Large, image);
-    let m = numbers(Kind::Large);
+    let n = blocks_in(Kind::Large(rule), image);
+    let m = numbers(Kind::Large(rule));
     let mut k = 0;
     while k < m {
-        if !in_range(map_number(Kind::Large, image, e, k), n) {
+        if !in_range(map_number(Kind::Large(rule), image, e, k), n) {
             return false;
         }
         k += 1;
@@ -121,20 +122,20 @@ fn all_in_range(kind: Kind, image: &[u8], e: usize) -> bool
     ensures { λ r. ⌜ r ≡ all (inRange kind (now (image .entry)) e) (numbers kind) ⌝ }
 {
     match kind {
-        Kind::Small => small_in_range(image, e),
-        Kind::Large => large_in_range(image, e),
+        Kind::Small(rule) => small_in_range(rule, image, e),
+        Kind::Large(rule) => large_in_range(rule, image, e),
     }
 }
 
 // Marks the block numbers of entry `e`, all in range, and refuses a second mark.
-fn mark_small(image: &[u8], e: usize, seen: &mut [u8]) -> bool
-    requires { ⌜ (32 * e + 32 ≤ length (now image)) × (blocks Small (now image) ≤ most Small) × (all (inRange Small (now image) e) (numbers Small) ≡ true) × Marks Small 1 (now image) e 0 (now seen) ⌝ }
-    ensures { λ r. ⌜ Marked Small (now (image .entry)) e r (now (seen .exit)) ⌝ }
+fn mark_small(rule: Rule, image: &[u8], e: usize, seen: &mut [u8]) -> bool
+    requires { ⌜ (32 * e + 32 ≤ length (now image)) × (blocks (Small rule) (now image) ≤ most (Small rule)) × (all (inRange (Small rule) (now image) e) (numbers (Small rule)) ≡ true) × Marks (Small rule) 1 (now image) e 0 (now seen) ⌝ }
+    ensures { λ r. ⌜ Marked (Small rule) (now (image .entry)) e r (now (seen .exit)) ⌝ }
 {
-    let m = numbers(Kind::Small);
+    let m = numbers(Kind::Small(rule));
     let mut k = 0;
     while k < m {
-        let b = map_number(Kind::Small, image, e, k);
+        let b = map_number(Kind::Small(rule), image, e, k);
         k += 1;
         if b != 0 {
             if is_set(seen, b) {
@@ -146,14 +147,14 @@ fn mark_small(image: &[u8], e: usize, seen: &mut [u8]) -> bool
     true
 }
 
-fn mark_large(image: &[u8], e: usize, seen: &mut [u8]) -> bool
-    requires { ⌜ (32 * e + 32 ≤ length (now image)) × (blocks Large (now image) ≤ most Large) × (all (inRange Large (now image) e) (numbers Large) ≡ true) × Marks Large 1 (now image) e 0 (now seen) ⌝ }
-    ensures { λ r. ⌜ Marked Large (now (image .entry)) e r (now (seen .exit)) ⌝ }
+fn mark_large(rule: Rule, image: &[u8], e: usize, seen: &mut [u8]) -> bool
+    requires { ⌜ (32 * e + 32 ≤ length (now image)) × (blocks (Large rule) (now image) ≤ most (Large rule)) × (all (inRange (Large rule) (now image) e) (numbers (Large rule)) ≡ true) × Marks (Large rule) 1 (now image) e 0 (now seen) ⌝ }
+    ensures { λ r. ⌜ Marked (Large rule) (now (image .entry)) e r (now (seen .exit)) ⌝ }
 {
-    let m = numbers(Kind::Large);
+    let m = numbers(Kind::Large(rule));
     let mut k = 0;
     while k < m {
-        let b = map_number(Kind::Large, image, e, k);
+        let b = map_number(Kind::Large(rule), image, e, k);
         k += 1;
         if b != 0 {
             if is_set(seen, b) {
@@ -170,8 +171,8 @@ fn mark_entry(kind: Kind, image: &[u8], e: usize, seen: &mut [u8]) -> bool
     ensures { λ r. ⌜ Marked kind (now (image .entry)) e r (now (seen .exit)) ⌝ }
 {
     match kind {
-        Kind::Small => mark_small(image, e, seen),
-        Kind::Large => mark_large(image, e, seen),
+        Kind::Small(rule) => mark_small(rule, image, e, seen),
+        Kind::Large(rule) => mark_large(rule, image, e, seen),
     }
 }
 
@@ -317,20 +318,20 @@ fn directory_answer(kind: Kind, image: &[u8], seen: &mut [u8], hints: &mut [u8; 
 }
 
 // The same with marks of its own: 32 bytes on a drive of the first kind, 512 on one of the second.
-fn small_answer(image: &[u8], hints: &mut [u8; 256]) -> ImageAnswer
-    requires { ⌜ (32 * entries Small ≤ length (now image)) × (blocks Small (now image) ≤ most Small) × Hints (slotAt (now image)) (inUse (now image)) 0 (now hints) ⌝ }
-    ensures { λ r. ⌜ Answered (directoryAnswer Small (now (image .entry))) (now (image .entry)) (entries Small) r (now (hints .exit)) ⌝ }
+fn small_answer(rule: Rule, image: &[u8], hints: &mut [u8; 256]) -> ImageAnswer
+    requires { ⌜ (32 * entries (Small rule) ≤ length (now image)) × (blocks (Small rule) (now image) ≤ most (Small rule)) × Hints (slotAt (now image)) (inUse (now image)) 0 (now hints) ⌝ }
+    ensures { λ r. ⌜ Answered (directoryAnswer (Small rule) (now (image .entry))) (now (image .entry)) (entries (Small rule)) r (now (hints .exit)) ⌝ }
 {
     let mut seen = [0u8; 32];
-    directory_answer(Kind::Small, image, &mut seen, hints)
+    directory_answer(Kind::Small(rule), image, &mut seen, hints)
 }
 
-fn large_answer(image: &[u8], hints: &mut [u8; 256]) -> ImageAnswer
-    requires { ⌜ (32 * entries Large ≤ length (now image)) × (blocks Large (now image) ≤ most Large) × Hints (slotAt (now image)) (inUse (now image)) 0 (now hints) ⌝ }
-    ensures { λ r. ⌜ Answered (directoryAnswer Large (now (image .entry))) (now (image .entry)) (entries Large) r (now (hints .exit)) ⌝ }
+fn large_answer(rule: Rule, image: &[u8], hints: &mut [u8; 256]) -> ImageAnswer
+    requires { ⌜ (32 * entries (Large rule) ≤ length (now image)) × (blocks (Large rule) (now image) ≤ most (Large rule)) × Hints (slotAt (now image)) (inUse (now image)) 0 (now hints) ⌝ }
+    ensures { λ r. ⌜ Answered (directoryAnswer (Large rule) (now (image .entry))) (now (image .entry)) (entries (Large rule)) r (now (hints .exit)) ⌝ }
 {
     let mut seen = [0u8; 512];
-    directory_answer(Kind::Large, image, &mut seen, hints)
+    directory_answer(Kind::Large(rule), image, &mut seen, hints)
 }
 
 fn own_answer(kind: Kind, image: &[u8], hints: &mut [u8; 256]) -> ImageAnswer
@@ -338,8 +339,8 @@ fn own_answer(kind: Kind, image: &[u8], hints: &mut [u8; 256]) -> ImageAnswer
     ensures { λ r. ⌜ Answered (directoryAnswer kind (now (image .entry))) (now (image .entry)) (entries kind) r (now (hints .exit)) ⌝ }
 {
     match kind {
-        Kind::Small => small_answer(image, hints),
-        Kind::Large => large_answer(image, hints),
+        Kind::Small(rule) => small_answer(rule, image, hints),
+        Kind::Large(rule) => large_answer(rule, image, hints),
     }
 }
 

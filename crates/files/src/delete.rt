@@ -65,7 +65,7 @@ fn delete_refusal(
 
 // Where the caller has the file open, at place o, its open and its locks on the file go together, as by 16.
 fn close_where(p: u8, l: LockList, o: usize, f: File, list: &mut [u8])
-    requires { ⌜ length (now list) ≡ 1315 ⌝ }
+    requires { ⌜ length (now list) ≡ 1316 ⌝ }
     ensures { λ _. ⌜ now (list .exit) ≡ closedWhere p l o f (now (list .entry)) ⌝ }
 {
     if 64 <= o {

@@ -14,6 +14,7 @@ use Rattle.words.proofs.Tests.{all-at}
 use Rattle.words.proofs.Sets.{and-both}
 use Rattle.words.proofs.AreBytes.{bytes-cons, bytes-replicate}
 use Rattle.rules.specs.declared.kind.Kind.the-variants.{Small}
+use Rattle.rules.specs.declared.kind.Rule.the-variants.{Mpm}
 use Rattle.rules.specs.declared.list.LockList.{LockList}
 use Rattle.rules.specs.Drive.{fileFrom, legalName, entryOf, blockOf, soundImage}
 use Rattle.rules.specs.Locks.{sameName}
@@ -23,35 +24,35 @@ use Rattle.session.specs.Open.{rules}
 use Rattle.filling.specs.Book.{nameOf, entryFor, firstEntry, laterEntry, book, fcbFor, dmaFor, fileNo}
 
 -- the book is a sound image of the first kind
-pub book-sound : soundImage Small book ≡ true
+pub book-sound : soundImage (Small Mpm) book ≡ true
 unfolding rules nameOf entryFor firstEntry laterEntry book
 book-sound = refl
 
 -- ---- each file is there
 
 isThere : ℕ → Bool
-isThere j = ltb (entryOf Small book (fileNo j) 0) 64
+isThere j = ltb (entryOf (Small Mpm) book (fileNo j) 0) 64
 
 all-there : all isThere 64 ≡ true
 unfolding rules nameOf entryFor firstEntry laterEntry book fileNo isThere
 all-there = refl
 
 -- each of the 64 files has its extent 0
-pub there : (j : ℕ) → j < 64 → entryOf Small book (fileNo j) 0 < 64
+pub there : (j : ℕ) → j < 64 → entryOf (Small Mpm) book (fileNo j) 0 < 64
 unfolding isThere
 there j m = ltb-true _ _ (all-at isThere 64 j all-there m)
 
 -- ---- the first has a block for each record below 64
 
 hasBlock : ℕ → Bool
-hasBlock r = not (eqb (blockOf Small book (fileNo 0) r) 0)
+hasBlock r = not (eqb (blockOf (Small Mpm) book (fileNo 0) r) 0)
 
 all-blocks : all hasBlock 64 ≡ true
 unfolding rules nameOf entryFor firstEntry laterEntry book fileNo hasBlock
 all-blocks = refl
 
 -- a record below 64 of the first file has a block
-pub blocked : (r : ℕ) → r < 64 → blockOf Small book (fileNo 0) r ≡ 0 → ⊥
+pub blocked : (r : ℕ) → r < 64 → blockOf (Small Mpm) book (fileNo 0) r ≡ 0 → ⊥
 unfolding hasBlock
 blocked r m = eqb-false _ _ (not-true _ (all-at hasBlock 64 r all-blocks m))
 

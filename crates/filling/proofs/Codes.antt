@@ -14,7 +14,8 @@ use Rattle.words.proofs.Tests.{any-never, lowest-none}
 use Rattle.words.proofs.Tables.{none-applies}
 use Rattle.words.proofs.Sets.{and-both, and-left, or-none, not-of-false, not-of-true, row-yes, row-no, row-none, only-on}
 use Rattle.rules.specs.declared.kind.Kind.the-variants.{Small}
-use Rattle.rules.specs.Kinds.{entries, top}
+use Rattle.rules.specs.declared.kind.Rule.the-variants.{Mpm}
+use Rattle.rules.specs.Kinds.{ruleOf, highest, entries, top}
 use Rattle.rules.specs.declared.file.File.{File}
 use Rattle.rules.specs.declared.list.LockList.{LockList}
 use Rattle.rules.specs.Serves.{Outcome, buffers, chosen, isUnknown}
@@ -34,9 +35,9 @@ use Rattle.filling.proofs.Book.{there, blocked, legal, caller-file, fcb
 
 -- ---- the general table
 
-module _ (n q j r id : ℕ) (list : List ℕ) (known : isUnknown (chosen n) ≡ false) (m : q < 16) (w : SoundBoth Small list book) where
+module _ (n q j r id : ℕ) (list : List ℕ) (known : isUnknown (chosen n) ≡ false) (m : q < 16) (w : SoundBoth (Small Mpm) list book) where
   -- no row of the general table applies, ..
-  pub quiet : anyRow (rowsAll Small n q 1 (buffers (fcbFor j r) (dmaFor id) list book)) ≡ false
+  pub quiet : anyRow (rowsAll (Small Mpm) n q 1 (buffers (fcbFor j r) (dmaFor id) list book)) ≡ false
   unfolding rowsAll rowsInside badDrive anyRow fcbFor
   quiet = or-none _ _ (numbers-good n q 1 (fcbFor j r) (dmaFor id) list (record {
     known = known;
@@ -49,8 +50,8 @@ module _ (n q j r id : ℕ) (list : List ℕ) (known : isUnknown (chosen n) ≡ 
   })) (or-none _ _ (not-of-true _ (w .image-sound)) (or-none _ _ (not-of-true _ (w .list-sound)) (or-none _ _ (and-left _ _ refl) refl)))
 
   -- .. so the call may rely on what that table asks
-  pub through : Passed Small q 1 (buffers (fcbFor j r) (dmaFor id) list book)
-  through = passed Small n q 1 (buffers (fcbFor j r) (dmaFor id) list book) quiet
+  pub through : Passed (Small Mpm) q 1 (buffers (fcbFor j r) (dmaFor id) list book)
+  through = passed (Small Mpm) n q 1 (buffers (fcbFor j r) (dmaFor id) list book) quiet
 
 -- ---- 15
 
@@ -63,7 +64,7 @@ pub record CanOpen (q j : ℕ) (l : LockList) : Type 0 where
   pub within : opensBy l q < l .openlimit
 
 open-rows : (q j r : ℕ) (l : LockList) → CanOpen q j l
-    → firstOf (rows15 Small q l (openOf l q (fileNo j)) (fileNo j) (lookUp Small book (fileNo j)) (fcbFor j r))
+    → firstOf (rows15 (Small Mpm) q l (openOf l q (fileNo j)) (fileNo j) (lookUp (Small Mpm) book (fileNo j)) (fcbFor j r))
     ≡ firstOf (255 ∕ 11 when leb (l .capacity) (freePlace l) ∷ [])
 unfolding rows15 rowsNew missing lookUp isOpened entries
 open-rows q j r l w = sym (row-no _ _ _ _ (not-of-true _ (legal j r (w .file-fits))) (row-no _ _ _ _ (lt-leb 64 _ (there j (w .file-fits)))
@@ -90,20 +91,20 @@ pub record CanLock (q r id : ℕ) (l : LockList) : Type 0 where
   pub within : locksBy l q + 1 ≤ l .locklimit
 
 lock-rows : (q r id : ℕ) (l : LockList) → CanLock q r id l
-    → firstOf (rows42 Small q l id (fileNo 0) r 1 (dmaFor id) book) ≡ firstOf (14 ∕ 0 when ltb (freePlaces l) 1 ∷ [])
-unfolding rows42 rowsRun rowsLacking rowsTake firstLacking isOpened isFileId dmaFor top
+    → firstOf (rows42 (Small Mpm) q l id (fileNo 0) r 1 (dmaFor id) book) ≡ firstOf (14 ∕ 0 when ltb (freePlaces l) 1 ∷ [])
+unfolding rows42 rowsRun rowsLacking rowsTake firstLacking isOpened isFileId dmaFor top highest ruleOf
 lock-rows q r id l w = sym (row-no _ _ _ _ (not-of-true _ (lt-ltb id 64 (w .below))) (only-on _ _ _ (eq-eqb _ _ (w .unlocked))
-    (row-no _ _ _ _ (not-of-true _ (and-both _ _ (eq-eqb id id refl) refl)) (row-no _ _ _ _ (le-ltb (top Small) (lastOf r 1) fits)
+    (row-no _ _ _ _ (not-of-true _ (and-both _ _ (eq-eqb id id refl) refl)) (row-no _ _ _ _ (le-ltb (top (Small Mpm)) (lastOf r 1) fits)
     (row-no _ _ _ _ (and-left _ _ none-lack) (row-no _ _ _ _ none-lack
     (row-no _ _ _ _ others (row-no _ _ _ _ (le-ltb _ _ (w .within)) (ap (λ (x : ℕ). firstOf (14 ∕ 0 when ltb (freePlaces l) x ∷ [])) (sym one-new))))))))))
   where
-    fits : lastOf r 1 ≤ top Small
+    fits : lastOf r 1 ≤ top (Small Mpm)
     fits = let m = w .record-fits in omega arith
 
-    none-lack : ltb (lowest (lacks Small book (fileNo 0) r) 1) 1 ≡ false
-    none-lack = rw (lowest-none (lacks Small book (fileNo 0) r) 1 (any-never (lacks Small book (fileNo 0) r) 1 (λ i m. has i m))) refl
+    none-lack : ltb (lowest (lacks (Small Mpm) book (fileNo 0) r) 1) 1 ≡ false
+    none-lack = rw (lowest-none (lacks (Small Mpm) book (fileNo 0) r) 1 (any-never (lacks (Small Mpm) book (fileNo 0) r) 1 (λ i m. has i m))) refl
       where
-        has : (i : ℕ) → i < 1 → lacks Small book (fileNo 0) r i ≡ false
+        has : (i : ℕ) → i < 1 → lacks (Small Mpm) book (fileNo 0) r i ≡ false
         has i m = unfold lacks in ne-eqb _ _ (blocked (r + i) (let k = w .record-fits in omega arith))
 
     others : any (isOthers l q (fileNo 0) r) 1 ≡ false
@@ -122,25 +123,25 @@ pub record Leaves (o : Outcome) (list : List ℕ) : Type 0 where
   pub list-is : o .left .list ≡ list
   pub image-is : o .left .image ≡ book
 
-module _ (q j id : ℕ) (list : List ℕ) (m : q < 16) (s : SoundBoth Small list book) (w : CanOpen q j (unpack list)) where
+module _ (q j id : ℕ) (list : List ℕ) (m : q < 16) (s : SoundBoth (Small Mpm) list book) (w : CanOpen q j (unpack list)) where
   abbrev opens : Outcome
-  opens = callRun Small 15 q 1 (buffers (fcbFor j 0) (dmaFor id) list book)
+  opens = callRun (Small Mpm) 15 q 1 (buffers (fcbFor j 0) (dmaFor id) list book)
 
   file : callerFile q (unpack list) (fcbFor j 0) ≡ fileNo j
   file = caller-file q (unpack list) j 0 m (w .users) (w .file-fits)
 
-  own-open : firstOf (rowsOf (chosen 15) (asked Small q 1 (buffers (fcbFor j 0) (dmaFor id) list book)) (buffers (fcbFor j 0) (dmaFor id) list book))
+  own-open : firstOf (rowsOf (chosen 15) (asked (Small Mpm) q 1 (buffers (fcbFor j 0) (dmaFor id) list book)) (buffers (fcbFor j 0) (dmaFor id) list book))
       ≡ firstOf (255 ∕ 11 when leb (unpack list .capacity) (freePlace (unpack list)) ∷ [])
   unfolding chosen rowsOf asked askedBy _if_else_
   own-open =
-      ap (λ (f : File). firstOf (rows15 Small q (unpack list) (openOf (unpack list) q f) f (lookUp Small book f) (fcbFor j 0))) file
+      ap (λ (f : File). firstOf (rows15 (Small Mpm) q (unpack list) (openOf (unpack list) q f) f (lookUp (Small Mpm) book f) (fcbFor j 0))) file
       ∙ open-rows q j 0 (unpack list) w
 
-  served-open : opens ≡ Rattle.rules.specs.Call.served Small (chosen 15) q 1 (buffers (fcbFor j 0) (dmaFor id) list book)
+  served-open : opens ≡ Rattle.rules.specs.Call.served (Small Mpm) (chosen 15) q 1 (buffers (fcbFor j 0) (dmaFor id) list book)
   unfolding servesRun _or_
   served-open =
-      run-plain Small 15 q 1 (buffers (fcbFor j 0) (dmaFor id) list book) refl
-      ∙ call-served Small 15 q 1 (buffers (fcbFor j 0) (dmaFor id) list book) (none-applies _ (quiet 15 q j 0 id list (known 15 refl) m s))
+      run-plain (Small Mpm) 15 q 1 (buffers (fcbFor j 0) (dmaFor id) list book) refl
+      ∙ call-served (Small Mpm) 15 q 1 (buffers (fcbFor j 0) (dmaFor id) list book) (none-applies _ (quiet 15 q j 0 id list (known 15 refl) m s))
     where
       known : (n : ℕ) → n ≡ 15 → isUnknown (chosen n) ≡ false
       known n e = unfold chosen isUnknown _if_else_ in rw e refl
@@ -162,33 +163,33 @@ module _ (q j id : ℕ) (list : List ℕ) (m : q < 16) (s : SoundBoth Small list
       let code = own-open ∙ sym (row-no 0 (255 ∕ 11) _ [] (lt-leb _ _ room) (row-none 0 refl)) in
       rw (served-open ∙ accepts _ _ _ code) left
     where
-      left : Leaves (effectOf (chosen 15) (asked Small q 1 (buffers (fcbFor j 0) (dmaFor id) list book)) (buffers (fcbFor j 0) (dmaFor id) list book))
+      left : Leaves (effectOf (chosen 15) (asked (Small Mpm) q 1 (buffers (fcbFor j 0) (dmaFor id) list book)) (buffers (fcbFor j 0) (dmaFor id) list book))
           (pack (opened q (fileNo j) 1 (unpack list)))
       left = unfold chosen effectOf asked askedBy does15 isOpened _if_else_ in
           rw (file, le-ltb (openOf (unpack list) q (fileNo j)) 64 (let e = w .unopened in omega arith), fcb-mode j 0)
           (record { list-is = refl; image-is = refl })
 
-module _ (q r id : ℕ) (list : List ℕ) (m : q < 16) (s : SoundBoth Small list book) (w : CanLock q r id (unpack list)) where
+module _ (q r id : ℕ) (list : List ℕ) (m : q < 16) (s : SoundBoth (Small Mpm) list book) (w : CanLock q r id (unpack list)) where
   abbrev locks : Outcome
-  locks = callRun Small 42 q 1 (buffers (fcbFor 0 r) (dmaFor id) list book)
+  locks = callRun (Small Mpm) 42 q 1 (buffers (fcbFor 0 r) (dmaFor id) list book)
 
   first-file : callerFile q (unpack list) (fcbFor 0 r) ≡ fileNo 0
   first-file = caller-file q (unpack list) 0 r m (w .users) (omega arith)
 
-  own-lock : firstOf (rowsOf (chosen 42) (asked Small q 1 (buffers (fcbFor 0 r) (dmaFor id) list book)) (buffers (fcbFor 0 r) (dmaFor id) list book))
+  own-lock : firstOf (rowsOf (chosen 42) (asked (Small Mpm) q 1 (buffers (fcbFor 0 r) (dmaFor id) list book)) (buffers (fcbFor 0 r) (dmaFor id) list book))
       ≡ firstOf (14 ∕ 0 when ltb (freePlaces (unpack list)) 1 ∷ [])
   unfolding chosen rowsOf asked askedBy _if_else_
   own-lock =
-      ap (λ (f : File). firstOf (rows42 Small q (unpack list) (openOf (unpack list) q f) f (recordOf (fcbFor 0 r)) 1 (dmaFor id) book)) first-file
-      ∙ ap (λ (x : ℕ). firstOf (rows42 Small q (unpack list) (openOf (unpack list) q (fileNo 0)) (fileNo 0) x 1 (dmaFor id) book)) (fcb-record 0 r)
-      ∙ ap (λ (o : ℕ). firstOf (rows42 Small q (unpack list) o (fileNo 0) r 1 (dmaFor id) book)) (w .is-open)
+      ap (λ (f : File). firstOf (rows42 (Small Mpm) q (unpack list) (openOf (unpack list) q f) f (recordOf (fcbFor 0 r)) 1 (dmaFor id) book)) first-file
+      ∙ ap (λ (x : ℕ). firstOf (rows42 (Small Mpm) q (unpack list) (openOf (unpack list) q (fileNo 0)) (fileNo 0) x 1 (dmaFor id) book)) (fcb-record 0 r)
+      ∙ ap (λ (o : ℕ). firstOf (rows42 (Small Mpm) q (unpack list) o (fileNo 0) r 1 (dmaFor id) book)) (w .is-open)
       ∙ lock-rows q r id (unpack list) w
 
-  served-lock : locks ≡ Rattle.rules.specs.Call.served Small (chosen 42) q 1 (buffers (fcbFor 0 r) (dmaFor id) list book)
+  served-lock : locks ≡ Rattle.rules.specs.Call.served (Small Mpm) (chosen 42) q 1 (buffers (fcbFor 0 r) (dmaFor id) list book)
   unfolding servesRun _or_
   served-lock =
-      run-plain Small 42 q 1 (buffers (fcbFor 0 r) (dmaFor id) list book) refl
-      ∙ call-served Small 42 q 1 (buffers (fcbFor 0 r) (dmaFor id) list book) (none-applies _ (quiet 42 q 0 r id list (known 42 refl) m s))
+      run-plain (Small Mpm) 42 q 1 (buffers (fcbFor 0 r) (dmaFor id) list book) refl
+      ∙ call-served (Small Mpm) 42 q 1 (buffers (fcbFor 0 r) (dmaFor id) list book) (none-applies _ (quiet 42 q 0 r id list (known 42 refl) m s))
     where
       known : (n : ℕ) → n ≡ 42 → isUnknown (chosen n) ≡ false
       known n e = unfold chosen isUnknown _if_else_ in rw e refl
@@ -210,7 +211,7 @@ module _ (q r id : ℕ) (list : List ℕ) (m : q < 16) (s : SoundBoth Small list
       let code = own-lock ∙ sym (row-no 0 (14 ∕ 0) _ [] (le-ltb (freePlaces (unpack list)) 1 (omega arith)) (row-none 0 refl)) in
       rw (served-lock ∙ accepts _ _ _ code) left
     where
-      left : Leaves (effectOf (chosen 42) (asked Small q 1 (buffers (fcbFor 0 r) (dmaFor id) list book)) (buffers (fcbFor 0 r) (dmaFor id) list book))
+      left : Leaves (effectOf (chosen 42) (asked (Small Mpm) q 1 (buffers (fcbFor 0 r) (dmaFor id) list book)) (buffers (fcbFor 0 r) (dmaFor id) list book))
           (pack (placed (freshLock q (nameOf 0) r) (unpack list)))
       left = unfold chosen effectOf asked askedBy does42 lockedRun lockedAt turns _if_else_ fileNo in
           (let z : r + 0 ≡ r = omega arith in

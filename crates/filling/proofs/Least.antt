@@ -16,9 +16,10 @@ use Rattle.words.proofs.Tests.{either, equal?, any-never}
 use Rattle.words.proofs.Counts.{count-zero}
 use Rattle.words.proofs.Sets.{and-both, or-left, or-right}
 use Rattle.rules.specs.declared.kind.Kind.the-variants.{Small}
+use Rattle.rules.specs.declared.kind.Rule.the-variants.{Mpm}
 use Rattle.rules.specs.declared.item.Item.{Item}
 use Rattle.rules.specs.declared.list.LockList.{LockList}
-use Rattle.rules.specs.Locks.{itemAt, isLimit, isUser, isKindBy, isKindByAt, opensBy, locksBy, openOf, isEmptyAt, freePlaces, freshList, unpack, pack}
+use Rattle.rules.specs.Locks.{itemAt, isLimit, isUser, isRule, isKindBy, isKindByAt, opensBy, locksBy, openOf, isEmptyAt, freePlaces, freshList, unpack, pack}
 use Rattle.rules.proofs.SoundList.{Limits, list-sound-of, list-sound-so, unpacked}
 use Rattle.rules.proofs.Packing.{pack-long}
 use Rattle.sizing.specs.Sizes.{isCaller}
@@ -48,19 +49,20 @@ one-of p x m = is-one (λ (y : ℕ). y) p x m
 
 module _ (c o k : ℕ) (callers : List ℕ) (limits : (1 ≤ c) × (c ≤ 64)) (opening : (1 ≤ o) × (o ≤ 64)) (locking : (1 ≤ k) × (k ≤ 64)) where
   abbrev l : LockList
-  l = fresh Small c o k (replicate 16 0)
+  l = fresh (Small Mpm) c o k 0 (replicate 16 0)
 
   good : Limits l
-  unfolding isLimit isUser all _and_
+  unfolding isLimit isUser isRule all _and_
   good = record {
     capacity-good = and-both _ _ (le-leb 1 c (limits .0)) (le-leb c 64 (limits .1));
     open-good = and-both _ _ (le-leb 1 o (opening .0)) (le-leb o 64 (opening .1));
     lock-good = and-both _ _ (le-leb 1 k (locking .0)) (le-leb k 64 (locking .1));
     users-good = refl;
+    rule-good = refl;
   }
 
   empty : (i : ℕ) → i < 64 → itemAt l i .kind ≡ 0
-  empty i m = ap (λ (it : Item). it .kind) (fresh-at i m Small c o k (replicate 16 0))
+  empty i m = ap (λ (it : Item). it .kind) (fresh-at i m (Small Mpm) c o k 0 (replicate 16 0))
 
   none-kind : (n x : ℕ) → (n ≡ 0 → ⊥) → count (isKindByAt l n x) 64 ≡ 0
   unfolding isKindByAt isKindBy
@@ -87,23 +89,23 @@ module _ (c o k : ℕ) (callers : List ℕ) (limits : (1 ≤ c) × (c ≤ 64)) (
     free = all-free c (limits .1);
   }
 
-  list-is : freshList Small c o k (replicate 16 0) ≡ pack l
-  list-is = sym (fresh-packed Small c o k (replicate 16 0) refl)
+  list-is : freshList (Small Mpm) c o k 0 (replicate 16 0) ≡ pack l
+  list-is = sym (fresh-packed (Small Mpm) c o k 0 (replicate 16 0) refl)
 
   -- nothing is open and nothing locked at the start
   pub begin : At c o k callers (λ (x : ℕ). 0) (λ (x : ℕ). 0) 0 c
   begin =
-      let shape = fresh-shape Small c o k (replicate 16 0) refl in
-      let sound = fresh-sound Small c o k (replicate 16 0) book good in
+      let shape = fresh-shape (Small Mpm) c o k 0 (replicate 16 0) refl in
+      let sound = fresh-sound (Small Mpm) c o k 0 (replicate 16 0) book good in
       record {
-        list = freshList Small c o k (replicate 16 0);
+        list = freshList (Small Mpm) c o k 0 (replicate 16 0);
         calls = none;
         both = rw list-is (record {
           image-sound = book-sound;
           list-long = pack-long l (shape .items-long);
-          list-sound = list-sound-so Small l book sound shape;
+          list-sound = list-sound-so (Small Mpm) l book sound shape;
         });
-        facts = rw list-is (rw (unpacked Small l book sound shape) facts);
+        facts = rw list-is (rw (unpacked (Small Mpm) l book sound shape) facts);
       }
 
 -- ---- numbers
@@ -174,7 +176,7 @@ module _ (p o k : ℕ) (few : suc p ≤ 16) (some : 1 ≤ o) (fits : suc p * (o 
       none-yet = unfold _if_else_ in rw (le-ltb p p (omega arith)) refl
 
   -- the last Lock
-  pub ends-14 : EndsIn Small callers book (freshList Small c o (suc k) (replicate 16 0)) (14 ∕ 0)
+  pub ends-14 : EndsIn (Small Mpm) callers book (freshList (Small Mpm) c o (suc k) 0 (replicate 16 0)) (14 ∕ 0)
   ends-14 =
       let w = whole in
       let a = opens-grow in
@@ -182,7 +184,7 @@ module _ (p o k : ℕ) (few : suc p ≤ 16) (some : 1 ≤ o) (fits : suc p * (o 
       let at = locked-most in
       let opens = below (suc p) o in
       let locks = more p k (below p (suc k)) in
-      let sound = list-sound-of Small (at .list) book (at .both .list-sound) in
+      let sound = list-sound-of (Small Mpm) (at .list) book (at .both .list-sound) in
       let can = can-lock c o (suc k) opens locks (suc k * p + k) 0 (unpack (at .list)) sound (at .facts) p (rw (at-below (suc p) o p (omega arith)) some)
       (rw (at-own p k (suc k)) (omega arith)) (omega arith) in
       record {
@@ -259,10 +261,10 @@ module _ (p o k : ℕ) (few : suc p ≤ 16) (some : 1 ≤ o) (one : 1 ≤ k) (fi
       (subst (λ (x : ℕ). At size (suc o) k those nearly (λ (y : ℕ). 0) 0 x) z opened-most)
 
   -- the last Open
-  pub ends-11 : EndsIn Small those book (freshList Small size (suc o) k (replicate 16 0)) (255 ∕ 11)
+  pub ends-11 : EndsIn (Small Mpm) those book (freshList (Small Mpm) size (suc o) k 0 (replicate 16 0)) (255 ∕ 11)
   ends-11 =
       let at = locked-all in
-      let sound = list-sound-of Small (at .list) book (at .both .list-sound) in
+      let sound = list-sound-of (Small Mpm) (at .list) book (at .both .list-sound) in
       let can = can-open size (suc o) k nearly (below (suc p) k) (k * suc p) 0 (unpack (at .list)) sound (at .facts) p
       (rw (at-own p o (suc o)) (omega arith)) in
       record {
@@ -282,13 +284,13 @@ module _ (p o k : ℕ) (few : suc p ≤ 16) (some : 1 ≤ o) (one : 1 ≤ k) (fi
 
 -- ---- the statement
 
-short : (p o k : ℕ) → 1 ≤ p → p ≤ 16 → 1 ≤ o → 1 ≤ k → p * (o + k) ≤ 65 → EndsIn Small (firstOnes p) book (oneFewer p o k) (14 ∕ 0)
+short : (p o k : ℕ) → 1 ≤ p → p ≤ 16 → 1 ≤ o → 1 ≤ k → p * (o + k) ≤ 65 → EndsIn (Small Mpm) (firstOnes p) book (oneFewer p o k) (14 ∕ 0)
 unfolding oneFewer
 short zero o k a b c d e = absurd (omega arith)
 short (suc p) o zero a b c d e = absurd (omega arith)
 short (suc p) o (suc k) a b c d e = ends-14 p o k b c e
 
-full : (p o k : ℕ) → 1 ≤ p → p ≤ 16 → 2 ≤ o → 1 ≤ k → p * (o + k) ≤ 65 → EndsIn Small (firstOnes p) book (oneFewer p o k) (255 ∕ 11)
+full : (p o k : ℕ) → 1 ≤ p → p ≤ 16 → 2 ≤ o → 1 ≤ k → p * (o + k) ≤ 65 → EndsIn (Small Mpm) (firstOnes p) book (oneFewer p o k) (255 ∕ 11)
 unfolding oneFewer
 full zero o k a b c d e = absurd (omega arith)
 full (suc p) zero k a b c d e = absurd (omega arith)

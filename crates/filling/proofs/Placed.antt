@@ -13,6 +13,7 @@ use Rattle.words.proofs.Tests.{either, equal?, and-snd, any-found, any-some, an
 use Rattle.words.proofs.Counts.{count-one, count-any, any-count}
 use Rattle.words.proofs.Sets.{and-left, and-last}
 use Rattle.rules.specs.declared.kind.Kind.the-variants.{Small}
+use Rattle.rules.specs.declared.kind.Rule.the-variants.{Mpm}
 use Rattle.rules.specs.declared.item.Item.{Item}
 use Rattle.rules.specs.declared.list.LockList.{LockList}
 use Rattle.rules.specs.Locks.{itemAt, withItems, freshOpen, freshLock, opensName, opensNameAt, openOf, opensFile, opensFileAt, locksRecord, locksRecordAt, isOthersLock, lockedByOther, isOwnLock, held, isKindBy, isKindByAt, opensBy, locksBy, isEmptyAt, freePlace, freePlaces, isLimit}
@@ -51,7 +52,7 @@ pub record Facts (c o k : ℕ) (opens locks : ℕ → ℕ) (r n : ℕ) (l : Lock
 
 -- ---- what the tables ask
 
-module _ (c o k : ℕ) (opens locks : ℕ → ℕ) (r n : ℕ) (l : LockList) (g : SoundLocks Small l book) (w : Facts c o k opens locks r n l) where
+module _ (c o k : ℕ) (opens locks : ℕ → ℕ) (r n : ℕ) (l : LockList) (g : SoundLocks (Small Mpm) l book) (w : Facts c o k opens locks r n l) where
   limit-fits : l .openlimit ≤ 64
   unfolding isLimit
   limit-fits = leb-true _ _ (and-snd _ _ (g .limits .open-good))
@@ -146,7 +147,7 @@ module _ (c o k : ℕ) (opens locks : ℕ → ℕ) (r n : ℕ) (l : LockList) (g
 
 -- ---- one item more
 
-module _ (l : LockList) (h : Shape l) (g : SoundLocks Small l book) (room : freePlace l < l .capacity) (it : Item) (some : it .kind ≡ 0 → ⊥) where
+module _ (l : LockList) (h : Shape l) (g : SoundLocks (Small Mpm) l book) (room : freePlace l < l .capacity) (it : Item) (some : it .kind ≡ 0 → ⊥) where
   abbrev j : ℕ
   j = freePlace l
 
@@ -185,7 +186,7 @@ module _ (l : LockList) (h : Shape l) (g : SoundLocks Small l book) (room : free
       let z : itemAt l (a .0) .kind ≡ 0 = ap (λ (i : ℕ). itemAt l i .kind) q ∙ here .empty in absurd (omega arith)) in
       any-found (opensNameAt now x name) 64 (a .0) (a .1) (ap (opensName x name) e ∙ a .2)
 
-module _ (c o k : ℕ) (opens locks : ℕ → ℕ) (r n : ℕ) (l : LockList) (h : Shape l) (g : SoundLocks Small l book)
+module _ (c o k : ℕ) (opens locks : ℕ → ℕ) (r n : ℕ) (l : LockList) (h : Shape l) (g : SoundLocks (Small Mpm) l book)
     (w : Facts c o k opens locks r (suc n) l) (q : ℕ) where
   room : freePlace l < l .capacity
   room = has-place c o k opens locks r (suc n) l g w (omega arith)

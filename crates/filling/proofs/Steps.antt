@@ -13,7 +13,8 @@ use Rattle.words.specs.Tests.{_if_else_, count}
 use Rattle.words.specs.Lists.{turns}
 use Rattle.words.proofs.Tests.{either}
 use Rattle.rules.specs.declared.kind.Kind.the-variants.{Small}
-use Rattle.rules.specs.Kinds.{entries, top}
+use Rattle.rules.specs.declared.kind.Rule.the-variants.{Mpm}
+use Rattle.rules.specs.Kinds.{ruleOf, highest, entries, top}
 use Rattle.rules.specs.declared.file.File.{File}
 use Rattle.rules.specs.declared.list.LockList.{LockList}
 use Rattle.rules.specs.Serves.{Buffers, buffers, chosen, isUnknown}
@@ -37,21 +38,21 @@ use Rattle.filling.proofs.Placed.{oneMore, Facts, has-place, can-open, 
 -- the list after some calls, with what it holds
 pub record At (c o k : ℕ) (callers : List ℕ) (opens locks : ℕ → ℕ) (r n : ℕ) : Type 0 where
   pub list : List ℕ
-  pub calls : Calls Small callers book (freshList Small c o k (replicate 16 0)) list
-  pub both : SoundBoth Small list book
+  pub calls : Calls (Small Mpm) callers book (freshList (Small Mpm) c o k 0 (replicate 16 0)) list
+  pub both : SoundBoth (Small Mpm) list book
   pub facts : Facts c o k opens locks r n (unpack list)
 
 -- the list that a call left, where that has its shape and is sound
-module _ (l : LockList) (w : SoundShape Small l book) (list was : List ℕ) (e : list ≡ pack l) (s : SoundBoth Small was book) where
-  left-both : SoundBoth Small list book
+module _ (l : LockList) (w : SoundShape (Small Mpm) l book) (list was : List ℕ) (e : list ≡ pack l) (s : SoundBoth (Small Mpm) was book) where
+  left-both : SoundBoth (Small Mpm) list book
   left-both = rw e (record {
     image-sound = s .image-sound;
     list-long = pack-long l (w .shape .items-long);
-    list-sound = list-sound-so Small l book (w .sound) (w .shape);
+    list-sound = list-sound-so (Small Mpm) l book (w .sound) (w .shape);
   })
 
   left-facts : (P : LockList → Type 0) → P l → P (unpack list)
-  left-facts P x = rw e (packed P Small l book w x)
+  left-facts P x = rw e (packed P (Small Mpm) l book w x)
 
 module _ (c o k : ℕ) (callers : List ℕ) (opens locks : ℕ → ℕ) (r n q : ℕ) (m : q < 16) (on : isCaller callers q ≡ true)
     (a : At c o k callers opens locks r (suc n)) where
@@ -59,11 +60,11 @@ module _ (c o k : ℕ) (callers : List ℕ) (opens locks : ℕ → ℕ) (r n q :
   l = unpack (a .list)
 
   room : freePlace l < l .capacity
-  room = has-place c o k opens locks r (suc n) l (list-sound-of Small (a .list) book (a .both .list-sound)) (a .facts) (omega arith)
+  room = has-place c o k opens locks r (suc n) l (list-sound-of (Small Mpm) (a .list) book (a .both .list-sound)) (a .facts) (omega arith)
 
   module _ (fits : opens q < o) where
     can : CanOpen q (opens q) l
-    can = can-open c o k opens locks r (suc n) l (list-sound-of Small (a .list) book (a .both .list-sound)) (a .facts) q fits
+    can = can-open c o k opens locks r (suc n) l (list-sound-of (Small Mpm) (a .list) book (a .both .list-sound)) (a .facts) q fits
 
     abbrev lent : Buffers
     lent = buffers (fcbFor (opens q) 0) (dmaFor 0) (a .list) book
@@ -71,7 +72,7 @@ module _ (c o k : ℕ) (callers : List ℕ) (opens locks : ℕ → ℕ) (r n q :
     file : callerFile q l (fcbFor (opens q) 0) ≡ fileNo (opens q)
     file = caller-file q l (opens q) 0 m (can .users) (can .file-fits)
 
-    may : MayOpen Small q lent
+    may : MayOpen (Small Mpm) q lent
     unfolding entries
     may = record {
       legal = legal (opens q) 0 (can .file-fits);
@@ -82,27 +83,27 @@ module _ (c o k : ℕ) (callers : List ℕ) (opens locks : ℕ → ℕ) (r n q :
       room = room;
     }
 
-    passes : Rattle.rules.proofs.Passed.Passed Small q 1 lent
+    passes : Rattle.rules.proofs.Passed.Passed (Small Mpm) q 1 lent
     unfolding chosen isUnknown _if_else_
     passes = through 15 q (opens q) 0 0 (a .list) refl m (a .both)
 
-    shape : SoundShape Small (placed (freshOpen q (nameOf (opens q)) 1) l) book
+    shape : SoundShape (Small Mpm) (placed (freshOpen q (nameOf (opens q)) 1) l) book
     unfolding opened fileNo
-    shape = rw (file, fcb-mode (opens q) 0) at (opened-shape Small q 1 lent passes may)
+    shape = rw (file, fcb-mode (opens q) 0) at (opened-shape (Small Mpm) q 1 lent passes may)
 
-    does : Leaves (callRun Small 15 q 1 lent) (pack (placed (freshOpen q (nameOf (opens q)) 1) l))
+    does : Leaves (callRun (Small Mpm) 15 q 1 lent) (pack (placed (freshOpen q (nameOf (opens q)) 1) l))
     unfolding opened fileNo
     does = open-does q (opens q) 0 (a .list) m (a .both) can room
 
     -- a process opens its next file; ..
     pub open-step : At c o k callers (oneMore q opens) locks r n
     open-step = record {
-      list = callRun Small 15 q 1 lent .left .list;
+      list = callRun (Small Mpm) 15 q 1 lent .left .list;
       calls = then (a .list) (a .calls) 15 q 1 (fcbFor (opens q) 0) (dmaFor 0) on
           (fcb-bytes (opens q) 0 (can .file-fits) (omega arith)) (dma-bytes 0 (omega arith)) (does .image-is);
       both = left-both _ shape _ (a .list) (does .list-is) (a .both);
       facts = left-facts _ shape _ (a .list) (does .list-is) (a .both) (Facts c o k (oneMore q opens) locks r n)
-          (opened-facts c o k opens locks r n l (unpack-shape (a .list)) (list-sound-of Small (a .list) book (a .both .list-sound)) (a .facts) q);
+          (opened-facts c o k opens locks r n l (unpack-shape (a .list)) (list-sound-of (Small Mpm) (a .list) book (a .both .list-sound)) (a .facts) q);
     }
 
   module _ (some : 1 ≤ opens q) (few : locks q < k) (high : r < 64) where
@@ -110,7 +111,7 @@ module _ (c o k : ℕ) (callers : List ℕ) (opens locks : ℕ → ℕ) (r n q :
     id = openOf l q (fileNo 0)
 
     may-lock : CanLock q r id l
-    may-lock = can-lock c o k opens locks r (suc n) l (list-sound-of Small (a .list) book (a .both .list-sound)) (a .facts) q some few high
+    may-lock = can-lock c o k opens locks r (suc n) l (list-sound-of (Small Mpm) (a .list) book (a .both .list-sound)) (a .facts) q some few high
 
     abbrev lent-lock : Buffers
     lent-lock = buffers (fcbFor 0 r) (dmaFor id) (a .list) book
@@ -121,8 +122,8 @@ module _ (c o k : ℕ) (callers : List ℕ) (opens locks : ℕ → ℕ) (r n q :
     places : 1 ≤ freePlaces l
     places = let e = a .facts .free in omega arith
 
-    may-take : MayLock Small q 1 lent-lock
-    unfolding isNew count top _if_else_
+    may-take : MayLock (Small Mpm) q 1 lent-lock
+    unfolding isNew count top highest ruleOf _if_else_
     may-take =
         let z : r + 0 ≡ r = omega arith in
         let v = may-lock .record-fits in
@@ -136,7 +137,7 @@ module _ (c o k : ℕ) (callers : List ℕ) (opens locks : ℕ → ℕ) (r n q :
           room = rw (first-file, fcb-record 0 r, z, may-lock .unheld) (let p = places in omega arith);
         }
 
-    passes-lock : Rattle.rules.proofs.Passed.Passed Small q 1 lent-lock
+    passes-lock : Rattle.rules.proofs.Passed.Passed (Small Mpm) q 1 lent-lock
     unfolding chosen isUnknown _if_else_
     passes-lock = through 42 q 0 r id (a .list) refl m (a .both)
 
@@ -144,21 +145,21 @@ module _ (c o k : ℕ) (callers : List ℕ) (opens locks : ℕ → ℕ) (r n q :
     unfolding lockedRun lockedAt turns fileNo _if_else_
     run-is = let z : r + 0 ≡ r = omega arith in rw (z, may-lock .unheld) refl
 
-    lock-shape : SoundShape Small (placed (freshLock q (nameOf 0) r) l) book
-    lock-shape = rw (first-file, fcb-record 0 r, run-is) at (locked-shape Small q 1 lent-lock passes-lock may-take)
+    lock-shape : SoundShape (Small Mpm) (placed (freshLock q (nameOf 0) r) l) book
+    lock-shape = rw (first-file, fcb-record 0 r, run-is) at (locked-shape (Small Mpm) q 1 lent-lock passes-lock may-take)
 
-    lock-left : Leaves (callRun Small 42 q 1 lent-lock) (pack (placed (freshLock q (nameOf 0) r) l))
+    lock-left : Leaves (callRun (Small Mpm) 42 q 1 lent-lock) (pack (placed (freshLock q (nameOf 0) r) l))
     lock-left = lock-does q r id (a .list) m (a .both) may-lock places
 
     -- .. or locks the next record
     pub lock-step : At c o k callers opens (oneMore q locks) (suc r) n
     lock-step = record {
-      list = callRun Small 42 q 1 lent-lock .left .list;
+      list = callRun (Small Mpm) 42 q 1 lent-lock .left .list;
       calls = then (a .list) (a .calls) 42 q 1 (fcbFor 0 r) (dmaFor id) on (fcb-bytes 0 r (omega arith) (omega arith))
           (dma-bytes id (let y = may-lock .below in omega arith)) (lock-left .image-is);
       both = left-both _ lock-shape _ (a .list) (lock-left .list-is) (a .both);
       facts = left-facts _ lock-shape _ (a .list) (lock-left .list-is) (a .both) (Facts c o k opens (oneMore q locks) (suc r) n)
-          (locked-facts c o k opens locks r n l (unpack-shape (a .list)) (list-sound-of Small (a .list) book (a .both .list-sound)) (a .facts) q);
+          (locked-facts c o k opens locks r n l (unpack-shape (a .list)) (list-sound-of (Small Mpm) (a .list) book (a .both .list-sound)) (a .facts) q);
     }
 
 -- ---- many

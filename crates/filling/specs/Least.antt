@@ -9,6 +9,7 @@ use Rattle.words.specs.Bytes.{areBytes}
 use Rattle.words.specs.Tables.{_∕_}
 use Rattle.rules.specs.declared.kind.Kind.{Kind}
 use Rattle.rules.specs.declared.kind.Kind.the-variants.{Small}
+use Rattle.rules.specs.declared.kind.Rule.the-variants.{Mpm}
 use Rattle.rules.specs.Serves.{buffers}
 use Rattle.rules.specs.Locks.{freshList}
 use Rattle.rules.specs.Several.{callRun}
@@ -43,9 +44,9 @@ firstOnes p = tab (λ (x : ℕ). x) p
 
 -- with one place fewer than p times the sum of the limits
 unfoldable pub oneFewer : ℕ → ℕ → ℕ → List ℕ
-oneFewer p o k = freshList Small (p * (o + k) - 1) o k (replicate 16 0)
+oneFewer p o k = freshList (Small Mpm) (p * (o + k) - 1) o k 0 (replicate 16 0)
 
 -- for all limits and numbers of processes for which a list can have one place fewer
 pub record Least : Type 0 where
-  pub too-few : (p o k : ℕ) → 1 ≤ p → p ≤ 16 → 1 ≤ o → 1 ≤ k → p * (o + k) ≤ 65 → EndsIn Small (firstOnes p) book (oneFewer p o k) (14 ∕ 0)
-  pub no-place : (p o k : ℕ) → 1 ≤ p → p ≤ 16 → 2 ≤ o → 1 ≤ k → p * (o + k) ≤ 65 → EndsIn Small (firstOnes p) book (oneFewer p o k) (255 ∕ 11)
+  pub too-few : (p o k : ℕ) → 1 ≤ p → p ≤ 16 → 1 ≤ o → 1 ≤ k → p * (o + k) ≤ 65 → EndsIn (Small Mpm) (firstOnes p) book (oneFewer p o k) (14 ∕ 0)
+  pub no-place : (p o k : ℕ) → 1 ≤ p → p ≤ 16 → 2 ≤ o → 1 ≤ k → p * (o + k) ≤ 65 → EndsIn (Small Mpm) (firstOnes p) book (oneFewer p o k) (255 ∕ 11)

@@ -50,6 +50,7 @@ module _ (kind : Kind) (g : Begun kind) (s : State) (items : List Item) (groups 
   head-kept : HeadStays g s
   unfolding unpack tab
   head-kept = record {
+    rule = i .rule;
     head =
         let long : length (take 19 (s .list)) ≡ 19 = length-take-le 19 (s .list) (let k = i .both .list-long in omega arith) in
         let same : tab (λ (k : ℕ). byte (take 19 (s .list)) k) 19 ≡ tab (λ (k : ℕ). byte (s .list) k) 19 =

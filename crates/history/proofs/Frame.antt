@@ -23,19 +23,20 @@ use Rattle.soundness.proofs.Left.{ListLeft, ImageLeft, list-same, one-set, run-
 use Rattle.soundness.proofs.Ends.{image-of, shape-of, list-of, made-of, written-of, takes-of}
 use Rattle.soundness.proofs.Leaves.{listOf, fileBy, newBy}
 
--- limits and users are the same
+-- limits, users and rule are the same
 pub record Framed (l k : LockList) : Type 0 where
   pub capacities : k .capacity ≡ l .capacity
   pub openlimits : k .openlimit ≡ l .openlimit
   pub locklimits : k .locklimit ≡ l .locklimit
   pub users : k .users ≡ l .users
+  pub rules : k .rule ≡ l .rule
 
 -- a list with other items and positions has the same, ..
 pub framed : (l : LockList) (xs : List Item) (ys : List ℕ) → Framed l (withPositions (withItems l xs) ys)
-framed l xs ys = record { capacities = refl; openlimits = refl; locklimits = refl; users = refl }
+framed l xs ys = record { capacities = refl; openlimits = refl; locklimits = refl; users = refl; rules = refl }
 
 same : (l : LockList) → Framed l l
-same l = record { capacities = refl; openlimits = refl; locklimits = refl; users = refl }
+same l = record { capacities = refl; openlimits = refl; locklimits = refl; users = refl; rules = refl }
 
 -- .. and so has the list that a call leaves;
 pub list-framed : (kind : Kind) (p c : ℕ) (b : Buffers) (t list : List ℕ) → ListLeft kind p c b t list → Framed (listOf b) (unpack list)

@@ -7,6 +7,7 @@ use Rattle.words.specs.Tables.{_∕_}
 use Rattle.rules.specs.declared.item.Item.{Item}
 use Rattle.rules.specs.declared.kind.Kind.{Kind}
 use Rattle.rules.specs.declared.kind.Kind.the-variants.{Small, Large}
+use Rattle.rules.specs.declared.kind.Rule.the-variants.{Mpm}
 use Rattle.rules.specs.Drive.{fileFrom}
 use Rattle.rules.specs.Locks.{freshOpen, freshLock}
 use Rattle.session.specs.Open.{rules}
@@ -67,42 +68,42 @@ unfolding rules listed history locked doesRun does held
 locked-none = refl
 
 -- a refused call does nothing
-refused : counted Small (does 34 (fcbWith 8) (2 ∕ 0) ∷ []) ≡ []
+refused : counted (Small Mpm) (does 34 (fcbWith 8) (2 ∕ 0) ∷ []) ≡ []
 unfolding rules listed history doesRun does counted
 refused = refl
 
 -- 34 touches a group, once; Delete drops it, Rename carries it over
-touched : counted Small (does 34 (fcbWith 8) 0 ∷ does 40 (fcbWith 9) 0 ∷ []) ≡ group (fileFrom 0 orders 0) 1 ∷ []
+touched : counted (Small Mpm) (does 34 (fcbWith 8) 0 ∷ does 40 (fcbWith 9) 0 ∷ []) ≡ group (fileFrom 0 orders 0) 1 ∷ []
 unfolding rules listed history doesRun does counted
 touched = refl
 
-dropped : counted Small (does 34 (fcbWith 8) 0 ∷ does 19 (fcbWith 0) 0 ∷ []) ≡ []
+dropped : counted (Small Mpm) (does 34 (fcbWith 8) 0 ∷ does 19 (fcbWith 0) 0 ∷ []) ≡ []
 unfolding rules listed history doesRun does counted
 dropped = refl
 
-carried-over : counted Small (does 34 (fcbWith 8) 0 ∷ does 23 renaming 0 ∷ []) ≡ group (fileFrom 0 other 0) 1 ∷ []
+carried-over : counted (Small Mpm) (does 34 (fcbWith 8) 0 ∷ does 23 renaming 0 ∷ []) ≡ group (fileFrom 0 other 0) 1 ∷ []
 unfolding rules listed history other renaming doesRun does counted
 carried-over = refl
 
 -- 34 of records 6 to 14 touches two groups; refused with 2/0 after records 7 and 8 (of sixteen) it touches theirs, and a refused 33 none
-touched-run : counted Small (doesRun 34 (fcbWith 6) 9 (0 ∕ 0) ∷ []) ≡ group (fileFrom 0 orders 0) 1 ∷ group (fileFrom 0 orders 0) 0 ∷ []
+touched-run : counted (Small Mpm) (doesRun 34 (fcbWith 6) 9 (0 ∕ 0) ∷ []) ≡ group (fileFrom 0 orders 0) 1 ∷ group (fileFrom 0 orders 0) 0 ∷ []
 unfolding rules listed history doesRun counted
 touched-run = refl
 
-touched-partly : counted Small (doesRun 34 (fcbWith 7) 16 (2 ∕ 32) ∷ []) ≡ group (fileFrom 0 orders 0) 1 ∷ group (fileFrom 0 orders 0) 0 ∷ []
+touched-partly : counted (Small Mpm) (doesRun 34 (fcbWith 7) 16 (2 ∕ 32) ∷ []) ≡ group (fileFrom 0 orders 0) 1 ∷ group (fileFrom 0 orders 0) 0 ∷ []
 unfolding rules listed history doesRun counted
 touched-partly = refl
 
-read-partly : counted Small (doesRun 33 (fcbWith 7) 16 (1 ∕ 32) ∷ []) ≡ []
+read-partly : counted (Small Mpm) (doesRun 33 (fcbWith 7) 16 (1 ∕ 32) ∷ []) ≡ []
 unfolding rules listed history doesRun counted
 read-partly = refl
 
 -- on a drive of the second kind sixteen records are a group, and 46 tells sixteen for each free block
-touched-large : counted Large (doesRun 34 (fcbWith 6) 9 (0 ∕ 0) ∷ doesRun 34 (fcbWith 16) 1 (0 ∕ 0) ∷ [])
+touched-large : counted (Large Mpm) (doesRun 34 (fcbWith 6) 9 (0 ∕ 0) ∷ doesRun 34 (fcbWith 16) 1 (0 ∕ 0) ∷ [])
     ≡ group (fileFrom 0 orders 0) 1 ∷ group (fileFrom 0 orders 0) 0 ∷ []
 unfolding rules listed history doesRun counted
 touched-large = refl
 
-told-large : figureIn Large 257 (group (fileFrom 0 orders 0) 0 ∷ []) (replicate 4 0) ≡ 224 ∷ 15 ∷ 0 ∷ 0 ∷ []
+told-large : figureIn (Large Mpm) 257 (group (fileFrom 0 orders 0) 0 ∷ []) (replicate 4 0) ≡ 224 ∷ 15 ∷ 0 ∷ 0 ∷ []
 unfolding rules listed history
 told-large = refl

@@ -15,6 +15,7 @@ pub mod Solid
 pub mod AddsUp
 pub mod Frame
 pub mod Grouping
+pub mod Ruled
 pub mod Run
 pub mod Several
 pub mod Calls

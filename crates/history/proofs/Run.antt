@@ -40,6 +40,7 @@ pub record Inv (kind : Kind) (g : Begun kind) (s : State) (items : List Item) (g
   pub capacity : unpack (s .list) .capacity ≡ g .capacity
   pub openlimit : unpack (s .list) .openlimit ≡ g .openlimit
   pub locklimit : unpack (s .list) .locklimit ≡ g .locklimit
+  pub rule : unpack (s .list) .rule ≡ g .rule
   pub long : length (s .image) ≡ length (g .image)
   pub tallied : Tally (unpack (s .list)) items
   pub once : Once items
@@ -63,6 +64,7 @@ module _ (kind : Kind) (g : Begun kind) where
     capacity = ap (λ (l : LockList). l .capacity) (begun-list kind g);
     openlimit = ap (λ (l : LockList). l .openlimit) (begun-list kind g);
     locklimit = ap (λ (l : LockList). l .locklimit) (begun-list kind g);
+    rule = ap (λ (l : LockList). l .rule) (begun-list kind g);
     long = refl;
     tallied = begun-tally;
     once = record { once = λ x. omega arith };
@@ -86,6 +88,7 @@ module _ (kind : Kind) (g : Begun kind) where
         capacity = f .capacities ∙ i .capacity;
         openlimit = f .openlimits ∙ i .openlimit;
         locklimit = f .locklimits ∙ i .locklimit;
+        rule = f .rules ∙ i .rule;
         long = image-framed kind (q .process) (q .count) (lent q s) _ (v .image) ∙ i .long;
         tallied = subst (λ (us : List ℕ). Tally (unpack (o .left .list)) (holding (deed us (event q (o .answer))) items)) (i .users)
             (held-step kind q s items (i .tallied) o w);

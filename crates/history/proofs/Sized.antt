@@ -41,8 +41,8 @@ use Rattle.soundness.proofs.Sized.{of-is, size-had, size-none}
 use Rattle.soundness.proofs.SizedCalls.{size-kept, size-written}
 use Rattle.history.proofs.Served.{served-as}
 
--- a size is at most 262,144
-pub size-most : (kind : Kind) (s : List ℕ) (f : File) → length (f .name) ≡ 11 → soundImage kind s ≡ true → fileSize kind s f ≤ 262144
+-- a size is at most 262,144, under CP/M's rule 65,536
+pub size-most : (kind : Kind) (s : List ℕ) (f : File) → length (f .name) ≡ 11 → soundImage kind s ≡ true → fileSize kind s f ≤ top kind + 1
 size-most kind s f n h =
     let g = sound-of kind s h in
     ⊎-elim
@@ -53,7 +53,6 @@ size-most kind s f n h =
     let few = count-good kind s (a .1) (g .files .fields (a .1) (a .2) (i .used)) in
     let most : a .0 ≤ highestExtent kind s f = rw (i .extent) at (highest-most kind s f (a .1) (a .2) (of-is kind s f g n (a .0) (a .1) i)) in
     let ends = highest-ends kind s f h in
-    let last = top-fits kind in
     let e : fileSize kind s f ≡ 128 * a .0 + byte s (32 * a .1 + 15) = a .4 in
     omega arith)
     (either (leb (entries kind) (entryOf kind s f 0)))
@@ -79,7 +78,8 @@ size-told kind n p c b pass e =
     let a = accepted-as kind n p c b (Call Size) e pass in
     let w = passes-35 kind (lookUp kind (b .image) (fileBy p b)) (b .fcb) (a .passes) in
     let s = fileSize kind (b .image) (fileBy p b) in
-    let few : s ≤ 262144 = size-most kind (b .image) (fileBy p b) (caller-long p (listOf b) (b .fcb)) (a .ok .ready .image-sound) in
+    let last = top-fits kind in
+    let few : s ≤ top kind + 1 = size-most kind (b .image) (fileBy p b) (caller-long p (listOf b) (b .fcb)) (a .ok .ready .image-sound) in
     let same : s ≡ sizeOf (b .image) (lookUp kind (b .image) (fileBy p b)) = rw (lt-leb _ _ (w .there)) refl in
     rw (a .did) (ap (λ (m : ℕ). recordOf (put 33 (le 3 m) (b .fcb))) (sym same) ∙ number-back s (b .fcb) (omega arith) (a .ok .ready .fcb-long))
 

@@ -113,36 +113,36 @@ module _ (kind : Kind) (e : Engine) (serves : Demand2 kind e) (callers : List �
       fits q s on i = unfold outcomeOf in run-fits kind callers c o k (q .function) (q .process) on (q .count) (lent q s) i
 
 -- a fresh list
-module _ (kind : Kind) (callers : List ℕ) (c o k : ℕ) (users given : List ℕ) (ok : start kind c o k users given .answer ≡ 0) where
+module _ (kind : Kind) (callers : List ℕ) (c o k u : ℕ) (users given : List ℕ) (ok : start kind c o k u users given .answer ≡ 0) where
   abbrev l : LockList
-  l = fresh kind c o k users
+  l = fresh kind c o k u users
 
-  list-is : start kind c o k users given .list ≡ pack l
-  list-is = let w = started kind c o k users given ok in w .written ∙ sym (fresh-packed kind c o k users (w .users-long))
+  list-is : start kind c o k u users given .list ≡ pack l
+  list-is = let w = started kind c o k u users given ok in w .written ∙ sym (fresh-packed kind c o k u users (w .users-long))
 
-  fresh-fits : Fits callers c o k (unpack (start kind c o k users given .list))
+  fresh-fits : Fits callers c o k (unpack (start kind c o k u users given .list))
   fresh-fits =
-      let w = started kind c o k users given ok in
-      rw list-is (rw (unpacked kind l [] (fresh-sound kind c o k users [] (w .limits)) (fresh-shape kind c o k users (w .users-long))) (record {
+      let w = started kind c o k u users given ok in
+      rw list-is (rw (unpacked kind l [] (fresh-sound kind c o k u users [] (w .limits)) (fresh-shape kind c o k u users (w .users-long))) (record {
         capacity = refl;
         openlimit = refl;
         locklimit = refl;
-        only = record { each = λ i m z. absurd (z (ap (λ (it : Item). it .kind) (fresh-at i m kind c o k users))) };
+        only = record { each = λ i m z. absurd (z (ap (λ (it : Item). it .kind) (fresh-at i m kind c o k u users))) };
       }))
 
-  fresh-lendable : isLendable (start kind c o k users given .list) ≡ true
+  fresh-lendable : isLendable (start kind c o k u users given .list) ≡ true
   fresh-lendable =
-      let w = started kind c o k users given ok in
-      let shape = fresh-shape kind c o k users (w .users-long) in
-      rw list-is (lendable-so (pack l) (pack-bytes kind l [] (fresh-sound kind c o k users [] (w .limits)) shape)
+      let w = started kind c o k u users given ok in
+      let shape = fresh-shape kind c o k u users (w .users-long) in
+      rw list-is (lendable-so (pack l) (pack-bytes kind l [] (fresh-sound kind c o k u users [] (w .limits)) shape)
       (let z = pack-long l (shape .items-long) in omega arith))
 
 -- such an engine turns nobody away
 pub nobody-turned-away : (kind : Kind) (e : Engine) → Demand2 kind e → NobodyTurnedAway kind e
 unfolding NobodyTurnedAway
-nobody-turned-away kind e serves c o k users given ok p callers few enough xs made =
-    walk kind e serves callers c o k (fewer few enough) [] xs (start kind c o k users given .list)
-    (fresh-lendable kind callers c o k users given ok) (fresh-fits kind callers c o k users given ok) made
+nobody-turned-away kind e serves c o k u users given ok p callers few enough xs made =
+    walk kind e serves callers c o k (fewer few enough) [] xs (start kind c o k u users given .list)
+    (fresh-lendable kind callers c o k u users given ok) (fresh-fits kind callers c o k u users given ok) made
   where
     fewer : length callers ≤ p → Suffices p c o k → Suffices (length callers) c o k
     fewer few enough = unfold Suffices in (let w = mul-le-mul-right (o + k) few in omega arith)

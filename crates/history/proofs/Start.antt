@@ -18,19 +18,19 @@ use Rattle.sizing.proofs.Fresh.{fresh, fresh-packed, fresh-at, fresh-shape, fre
 module _ (kind : Kind) (g : Begun kind) where
   -- the list at the beginning, as it reads
   abbrev pub first : LockList
-  first = fresh kind (g .capacity) (g .openlimit) (g .locklimit) (g .users)
+  first = fresh kind (g .capacity) (g .openlimit) (g .locklimit) (g .rule) (g .users)
 
-  abbrev told : Started kind (g .capacity) (g .openlimit) (g .locklimit) (g .users) (g .given)
-  told = started kind (g .capacity) (g .openlimit) (g .locklimit) (g .users) (g .given) (g .accepted)
+  abbrev told : Started kind (g .capacity) (g .openlimit) (g .locklimit) (g .rule) (g .users) (g .given)
+  told = started kind (g .capacity) (g .openlimit) (g .locklimit) (g .rule) (g .users) (g .given) (g .accepted)
 
   first-is : firstState kind g .list ≡ pack first
-  first-is = told .written ∙ sym (fresh-packed kind (g .capacity) (g .openlimit) (g .locklimit) (g .users) (told .users-long))
+  first-is = told .written ∙ sym (fresh-packed kind (g .capacity) (g .openlimit) (g .locklimit) (g .rule) (g .users) (told .users-long))
 
   first-sound : SoundLocks kind first (g .image)
-  first-sound = fresh-sound kind (g .capacity) (g .openlimit) (g .locklimit) (g .users) (g .image) (told .limits)
+  first-sound = fresh-sound kind (g .capacity) (g .openlimit) (g .locklimit) (g .rule) (g .users) (g .image) (told .limits)
 
   first-shape : Shape first
-  first-shape = fresh-shape kind (g .capacity) (g .openlimit) (g .locklimit) (g .users) (told .users-long)
+  first-shape = fresh-shape kind (g .capacity) (g .openlimit) (g .locklimit) (g .rule) (g .users) (told .users-long)
 
   -- what Start wrote reads as that list, ..
   pub begun-list : unpack (firstState kind g .list) ≡ first
@@ -50,4 +50,4 @@ module _ (kind : Kind) (g : Begun kind) where
 
   -- .. and its places are empty
   pub begun-empty : (i : ℕ) → i < 64 → itemAt first i .kind ≡ 0
-  begun-empty i m = ap (λ (it : Item). it .kind) (fresh-at i m kind (g .capacity) (g .openlimit) (g .locklimit) (g .users))
+  begun-empty i m = ap (λ (it : Item). it .kind) (fresh-at i m kind (g .capacity) (g .openlimit) (g .locklimit) (g .rule) (g .users))

@@ -8,6 +8,7 @@ use Rattle.words.specs.Tests.{count, sumBelow}
 use Rattle.words.specs.Lists.{tally}
 use Rattle.rules.specs.declared.item.Item.{Item}
 use Rattle.rules.specs.declared.kind.Kind.the-variants.{Small}
+use Rattle.rules.specs.declared.kind.Rule.the-variants.{Mpm}
 use Rattle.rules.specs.Drive.{blocks, blocksInUse, freeBlocks, fileFrom, soundImage}
 use Rattle.rules.specs.Locks.{unpack, itemAt, freePlaces, freshOpen, freshLock, soundList}
 use Rattle.rules.specs.Look.{look}
@@ -30,13 +31,13 @@ heldTo : ℕ → List Item
 heldTo n = heldAfter (replicate 16 0) (map told (take n session)) []
 
 groupsTo : ℕ → List Group
-groupsTo n = countedAfter Small (replicate 16 0) (map told (take n session)) (groupsOf Small firstImage)
+groupsTo n = countedAfter (Small Mpm) (replicate 16 0) (map told (take n session)) (groupsOf (Small Mpm) firstImage)
 
 -- items in the list by process, items held, free places; blocks in use, groups counted, free blocks
 figures : ℕ → List ℕ → List ℕ → List ℕ
 figures n list image =
-    sumBelow (itemsBy (unpack list)) 16 ∷ length (heldTo n) ∷ freePlaces (unpack list) ∷ blocksInUse Small image ∷ length
-    (groupsTo n) ∷ freeBlocks Small image ∷ []
+    sumBelow (itemsBy (unpack list)) 16 ∷ length (heldTo n) ∷ freePlaces (unpack list) ∷ blocksInUse (Small Mpm) image ∷ length
+    (groupsTo n) ∷ freeBlocks (Small Mpm) image ∷ []
 
 after-s0 : figures 1 list0 image0 ≡ 1 ∷ 1 ∷ 2 ∷ 0 ∷ 0 ∷ 2 ∷ []
 unfolding rules listed history asked told heldTo groupsTo figures
@@ -78,18 +79,18 @@ counted-groups : isCountedTo 11 0 ∷ isCountedTo 11 1 ∷ isCountedTo 11 2 ∷ 
 unfolding rules listed history asked told groupsTo isCountedTo
 counted-groups = refl
 
-with-block : hasBlock Small image5 (fileFrom 0 orders 0) 7 ∷ hasBlock Small image5 (fileFrom 0 orders 0) 15 ∷ hasBlock Small image5
+with-block : hasBlock (Small Mpm) image5 (fileFrom 0 orders 0) 7 ∷ hasBlock (Small Mpm) image5 (fileFrom 0 orders 0) 15 ∷ hasBlock (Small Mpm) image5
     (fileFrom 0 orders 0) 16 ∷ []
     ≡ true ∷ true ∷ false ∷ []
 unfolding rules listed history
 with-block = refl
 
 -- S5 by process 2 leaves the record that process 1 has locked
-looks-same : look Small 0 orders 0 image5 ≡ look Small 0 orders 0 image2
+looks-same : look (Small Mpm) 0 orders 0 image5 ≡ look (Small Mpm) 0 orders 0 image2
 unfolding rules listed
 looks-same = refl
 
-looks-long : length (look Small 0 orders 0 image2) ≡ 128
+looks-long : length (look (Small Mpm) 0 orders 0 image2) ≡ 128
 unfolding rules listed
 looks-long = refl
 
@@ -104,16 +105,16 @@ unfolding rules listed history asked told heldTo
 none-left = refl
 
 -- the states are sound
-sound-s12 : soundImage Small image5 ∷ soundList Small list12 image5 ∷ [] ≡ true ∷ true ∷ []
+sound-s12 : soundImage (Small Mpm) image5 ∷ soundList (Small Mpm) list12 image5 ∷ [] ≡ true ∷ true ∷ []
 unfolding rules listed
 sound-s12 = refl
 
-sound-s13 : soundImage Small image13 ∷ soundList Small list13 image13 ∷ [] ≡ true ∷ true ∷ []
+sound-s13 : soundImage (Small Mpm) image13 ∷ soundList (Small Mpm) list13 image13 ∷ [] ≡ true ∷ true ∷ []
 unfolding rules listed
 sound-s13 = refl
 
 -- S8 tells 0 records: two groups of the two data blocks
-figure-s8 : figureIn Small (blocks Small image5) (groupsTo 8) (dmaWith 0) ≡ dmaWith 0
+figure-s8 : figureIn (Small Mpm) (blocks (Small Mpm) image5) (groupsTo 8) (dmaWith 0) ≡ dmaWith 0
 unfolding rules listed history asked told groupsTo
 figure-s8 = refl
 

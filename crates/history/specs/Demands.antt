@@ -17,7 +17,7 @@ use Rattle.rules.specs.declared.item.Item.{Item}
 use Rattle.rules.specs.declared.list.LockList.{LockList}
 use Rattle.rules.specs.Serves.{Outcome, outcome, processes, listSize}
 use Rattle.rules.specs.Drive.{entrySize, blocks, recordSize, recordAt, isEmpty, userByte, blockOf, blocksInUse, freeBlocks, soundImage}
-use Rattle.rules.specs.Locks.{anEmpty, anOpen, aLock, places, itemAt, positionOf, unpack, freshLock, isKindBy, opensBy, locksBy, isEmptyAt, freePlaces, soundList}
+use Rattle.rules.specs.Locks.{anEmpty, anOpen, aLock, places, itemAt, positionOf, ruleAt, unpack, freshLock, isKindBy, opensBy, locksBy, isEmptyAt, freePlaces, soundList}
 use Rattle.rules.specs.Asks.{recordOf}
 use Rattle.rules.specs.Look.{look}
 use Rattle.rules.specs.Several.{callRun}
@@ -59,10 +59,11 @@ pub record SoundState (kind : Kind) (s : State) : Type 0 where
   pub list-long : length (s .list) ≡ listSize
   pub list-sound : soundList kind (s .list) (s .image) ≡ true
 
--- ---- 2. Bytes 0 to 18 of the list are those that Start wrote: the three limits and the users. ..
+-- ---- 2. Bytes 0 to 18 of the list are those that Start wrote: the three limits and the users; so is the last, the rule (T-11). ..
 
 pub record HeadStays {kind : Kind} (g : Begun kind) (s : State) : Type 0 where
   pub head : take 19 (s .list) ≡ g .capacity ∷ g .openlimit ∷ g .locklimit ∷ g .users
+  pub rule : byte (s .list) ruleAt ≡ g .rule
 
 -- .. The list holds just the opens and record locks that the history granted and no later Close, Unlock or process end took
 -- back, each as often as the history holds it, that is once.

@@ -1,4 +1,4 @@
--- Engines, and a history of calls: Start's numbers and users, the image at the start, the calls as lent, and their answers.
+-- Engines, and a history of calls: Start's numbers, rule and users, the image at the start, the calls as lent, and their answers.
 -- Assumes nothing.
 use Prim.Native.Nat.{ℕ}
 use mathlib.Core.Path.{_≡_}
@@ -10,6 +10,7 @@ use Rattle.words.specs.Tests.{_and_}
 use Rattle.words.specs.Bytes.{areBytes}
 use Rattle.words.specs.Tables.{_∕_}
 use Rattle.rules.specs.declared.kind.Kind.{Kind}
+use Rattle.rules.specs.Kinds.{toldRule, ruleOf}
 use Rattle.rules.specs.Serves.{Buffers, Outcome, buffers}
 use Rattle.rules.specs.Drive.{soundImage}
 use Rattle.rules.specs.Locks.{start}
@@ -104,20 +105,22 @@ eventsOf e before (q ∷ qs) s = event q (outcomeOf (e before) q s .answer) ∷ 
 
 -- ---- Histories
 
--- A beginning: a fresh list that Start accepted, and a sound image of that kind of drive, which a host can lend.
+-- A beginning: a fresh list of the kind's rule that Start accepted, and a sound image of that kind of drive, which a host can lend.
 pub record Begun (kind : Kind) : Type 0 where
   pub capacity : ℕ
   pub openlimit : ℕ
   pub locklimit : ℕ
+  pub rule : ℕ
   pub users : List ℕ
   pub given : List ℕ
   pub image : List ℕ
-  pub accepted : start kind capacity openlimit locklimit users given .answer ≡ 0 ∕ 0
+  pub told : toldRule rule ≡ ruleOf kind
+  pub accepted : start kind capacity openlimit locklimit rule users given .answer ≡ 0 ∕ 0
   pub sound : soundImage kind image ≡ true
   pub lendable : isLendable image ≡ true
 
 abbrev pub firstState : (kind : Kind) → Begun kind → State
-firstState kind g = state (start kind (g .capacity) (g .openlimit) (g .locklimit) (g .users) (g .given) .list) (g .image)
+firstState kind g = state (start kind (g .capacity) (g .openlimit) (g .locklimit) (g .rule) (g .users) (g .given) .list) (g .image)
 
 unfoldable pub after : (kind : Kind) → Engine → Begun kind → List Ask → State
 after kind e g qs = stateAfter e [] qs (firstState kind g)

@@ -38,5 +38,6 @@ NoneTurnedAway e before (x ∷ xs) list =
 -- "from a fresh list that only the engine changes, if at most p processes ever call and the capacity is at least p times the sum of the open and
 -- lock limits, then 255/11 and 14/0 are never given"
 unfoldable pub NobodyTurnedAway : Kind → Engine → Type 0
-NobodyTurnedAway kind e = (c o k : ℕ) (users given : List ℕ) → start kind c o k users given .answer ≡ 0 ∕ 0 → (p : ℕ) (callers : List ℕ) → length callers ≤ p
-    → Suffices p c o k → (xs : List Lent) → areMadeBy callers xs ≡ true → NoneTurnedAway e [] xs (start kind c o k users given .list)
+NobodyTurnedAway kind e = (c o k u : ℕ) (users given : List ℕ) → start kind c o k u users given .answer ≡ 0 ∕ 0 → (p : ℕ) (callers : List ℕ)
+    → length callers ≤ p → Suffices p c o k → (xs : List Lent) → areMadeBy callers xs ≡ true
+    → NoneTurnedAway e [] xs (start kind c o k u users given .list)

@@ -19,7 +19,7 @@ use Rattle.rules.specs.declared.item.Item.{Item}
 use Rattle.rules.specs.declared.list.LockList.{LockList}
 use Rattle.rules.specs.Kinds.{entries}
 use Rattle.rules.specs.Drive.{entryOf, lookUp, missing, blockOf}
-use Rattle.rules.specs.Locks.{unpack, placeAt, itemAt, isLow, sameFile, opensNameAt, openOf, isOpened, opensUnlocked, clash, clashAt, isApart, goodOpen, goodLock, goodItem, goodPlace, keepsLimits, isPosition, zeroAt, soundLocks, soundList}
+use Rattle.rules.specs.Locks.{unpack, placeAt, itemAt, isLow, sameFile, opensNameAt, openOf, isOpened, opensUnlocked, clash, clashAt, isApart, goodOpen, goodLock, goodItem, goodPlace, keepsLimits, isPosition, isRule, zeroAt, soundLocks, soundList}
 use Rattle.listcheck.specs.Check.{openAlone, lockAlone, itemAlone, placeAlone, placeAloneAt, lockOpened, lockOpenedAt, goodHead}
 use Rattle.rules.specs.declared.kind.Kind.{Kind}
 
@@ -161,11 +161,13 @@ join-two false b x = refl
 -- the list check in the order of its parts
 pub sound-as : (kind : Kind) (s list : List ℕ) (l : LockList) (r : Bool) → l ≡ unpack list
     → r ≡ (all (zeroAt list) 64 and goodHead (l .capacity) (l .openlimit) (l .locklimit) (l .users) and all (placeAloneAt kind s l) 64 and all
-    (lockOpenedAt l) 64 and all (isApart l) 64 and all (keepsLimits l) 16 and all (isPosition kind (l .positions)) 16) → r ≡ soundList kind list s
+    (lockOpenedAt l) 64 and all (isApart l) 64 and all (keepsLimits l) 16 and all (isPosition kind (l .positions)) 16
+    and isRule (l .rule)) → r ≡ soundList kind list s
 unfolding soundList soundLocks goodHead
 sound-as kind s list l r e h =
     let g = all-both (goodPlace kind s l) (placeAloneAt kind s l) (lockOpenedAt l) 64 (place-split kind s l) in
-    let rest = join-two _ _ _ ∙ ap (λ (x : Bool). x and all (isApart l) 64 and all (keepsLimits l) 16 and all (isPosition kind (l .positions)) 16) (sym g) in
+    let rest = join-two _ _ _ ∙ ap (λ (x : Bool). x and all (isApart l) 64 and all (keepsLimits l) 16 and all (isPosition kind (l .positions)) 16
+    and isRule (l .rule)) (sym g) in
     h ∙ ap (λ (x : Bool). all (zeroAt list) 64 and x) (ap (λ (x : Bool). goodHead (l .capacity) (l .openlimit) (l .locklimit) (l .users) and x) rest
     ∙ sym (join-four _ _ _ _ _))
     ∙ ap (λ (m : LockList). all (zeroAt list) 64 and soundLocks kind m s) e
@@ -173,8 +175,8 @@ sound-as kind s list l r e h =
 -- its first four parts were found good
 pub sound-after : (kind : Kind) (s list : List ℕ) (l : LockList) (a b c d r : Bool) → l ≡ unpack list → a ≡ all (zeroAt list) 64 → not a ≡ false
     → b ≡ goodHead (l .capacity) (l .openlimit) (l .locklimit) (l .users) → not b ≡ false → c ≡ all (placeAloneAt kind s l) 64 → not c ≡ false
-    → d ≡ all (lockOpenedAt l) 64 → not d ≡ false → r ≡ (all (isApart l) 64 and all (keepsLimits l) 16 and all (isPosition kind (l .positions)) 16)
-    → r ≡ soundList kind list s
+    → d ≡ all (lockOpenedAt l) 64 → not d ≡ false
+    → r ≡ (all (isApart l) 64 and all (keepsLimits l) 16 and all (isPosition kind (l .positions)) 16 and isRule (l .rule)) → r ≡ soundList kind list s
 sound-after kind s list l a b c d r e ea ha eb hb ec hc ed hd h =
     sound-as kind s list l r e (and-then r _ _ (not-yes a _ ea ha)
     (and-then r _ _ (not-yes b _ eb hb) (and-then r _ _ (not-yes c _ ec hc) (and-then r _ _ (not-yes d _ ed hd) h))))

@@ -28,7 +28,7 @@ openAlone kind s users it = leb (it .mode) 2 and eqb (it .number) 0 and not (mis
 unfoldable pub lockAlone : Kind → List ℕ → List ℕ → Item → Bool
 lockAlone kind s users it = eqb (it .mode) modeUnlocked and not (eqb (blockOf kind s (fileBy users it) (it .number)) 0)
 
--- an item: a process to 15, a legal name with high bits zero, a record below 262,144
+-- an item: a process to 15, a legal name with high bits zero, a record to the highest
 unfoldable pub itemAlone : Kind → List ℕ → List ℕ → Item → Bool
 itemAlone kind s users it =
     leb (it .process) 15 and legalName (it .name) 0 and all (isLow (it .name)) 11 and leb (it .number) (top kind)

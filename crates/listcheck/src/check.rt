@@ -3,6 +3,7 @@ use crate::limits::all_keep;
 use crate::place::place_alone;
 use locklist::start::all_users;
 use locklist::start::is_limit;
+use locklist::start::is_rule;
 use rules::kind::Kind;
 use rules::kind::entries;
 use rules::list::LockList;
@@ -10,17 +11,17 @@ ghost use mathlib.Core.Path.{_≡_};
 ghost use mathlib.Core.Bool.{true};
 ghost use lib.ListN.{length};
 ghost use lib.Dec.{leb};
-ghost use Rattle.words.specs.Tests.{all};
+ghost use Rattle.words.specs.Tests.{_and_, all};
 ghost use Rattle.words.specs.Hints.{Hints};
 ghost use Rattle.rules.specs.Kinds.{entries};
 ghost use Rattle.rules.specs.Drive.{soundImage};
-ghost use Rattle.rules.specs.Locks.{unpack, zeroAt, isPosition, soundList};
+ghost use Rattle.rules.specs.Locks.{unpack, zeroAt, isPosition, isRule, soundList};
 ghost use Rattle.index.specs.Slots.{slotAt, inUse};
 ghost use Rattle.listcheck.specs.Check.{placeAloneAt, lockOpenedAt, goodHead};
 
 // The zero in each place.
 fn all_zero(list: &[u8]) -> bool
-    requires { ⌜ length (now list) ≡ 1315 ⌝ }
+    requires { ⌜ length (now list) ≡ 1316 ⌝ }
     ensures { λ r. ⌜ r ≡ all (zeroAt (now (list .entry))) 64 ⌝ }
 {
     let mut i: usize = 0;
@@ -118,9 +119,19 @@ fn all_positions(kind: Kind, positions: [u8; 16]) -> bool
     true
 }
 
+// Each position is one, and the list's rule is.
+fn good_tail(kind: Kind, positions: [u8; 16], rule: u8) -> bool
+    ensures { λ r. ⌜ r ≡ (all (isPosition kind positions) 16 and isRule rule) ⌝ }
+{
+    if !all_positions(kind, positions) {
+        return false;
+    }
+    is_rule(rule as u32)
+}
+
 // The list check: the list, unpacked and as it stands in its bytes, is sound against a sound image, whose entries the hints know.
 pub fn sound_list(kind: Kind, l: LockList, list: &[u8], image: &[u8], hints: &[u8; 256]) -> bool
-    requires { ⌜ (l ≡ unpack (now list)) × (length (now list) ≡ 1315) × (soundImage kind (now image) ≡ true) × Hints (slotAt (now image)) (inUse (now image)) (entries kind) (now hints) ⌝ }
+    requires { ⌜ (l ≡ unpack (now list)) × (length (now list) ≡ 1316) × (soundImage kind (now image) ≡ true) × Hints (slotAt (now image)) (inUse (now image)) (entries kind) (now hints) ⌝ }
     ensures { λ r. ⌜ r ≡ soundList kind (now (list .entry)) (now (image .entry)) ⌝ }
 {
     if !all_zero(list) {
@@ -143,5 +154,5 @@ pub fn sound_list(kind: Kind, l: LockList, list: &[u8], image: &[u8], hints: &[u
         return false;
     }
     let positions = l.positions;
-    all_positions(kind, positions)
+    good_tail(kind, positions, l.rule)
 }

@@ -6,6 +6,7 @@ use mathlib.Core.List.{List, [], _∷_, _++_, append-assoc}
 use mathlib.Core.Logic.{_⊎_, inl, inr, ⊎-elim}
 use native.Mathlib.Omega.{arith}
 use lib.ListN.{length, set, length-set}
+use lib.Seq.{set-append-left}
 use borrow.Author.Tests.{leb-true, leb-false}
 use lib.Dec.{leb}
 use Rattle.words.specs.Tests.{_if_else_}
@@ -41,24 +42,26 @@ use Rattle.listing.specs.Listing.{positionAt, Searched}
 front : LockList → List ℕ
 front l = (l .capacity ∷ l .openlimit ∷ l .locklimit ∷ tab (byteFrom (l .users) 0) 16) ++ flat packItem (l .items)
 
-pack-front : (l : LockList) → length (l .positions) ≡ 16 → pack l ≡ front l ++ l .positions
+pack-front : (l : LockList) → length (l .positions) ≡ 16 → pack l ≡ front l ++ (l .positions ++ (l .rule ∷ []))
 unfolding pack front tab
 pack-front l h =
     sym (append-assoc (l .capacity ∷ l .openlimit ∷ l .locklimit ∷ tab (byteFrom (l .users) 0) 16) (flat packItem (l .items))
-    (tab (byteFrom (l .positions) 0) 16))
-    ∙ ap (λ (xs : List ℕ). front l ++ xs) (tab-getD (l .positions) 0 16 h)
+    (tab (byteFrom (l .positions) 0) 16 ++ (l .rule ∷ [])))
+    ∙ ap (λ (xs : List ℕ). front l ++ (xs ++ (l .rule ∷ []))) (tab-getD (l .positions) 0 16 h)
 
 front-long : (l : LockList) → length (l .items) ≡ 64 → length (front l) ≡ 1299
 unfolding front tab
 front-long l h = let k : length (flat packItem (l .items)) ≡ 20 * length (l .items) = length-flat packItem 20 packed-long (l .items) in omega arith
 
 -- the list's bytes with the process's next entry at e
-pub moved-bytes : (l : LockList) (p e : ℕ) → Shape l → pack (movedTo p e l) ≡ set (pack l) (positionAt p) e
+pub moved-bytes : (l : LockList) (p e : ℕ) → Shape l → p < 16 → pack (movedTo p e l) ≡ set (pack l) (positionAt p) e
 unfolding movedTo front
-moved-bytes l p e h =
+moved-bytes l p e h m =
     pack-front (movedTo p e l) (length-set (l .positions) p e ∙ h .positions-long)
-    ∙ sym (set-behind (front l) (l .positions) p e)
-    ∙ ap (λ (n : ℕ). set (front l ++ l .positions) n e) (let z : length (front l) + p ≡ positionAt p = omega (arith, front-long l (h .items-long)) in z)
+    ∙ ap (λ (xs : List ℕ). front l ++ xs) (sym (set-append-left (l .positions) (l .rule ∷ []) p e (omega (arith, h .positions-long))))
+    ∙ sym (set-behind (front l) (l .positions ++ (l .rule ∷ [])) p e)
+    ∙ ap (λ (n : ℕ). set (front l ++ (l .positions ++ (l .rule ∷ []))) n e)
+    (let z : length (front l) + p ≡ positionAt p = omega (arith, front-long l (h .items-long)) in z)
     ∙ ap (λ (xs : List ℕ). set xs (positionAt p) e) (sym (pack-front l (h .positions-long)))
 
 -- ---- one search
@@ -69,7 +72,7 @@ module _ (kind : Kind) (p c : ℕ) (b : Buffers) (ok : Passed kind p c b) (bytes
   back = pack-unpack kind (b .list) (b .image) (ok .ready .list-long) (λ i. byte-small (b .list) i bytes) (ok .ready .list-sound)
 
   moved-lent : (e : ℕ) → pack (movedTo p e (listOf b)) ≡ set (b .list) (positionAt p) e
-  moved-lent e = moved-bytes (listOf b) p e (shape-of kind p c b ok) ∙ ap (λ (xs : List ℕ). set xs (positionAt p) e) back
+  moved-lent e = moved-bytes (listOf b) p e (shape-of kind p c b ok) (ok .process-fits) ∙ ap (λ (xs : List ℕ). set xs (positionAt p) e) back
 
   -- .. whatever entry it comes to
   searched-so : (e : ℕ) → Searched kind p b (searched kind p (listOf b) e b)

@@ -3,7 +3,7 @@ use Prim.Native.Nat.{ℕ, _+_, _-_, _*_, _≤_, _<_}
 use mathlib.Core.Path.{_≡_, refl, sym, ap, subst, _∙_}
 use mathlib.Core.List.{List, [], _++_, append-nil, append-assoc}
 use native.Mathlib.Omega.{arith}
-use lib.ListN.{length, take, drop, set, drop-of-length-le}
+use lib.ListN.{length, take, drop, set, drop-of-length-le, List·getD-eq-default}
 use lib.Seq.{take-all}
 use borrow.Author.Needs.{needs}
 use Rattle.words.specs.Lists.{tab, flat}
@@ -11,17 +11,25 @@ use Rattle.words.specs.Bytes.{byte, byteFrom, put}
 use Rattle.words.proofs.Lists.{length-mapped, filled, filled-turn, filled-all, tab-getD}
 use Rattle.words.proofs.Bytes.{length-put}
 use Rattle.words.proofs.Items.{take-put, flat-more}
+use Rattle.rules.specs.declared.kind.Rule.{Rule}
+use Rattle.rules.specs.declared.kind.Rule.the-variants.{Mpm}
+use Rattle.rules.specs.Kinds.{toldRule}
+use Rattle.words.specs.Tests.{_if_else_}
 use Rattle.rules.specs.declared.item.Item.{Item}
 use Rattle.rules.specs.declared.list.LockList.{LockList}
-use Rattle.rules.specs.Locks.{blank, itemAt, withItems, itemFrom, itemIn, packItem, pack, unpack}
+use Rattle.rules.specs.Locks.{blank, itemAt, withItems, itemFrom, itemIn, packItem, pack, unpack, ruleIn}
 use Rattle.rules.proofs.Packing.{packed-long}
-use Rattle.locklist.specs.Heads.{heads, Packed}
+use Rattle.locklist.specs.Heads.{heads, tails, Packed}
 
 heads-long : (l : LockList) → length (heads l) ≡ 19
 unfolding heads tab
 heads-long l = refl
 
-pub packed-none : (l : LockList) (s t h : List ℕ) → length s ≡ 1315 → h ≡ heads l → t ≡ put 0 h s → Packed l t 0
+tails-long : (l : LockList) → length (tails l) ≡ 17
+unfolding tails tab
+tails-long l = refl
+
+pub packed-none : (l : LockList) (s t h : List ℕ) → length s ≡ 1316 → h ≡ heads l → t ≡ put 0 h s → Packed l t 0
 unfolding flat
 packed-none l s t h n e p =
     let k : length h ≡ 19 = ap length e ∙ heads-long l in
@@ -58,30 +66,39 @@ sixteen xs n = tab-getD xs 0 16 n
 pub packed-ends : (l : LockList) (s : List ℕ) (i : ℕ) → Packed l s i → 64 ≤ i → i ≤ 64 → Packed l s 64
 packed-ends l s i g h k = let q : i ≡ 64 = omega arith in subst (λ (n : ℕ). Packed l s n) q g
 
--- .. the positions fit behind them, ..
-pub positions-fit : (l : LockList) (s : List ℕ) → length (l .positions) ≡ 16 → Packed l s 64 → 1299 + length (l .positions) ≤ length s
-positions-fit l s n g = omega (arith, g .long)
+-- .. the positions and the rule fit behind them, ..
+pub tails-fit : (l : LockList) (s v : List ℕ) → v ≡ tails l → Packed l s 64 → 1299 + length v ≤ length s
+tails-fit l s v e g = let n : length v ≡ 17 = ap length e ∙ tails-long l in omega (arith, g .long)
 
 -- .. and stand there
-pub packed-whole : (l : LockList) (s t : List ℕ) → length (l .items) ≡ 64 → length (l .positions) ≡ 16 → Packed l s 64 → t ≡ put 1299 (l .positions) s
-    → t ≡ pack l
-unfolding pack heads put
-packed-whole l s t m n g h =
+pub packed-whole : (l : LockList) (s t v : List ℕ) → length (l .items) ≡ 64 → v ≡ tails l → Packed l s 64 → t ≡ put 1299 v s → t ≡ pack l
+unfolding pack heads tails put
+packed-whole l s t v m e g h =
     let b : length (l .items) ≤ 64 = omega arith in
-    let c : length s ≤ 1299 + length (l .positions) = omega (arith, g .long) in
-    h ∙ ap (λ (x : List ℕ). (take 1299 s ++ l .positions) ++ x) (drop-of-length-le s c)
-    ∙ append-nil (take 1299 s ++ l .positions)
-    ∙ ap (λ (x : List ℕ). x ++ l .positions) (g .so)
-    ∙ ap (λ (xs : List Item). (heads l ++ flat packItem xs) ++ l .positions) (take-all 64 (l .items) b)
-    ∙ append-assoc (heads l) (flat packItem (l .items)) (l .positions)
-    ∙ ap (λ (x : List ℕ). heads l ++ (flat packItem (l .items) ++ x)) (sym (sixteen (l .positions) n))
+    let n : length v ≡ 17 = ap length e ∙ tails-long l in
+    let c : length s ≤ 1299 + length v = omega (arith, g .long) in
+    h ∙ ap (λ (x : List ℕ). (take 1299 s ++ v) ++ x) (drop-of-length-le s c)
+    ∙ append-nil (take 1299 s ++ v)
+    ∙ ap (λ (x : List ℕ). x ++ v) (g .so)
+    ∙ ap (λ (xs : List Item). (heads l ++ flat packItem xs) ++ v) (take-all 64 (l .items) b)
+    ∙ append-assoc (heads l) (flat packItem (l .items)) v
+    ∙ ap (λ (x : List ℕ). heads l ++ (flat packItem (l .items) ++ x)) e
 
-pub ruleset packs = (needs, length-mapped, packed-none, packed-more, packed-ends, positions-fit, packed-whole)
+pub ruleset packs = (needs, length-mapped, packed-none, packed-more, packed-ends, tails-fit, packed-whole)
 
 -- the item that a place's part of the list says
 pub place-as : (s : List ℕ) (i : ℕ) (r : Item) → r ≡ itemFrom (take (19 + 20 * i + 20 - (19 + 20 * i)) (drop (19 + 20 * i) s)) → r ≡ itemIn s i
 unfolding itemIn
 place-as s i r h = let q : 19 + 20 * i + 20 - (19 + 20 * i) ≡ 20 = omega arith in rw q at h
+
+-- the rule that a list's last byte chooses; a list that has none is of rule 0
+pub rule-none : (list : List ℕ) → length list ≤ 1315 → Mpm ≡ ruleIn list
+unfolding ruleIn toldRule _if_else_
+rule-none list h = rw (List·getD-eq-default list 0 h)
+
+pub rule-told : (list : List ℕ) (r : Rule) → r ≡ toldRule (byte list 1315) → r ≡ ruleIn list
+unfolding ruleIn
+rule-told list r h = h
 
 -- ---- a list that is read place by place
 
@@ -106,10 +123,11 @@ module _ (s : List ℕ) (l₀ : LockList) where
               ∙ ap (withItems l₀) (filled-turn (itemIn s) i (l₀ .items) _ x k refl e);
         }
 
--- it began with the limits, the users and the positions
+-- it began with the limits, the users, the positions and the rule
 pub placed-ends : (s users positions : List ℕ) (items : List Item) (l : LockList) (i : ℕ) → users ≡ tab (byteFrom s 3) 16
     → positions ≡ tab (byteFrom s 1299) 16
-    → Placed s (record { capacity = byte s 0; openlimit = byte s 1; locklimit = byte s 2; users = users; items = items; positions = positions }) l i
+    → Placed s
+    (record { capacity = byte s 0; openlimit = byte s 1; locklimit = byte s 2; users = users; items = items; positions = positions; rule = byte s 1315 }) l i
     → 64 ≤ i → i ≤ 64 → l ≡ unpack s
 unfolding unpack
 placed-ends s users positions items l i u v p g h =

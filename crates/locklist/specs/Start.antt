@@ -13,9 +13,10 @@ pub record DidStart (o : Started) (answer : ℕ) (list : List ℕ) : Type 0 wher
 -- ---- What only proofs need
 
 -- what Start's refusal leaves to rely on
-pub record MayStart (c o k : ℕ) (users list : List ℕ) : Type 0 where
+pub record MayStart (c o k u : ℕ) (users list : List ℕ) : Type 0 where
   pub capacity-fits : c ≤ 64
   pub opens-fit : o ≤ 64
   pub locks-fit : k ≤ 64
+  pub rule-fits : u ≤ 1
   pub users-long : length users ≡ 16
-  pub list-long : length list ≡ 1315
+  pub list-long : length list ≡ 1316

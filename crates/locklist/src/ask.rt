@@ -1,9 +1,13 @@
 use directory::name::file_from;
 use rules::file::File;
+use rules::kind::Rule;
+use rules::kind::told_rule;
 use rules::list::LockList;
 ghost use mathlib.Core.Path.{_≡_};
 ghost use Prim.Native.Nat.{_+_, _*_, _<_};
 ghost use lib.ListN.{length};
+ghost use Rattle.rules.specs.Kinds.{toldRule};
+ghost use Rattle.rules.specs.Locks.{ruleIn};
 ghost use Rattle.rules.specs.Asks.{callerFile, newFile, recordOf, openMode, makeMode};
 
 // The file that the FCB names, under the caller's user.
@@ -60,4 +64,21 @@ pub fn make_mode(fcb: &[u8]) -> u8
         return 1;
     }
     0
+}
+
+// The rule that a byte tells.
+fn byte_rule(number: u8) -> Rule
+    ensures { λ r. ⌜ r ≡ toldRule number ⌝ }
+{
+    told_rule(number as u32)
+}
+
+// The rule that a list chooses, whatever its length and whatever stands in it.
+pub fn rule_in(list: &[u8]) -> Rule
+    ensures { λ r. ⌜ r ≡ ruleIn (now (list .entry)) ⌝ }
+{
+    if list.len() <= 1315 {
+        return Rule::Mpm;
+    }
+    byte_rule(list[1315])
 }

@@ -6,7 +6,7 @@ use rules::list::LockList;
 ghost use mathlib.Core.Path.{_≡_};
 ghost use lib.ListN.{length};
 ghost use Rattle.rules.specs.Locks.{packItem, pack};
-ghost use Rattle.locklist.specs.Heads.{heads, Packed};
+ghost use Rattle.locklist.specs.Heads.{heads, tails, Packed};
 
 // The twenty bytes of an item.
 pub fn item_bytes(it: Item) -> [u8; 20]
@@ -68,9 +68,35 @@ fn head_bytes(l: LockList) -> [u8; 19]
     ]
 }
 
+// Its last seventeen: each process's next entry, and the rule.
+fn tail_bytes(l: LockList) -> [u8; 17]
+    ensures { λ r. ⌜ r ≡ tails l ⌝ }
+{
+    let e = l.positions;
+    [
+        e[0],
+        e[1],
+        e[2],
+        e[3],
+        e[4],
+        e[5],
+        e[6],
+        e[7],
+        e[8],
+        e[9],
+        e[10],
+        e[11],
+        e[12],
+        e[13],
+        e[14],
+        e[15],
+        l.rule,
+    ]
+}
+
 // Writes the list's head and its places.
 fn pack_places(l: LockList, list: &mut [u8])
-    requires { ⌜ length (now list) ≡ 1315 ⌝ }
+    requires { ⌜ length (now list) ≡ 1316 ⌝ }
     ensures { λ _. ⌜ Packed l (now (list .exit)) 64 ⌝ }
 {
     let head = head_bytes(l);
@@ -86,10 +112,10 @@ fn pack_places(l: LockList, list: &mut [u8])
 
 // Writes the list's bytes.
 pub fn pack(l: LockList, list: &mut [u8])
-    requires { ⌜ length (now list) ≡ 1315 ⌝ }
+    requires { ⌜ length (now list) ≡ 1316 ⌝ }
     ensures { λ _. ⌜ now (list .exit) ≡ pack l ⌝ }
 {
     pack_places(l, &mut *list);
-    let positions = l.positions;
-    put_bytes(list, 1299, &positions);
+    let tail = tail_bytes(l);
+    put_bytes(list, 1299, &tail);
 }

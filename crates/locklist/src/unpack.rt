@@ -47,9 +47,9 @@ pub fn item_from(b: &[u8]) -> Item
     }
 }
 
-// The list that 1,315 bytes say: its limits, users and positions, then its places one by one.
+// The list that 1,316 bytes say: its limits, users, positions and rule, then its places one by one.
 pub fn unpack(list: &[u8]) -> LockList
-    requires { ⌜ length (now list) ≡ 1315 ⌝ }
+    requires { ⌜ length (now list) ≡ 1316 ⌝ }
     ensures { λ r. ⌜ r ≡ unpack (now (list .entry)) ⌝ }
 {
     let users = sixteen_from(list, 3);
@@ -61,6 +61,7 @@ pub fn unpack(list: &[u8]) -> LockList
         users: users,
         items: [Item::EMPTY; 64],
         positions: positions,
+        rule: list[1315],
     };
     let mut i: usize = 0;
     while i < 64 {

@@ -98,7 +98,7 @@ fn start(list: &mut [u8], image: &[u8], vector: &mut [u8]) -> bool {
     if caller::start_by(&input, list) != 0 {
         return false;
     }
-    caller::vector_by(image, vector);
+    caller::vector_by(&input, image, vector);
     true
 }
 
@@ -158,7 +158,7 @@ fn run(image: &mut [u8]) {
     if !print_header() {
         return;
     }
-    let mut list = [0u8; 1315];
+    let mut list = [0u8; 1316];
     let mut vector = [0u8; 32];
     if !start(&mut list, &*image, &mut vector) {
         print_bad_start();

@@ -38,7 +38,7 @@ module _ (kind : Kind) (s list out : List ℕ) (c : ℕ) (e : c ≡ firstOf (row
     passed-room = passed .room
 
 -- after `if bad_lengths(..) { return .. }`
-pub list-long : (s list out : List ℕ) (r : Bool) → r ≡ (not (eqb (length list) 1315) or not (eqb (length out) (length s))) → r ≡ false → length list ≡ 1315
+pub list-long : (s list out : List ℕ) (r : Bool) → r ≡ (not (eqb (length list) 1316) or not (eqb (length out) (length s))) → r ≡ false → length list ≡ 1316
 list-long s list out r e h = eqb-true _ _ (not-false _ (or-fst _ _ (sym e ∙ h)))
 
 -- what is asked of the list unpacked
@@ -49,7 +49,7 @@ pub open-no : (l : LockList) (list : List ℕ) (r : Bool) → r ≡ holdsOpen l 
 open-no l list r e q t = ap holdsOpen (sym q) ∙ sym e ∙ t
 
 -- the last row, and none
-module _ (kind : Kind) (s list out : List ℕ) (p : (not (eqb (length list) 1315) or not (eqb (length out) (length s))) ≡ false) (g : soundImage kind s ≡ true)
+module _ (kind : Kind) (s list out : List ℕ) (p : (not (eqb (length list) 1316) or not (eqb (length out) (length s))) ≡ false) (g : soundImage kind s ≡ true)
     (h : soundList kind list s ≡ true) where
   pub code-open : holdsOpen (unpack list) ≡ true → 255 ∕ 5 ≡ firstOf (rowsPack kind s list out)
   unfolding rowsPack firstOf _if_else_

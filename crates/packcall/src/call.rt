@@ -33,9 +33,9 @@ fn holds_open(l: LockList) -> bool
 
 // A list of wrong length, or a second buffer that is not as long as the image.
 fn bad_lengths(image: &[u8], list: &[u8], out: &[u8]) -> bool
-    ensures { λ r. ⌜ r ≡ (not (eqb (length (now (list .entry))) 1315) or not (eqb (length (now (out .entry))) (length (now (image .entry))))) ⌝ }
+    ensures { λ r. ⌜ r ≡ (not (eqb (length (now (list .entry))) 1316) or not (eqb (length (now (out .entry))) (length (now (image .entry))))) ⌝ }
 {
-    if list.len() != 1315 {
+    if list.len() != 1316 {
         return true;
     }
     out.len() != image.len()

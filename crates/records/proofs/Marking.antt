@@ -42,8 +42,8 @@ use Rattle.records.proofs.Writing.{may-real, write-may, may-passed}
 -- a block of the image is one of its drive's
 block-below : (kind : Kind) (block : ℕ) (s : List ℕ) → blockSize kind * block + blockSize kind ≤ length s → block < blocks kind s
 unfolding blockSize blocks
-block-below Small block s h = omega arith
-block-below Large block s h = omega arith
+block-below (Small u) block s h = omega arith
+block-below (Large u) block s h = omega arith
 
 -- a block of the image has a bit
 pub block-bit : (kind : Kind) (block : ℕ) (s v : List ℕ) → blocks kind s ≤ most kind → v ≡ vectorOf kind s

@@ -21,8 +21,8 @@ use Rattle.soundness.proofs.Numbers.{numbered, number-there, number-else, insid
 -- a map has at most sixteen numbers
 pub numbers-few : (kind : Kind) → numbers kind ≤ 16
 unfolding numbers
-numbers-few Small = omega arith
-numbers-few Large = omega arith
+numbers-few (Small u) = omega arith
+numbers-few (Large u) = omega arith
 
 -- the number 0 is zeros, in however many bytes
 le-zero : (k i : ℕ) → byte (le k 0) i ≡ 0

@@ -6,8 +6,8 @@ use native.Mathlib.Omega.{arith}
 use lib.Dec.{eqb}
 use Rattle.words.specs.Tests.{_if_else_}
 use Rattle.words.specs.Bytes.{byte}
-use Rattle.rules.specs.declared.kind.Kind.{Kind}
-use Rattle.rules.specs.declared.kind.Kind.the-variants.{Small, Large}
+use Rattle.rules.specs.declared.kind.Rule.{Rule}
+use Rattle.rules.specs.declared.kind.Rule.the-variants.{Mpm, Cpm}
 use Rattle.rules.specs.declared.answer.ImageAnswer.{ImageAnswer}
 use Rattle.rules.specs.declared.answer.ImageAnswer.the-variants.{Sound, WrongLength, BadUser, BadName, BadNumbers, BlockOutside, BlockBefore, ExtentBefore, NoFirst}
 use Rattle.rules.specs.declared.routine.Routine.{Routine}
@@ -16,7 +16,7 @@ use Rattle.rules.specs.declared.routine.Chosen.the-variants.{Call}
 use Rattle.rules.specs.Serves.{functionOf, chosen}
 use Rattle.rules.specs.Drive.{badFor, imageNumber, imageEntry, imageTold}
 use Rattle.rules.specs.Asks.{recordOf}
-use Rattle.rules.specs.Kinds.{top}
+use Rattle.rules.specs.Kinds.{highest}
 
 -- the answer that a number and an entry of the image check say
 answered : ℕ → ℕ → ImageAnswer
@@ -96,14 +96,14 @@ chosen-back Terminate = refl
 pub function-told : (j k : Routine) → functionOf j ≡ functionOf k → j ≡ k
 function-told j k h = let e : Call j ≡ Call k = sym (chosen-back j) ∙ ap chosen h ∙ chosen-back k in cc
 
--- 6/0: of bytes, the record number is 262,144 or more where byte 35 is above 3
+-- 6/0: of bytes, the record number is past the rule's highest where byte 35 is above that one's: above 3, or above 0
 module _ (fcb : List ℕ) (low : byte fcb 33 < 256) (mid : byte fcb 34 < 256) where
-  pub past-byte : (kind : Kind) → top kind < recordOf fcb → 3 < byte fcb 35
-  unfolding recordOf top
-  past-byte Small h = omega arith
-  past-byte Large h = omega arith
+  pub past-byte : (u : Rule) → highest u < recordOf fcb → highest u / 65536 < byte fcb 35
+  unfolding recordOf highest
+  past-byte Mpm h = omega arith
+  past-byte Cpm h = omega arith
 
-  pub byte-past : (kind : Kind) → 3 < byte fcb 35 → top kind < recordOf fcb
-  unfolding recordOf top
-  byte-past Small h = omega arith
-  byte-past Large h = omega arith
+  pub byte-past : (u : Rule) → highest u / 65536 < byte fcb 35 → highest u < recordOf fcb
+  unfolding recordOf highest
+  byte-past Mpm h = omega arith
+  byte-past Cpm h = omega arith

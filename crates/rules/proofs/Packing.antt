@@ -5,7 +5,7 @@ use mathlib.Core.Bool.{true, false}
 use mathlib.Core.List.{List, [], _∷_, _++_}
 use mathlib.Core.Logic.{⊎-elim}
 use native.Mathlib.Omega.{arith}
-use lib.ListN.{length, getD, take, drop, take-append-drop, length-take, length-drop, length-append, List·getD-eq-default}
+use lib.ListN.{length, getD, take, drop, take-append-drop, length-take, length-drop, length-append, List·getD-eq-default, List·getD-append}
 use lib.Seq.{drop-append-add, getD-take, getD-drop, length-take-le}
 use lib.Dec.{eqb, leb}
 use borrow.Author.Tests.{eqb-true, leb-true, leb-false}
@@ -13,7 +13,7 @@ use Rattle.words.specs.Tests.{_and_, _if_else_, all}
 use Rattle.words.specs.Lists.{tab, flat}
 use Rattle.words.specs.Bytes.{byte, byteFrom, part, le}
 use Rattle.words.proofs.Tests.{either, all-at, all-make, and-fst, and-snd}
-use Rattle.words.proofs.Lists.{tab-ext, tab-getD, tab-at, flat-block, flat-cut, length-flat, part-front, drop-behind}
+use Rattle.words.proofs.Lists.{tab-ext, tab-getD, tab-at, length-tab, flat-block, flat-cut, length-flat, part-front, drop-behind}
 use Rattle.words.proofs.Bytes.{part-byte, word-back, word-first, word-second, word-third, word-fourth}
 use Rattle.rules.specs.declared.item.Item.{Item}
 use Rattle.rules.specs.declared.list.LockList.{LockList}
@@ -59,9 +59,9 @@ item-back it g = λ i. record {
 heads : LockList → List ℕ
 heads l = l .capacity ∷ l .openlimit ∷ l .locklimit ∷ tab (byteFrom (l .users) 0) 16
 
--- the last sixteen
+-- the last seventeen
 tails : LockList → List ℕ
-tails l = tab (byteFrom (l .positions) 0) 16
+tails l = tab (byteFrom (l .positions) 0) 16 ++ (l .rule ∷ [])
 
 pub place-part : (l : LockList) → length (l .items) ≡ 64 → (k : ℕ) → k < 64 → part (placeAt k) 20 (pack l) ≡ packItem (itemAt l k)
 unfolding pack tab heads tails
@@ -94,8 +94,10 @@ unpack-pack l g =
       items = e i;
       positions = (tab-ext (byteFrom (pack l) 1299) (λ (k : ℕ). getD (l .positions) k 0) 16
           (λ k h. sym (getD-drop 1299 (pack l) k 0) ∙ ap (λ (s : List ℕ). getD s k 0) (tails-part l (g .items-long))
+          ∙ List·getD-append (tab (byteFrom (l .positions) 0) 16) (l .rule ∷ []) 0 k (rw (length-tab (byteFrom (l .positions) 0) 16) h)
           ∙ tab-at (byteFrom (l .positions) 0) 16 k 0 h ∙ ap (λ (j : ℕ). getD (l .positions) j 0) (let z : 0 + k ≡ k = omega arith in z))
           ∙ tab-getD (l .positions) 0 16 (g .positions-long)) i;
+      rule = (sym (getD-drop 1299 (pack l) 16 0) ∙ ap (λ (s : List ℕ). getD s 16 0) (tails-part l (g .items-long))) i;
     }
 
 -- ---- the bytes of a packed list
@@ -109,11 +111,11 @@ unfolding zeroAt
 zero-packed l h =
     all-make (zeroAt (pack l)) 64 (λ i m. ap (λ (s : List ℕ). eqb (byte s 15) 0) (place-part l h i m) ∙ ap (λ (n : ℕ). eqb n 0) (zero-byte (itemAt l i)))
 
-pub pack-long : (l : LockList) → length (l .items) ≡ 64 → length (pack l) ≡ 1315
+pub pack-long : (l : LockList) → length (l .items) ≡ 64 → length (pack l) ≡ 1316
 unfolding pack tab
 pack-long l h =
     let k : length (flat packItem (l .items)) ≡ 20 * length (l .items) = length-flat packItem 20 packed-long (l .items) in
-    let j = length-append (flat packItem (l .items)) (tab (byteFrom (l .positions) 0) 16) in
+    let j = length-append (flat packItem (l .items)) (tab (byteFrom (l .positions) 0) 16 ++ (l .rule ∷ [])) in
     omega arith
 
 -- ---- pack (unpack l) ≡ l
@@ -157,7 +159,7 @@ bytes-back b t =
     e ∙ tab-getD b 0 20 (t .long)
 
 -- a list whose places each say an item
-pub pack-twenty : (s : List ℕ) → length s ≡ 1315 → ((i : ℕ) → i < 64 → Twenty (part (placeAt i) 20 s)) → pack (unpack s) ≡ s
+pub pack-twenty : (s : List ℕ) → length s ≡ 1316 → ((i : ℕ) → i < 64 → Twenty (part (placeAt i) 20 s)) → pack (unpack s) ≡ s
 unfolding pack unpack tab itemIn
 pack-twenty s h t =
     let e : flat packItem (tab (itemIn s) 64) ++ drop 1299 s ≡ drop 19 s = flat-cut packItem itemFrom 20 64 19 s (λ i l. bytes-back _ (t i l)) in
@@ -165,9 +167,9 @@ pack-twenty s h t =
     let g : ℕ → ℕ = λ (k : ℕ). getD s k 0 in
     let f : tab g 19 ≡ take 19 s =
     tab-ext g (λ (k : ℕ). getD (take 19 s) k 0) 19 (λ k l. sym (getD-take 19 s k 0 l)) ∙ tab-getD (take 19 s) 0 19 m in
-    let d : tab (byteFrom s 1299) 16 ≡ drop 1299 s =
-    tab-ext (byteFrom s 1299) (λ (k : ℕ). getD (drop 1299 s) k 0) 16 (λ k l. sym (getD-drop 1299 s k 0))
-    ∙ tab-getD (drop 1299 s) 0 16 (simp length-drop (omega arith)) in
+    let d : tab (byteFrom s 1299) 17 ≡ drop 1299 s =
+    tab-ext (byteFrom s 1299) (λ (k : ℕ). getD (drop 1299 s) k 0) 17 (λ k l. sym (getD-drop 1299 s k 0))
+    ∙ tab-getD (drop 1299 s) 0 17 (simp length-drop (omega arith)) in
     ap (λ (x : List ℕ). tab g 19 ++ (flat packItem (tab (itemIn s) 64) ++ x)) d ∙ ap (λ (x : List ℕ). tab g 19 ++ x) e ∙ ap (λ (x : List ℕ). x ++ drop 19 s) f
     ∙ take-append-drop 19 s
 
@@ -187,8 +189,8 @@ pub unpack-at : (list : List ℕ) (i : ℕ) → i < 64 → itemAt (unpack list) 
 unfolding unpack
 unpack-at list i l = tab-at (itemIn list) 64 i blank l
 
--- every sound list of 1,315 bytes, each below 256
-module _ (kind : Kind) (list s : List ℕ) (long : length list ≡ 1315) (small : (i : ℕ) → byte list i < 256)
+-- every sound list of 1,316 bytes, each below 256
+module _ (kind : Kind) (list s : List ℕ) (long : length list ≡ 1316) (small : (i : ℕ) → byte list i < 256)
     (h : soundList kind list s ≡ true) where
   place-good : (i : ℕ) → i < 64 → goodPlace kind s (unpack list) i ≡ true
   unfolding soundList soundLocks

@@ -18,7 +18,7 @@ use Rattle.rules.specs.declared.file.File.{File}
 use Rattle.rules.specs.declared.item.Item.{Item}
 use Rattle.rules.specs.declared.list.LockList.{LockList}
 use Rattle.rules.specs.Drive.{legalName, entryOf, lookUp, missing, blockOf}
-use Rattle.rules.specs.Locks.{itemAt, userOf, positionOf, isPosition, fileOf, sameFile, opensName, opensNameAt, openOf, isOpened, isLimit, isUser, isLow, goodEmpty, goodOpen, opensUnlocked, goodLock, goodItem, goodPlace, clashAt, isApart, keepsLimits, soundLocks, soundList, itemIn, itemFrom, pack, unpack}
+use Rattle.rules.specs.Locks.{itemAt, userOf, positionOf, isPosition, isRule, fileOf, sameFile, opensName, opensNameAt, openOf, isOpened, isLimit, isUser, isLow, goodEmpty, goodOpen, opensUnlocked, goodLock, goodItem, goodPlace, clashAt, isApart, keepsLimits, soundLocks, soundList, itemIn, itemFrom, pack, unpack}
 use Rattle.rules.proofs.Items.{name-sym, name-then, clash-at-sym, clash-opens, open-is}
 use Rattle.rules.proofs.Packing.{ListInRange, unpack-pack, unpack-at, zero-packed}
 use Rattle.rules.proofs.Sizes.{top-fits}
@@ -79,6 +79,7 @@ pub record Limits (l : LockList) : Type 0 where
   pub open-good : isLimit (l .openlimit) ≡ true
   pub lock-good : isLimit (l .locklimit) ≡ true
   pub users-good : all (isUser (l .users)) 16 ≡ true
+  pub rule-good : isRule (l .rule) ≡ true
 
 pub record SoundLocks (kind : Kind) (l : LockList) (s : List ℕ) : Type 0 where
   pub limits : Limits l
@@ -98,6 +99,11 @@ user-fits l p h k = leb-true _ _ (all-at (isUser (l .users)) 16 p (h .users-good
 -- ---- from the test
 
 module _ (kind : Kind) (l : LockList) (s : List ℕ) (h : soundLocks kind l s ≡ true) where
+  places-of : (all (goodPlace kind s l) 64 and all (isApart l) 64 and all (keepsLimits l) 16 and all (isPosition kind (l .positions)) 16 and isRule (l .rule))
+      ≡ true
+  unfolding soundLocks
+  places-of = and-snd _ _ (and-snd _ _ (and-snd _ _ (and-snd _ _ h)))
+
   pub limits-of : Limits l
   unfolding soundLocks
   limits-of = record {
@@ -105,11 +111,8 @@ module _ (kind : Kind) (l : LockList) (s : List ℕ) (h : soundLocks kind l s �
     open-good = and-fst _ _ (and-snd _ _ h);
     lock-good = and-fst _ _ (and-snd _ _ (and-snd _ _ h));
     users-good = and-fst _ _ (and-snd _ _ (and-snd _ _ (and-snd _ _ h)));
+    rule-good = and-snd _ _ (and-snd _ _ (and-snd _ _ (and-snd _ _ places-of)));
   }
-
-  places-of : (all (goodPlace kind s l) 64 and all (isApart l) 64 and all (keepsLimits l) 16 and all (isPosition kind (l .positions)) 16) ≡ true
-  unfolding soundLocks
-  places-of = and-snd _ _ (and-snd _ _ (and-snd _ _ (and-snd _ _ h)))
 
   open-of : (it : Item) → eqb (it .kind) 1 ≡ true → goodOpen kind s l it ≡ true → GoodOpen kind s l it
   unfolding goodOpen missing lookUp
@@ -193,7 +196,8 @@ module _ (kind : Kind) (l : LockList) (s : List ℕ) (h : soundLocks kind l s �
     place = place-of;
     apart = apart-of;
     keeps = λ p k. all-at (keepsLimits l) 16 p (and-fst _ _ (and-snd _ _ (and-snd _ _ places-of))) k;
-    next = λ p k. unfold isPosition in leb-true _ _ (all-at (isPosition kind (l .positions)) 16 p (and-snd _ _ (and-snd _ _ (and-snd _ _ places-of))) k);
+    next = λ p k. unfold isPosition in leb-true _ _
+        (all-at (isPosition kind (l .positions)) 16 p (and-fst _ _ (and-snd _ _ (and-snd _ _ (and-snd _ _ places-of)))) k);
   }
 
 -- ---- and back
@@ -263,7 +267,8 @@ module _ (kind : Kind) (l : LockList) (s : List ℕ) (g : SoundLocks kind l s) w
       (and-both _ _
       (all-make (isApart l) 64 (λ i m. not-of-false _ (any-never (clashAt l i) i (λ j k. g .apart i j m (omega arith) (λ (q : i ≡ j). absurd (omega arith))))))
       (and-both _ _ (all-make (keepsLimits l) 16 (λ p k. g .keeps p k))
-      (all-make (isPosition kind (l .positions)) 16 (λ p k. unfold isPosition in le-leb _ _ (g .next p k)))))))))
+      (and-both _ _ (all-make (isPosition kind (l .positions)) 16 (λ p k. unfold isPosition in le-leb _ _ (g .next p k)))
+      (g .limits .rule-good))))))))
 
   -- its parts are in range
   number-fits : (i : ℕ) → i < 64 → (itemAt l i .kind < 3) × (itemAt l i .number < 4294967296)

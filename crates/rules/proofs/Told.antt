@@ -1,4 +1,4 @@
--- A book of one kind is never read as the other. Assumes nothing.
+-- A book of one size of drive is never read as of the other. Assumes nothing.
 use Prim.Native.Nat.{ℕ}
 use mathlib.Core.Path.{_≡_, refl, sym, ap, _∙_}
 use mathlib.Core.Bool.{true, false, not}
@@ -17,7 +17,7 @@ use Rattle.rules.specs.Serves.{Buffers, outcome}
 use Rattle.rules.specs.Drive.{goodLength, soundImage, imageCheck}
 use Rattle.rules.specs.Look.{mayLook, lookBlock, partAt, lookAt}
 use Rattle.rules.specs.Codes.{badNumbers, rowsInside, rowsAll}
-use Rattle.rules.specs.Kinds.{vectorSize}
+use Rattle.rules.specs.Kinds.{isLarge, vectorSize}
 use Rattle.rules.specs.Several.{callRun}
 use Rattle.rules.specs.Vector.{five, besides, rowsVector, callFive}
 use Rattle.rules.proofs.Sizes.{one-length}
@@ -34,12 +34,12 @@ module _ (kind : Kind) (n p c : ℕ) (b : Buffers) where
   unfolding rowsAll
   bad-numbers h = barred (255 ∕ 13) (λ q. omega arith) (sym (row-yes _ _ _ _ h refl))
 
--- no image is sound for both kinds
-pub one-kind : (a b : Kind) (s : List ℕ) → soundImage a s ≡ true → soundImage b s ≡ true → a ≡ b
-one-kind a b s h g = one-length a b s (sound-length a s h) (sound-length b s g)
+-- no image is sound for both sizes of drive
+pub one-size : (a b : Kind) (s : List ℕ) → soundImage a s ≡ true → soundImage b s ≡ true → isLarge a ≡ isLarge b
+one-size a b s h g = one-length a b s (sound-length a s h) (sound-length b s g)
 
--- told the other kind, ..
-module _ (own kind : Kind) (other : own ≡ kind → ⊥) (s : List ℕ) (sound : soundImage own s ≡ true) where
+-- told a kind of the other size, with either rule, ..
+module _ (own kind : Kind) (other : isLarge own ≡ isLarge kind → ⊥) (s : List ℕ) (sound : soundImage own s ≡ true) where
   other-length : goodLength kind s ≡ false
   other-length =
       ⊎-elim (λ (h : goodLength kind s ≡ true). absurd (other (one-length own kind s (sound-length own s sound) h)))

@@ -127,7 +127,7 @@ rows23 kind l f x y fcb s =
 unfoldable pub rowsThere : Kind → List ℕ → ℕ → ℕ → List Row
 rowsThere kind s e r = 4 ∕ 0 when noEntry kind e ∷ 1 ∕ 0 when eqb (blockIn kind s e r) 0 ∷ []
 
--- byte 35 above 3: for bytes, that the record number is 262,144 or more
+-- byte 35 above 3: for bytes, that the record number is 262,144 or more (under rule 1 above 0, 65,536 or more, T-11)
 unfoldable pub rows33 : Kind → ℕ → ℕ → ℕ → List ℕ → List Row
 rows33 kind o e r s = 10 ∕ 0 when not (isOpened o) ∷ 6 ∕ 0 when ltb (top kind) r ∷ rowsThere kind s e r
 

@@ -193,7 +193,7 @@ freeBlocks kind s = count (isFree kind s) (blocks kind s)
 unfoldable pub goodUser : List ℕ → ℕ → Bool
 goodUser s e = leb (userByte s e) 15
 
--- ex, 0 to 31; the module, 0 to 63; the record count, 0 to 128
+-- ex, 0 to 31; the module, 0 to 63 (under rule 1 to 15, T-11); the record count, 0 to 128
 unfoldable pub goodNumbers : Kind → List ℕ → ℕ → Bool
 goodNumbers kind s e =
     leb (entryByte s e 12) 31 and leb (entryByte s e 14) (lastModule kind) and leb (entryByte s e 15) 128

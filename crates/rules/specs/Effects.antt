@@ -208,7 +208,7 @@ sizeOf s x = extentRecords * x .extent + entryByte s (x .last) 15
 unfoldable pub fileSize : Kind → List ℕ → File → ℕ
 fileSize kind s f = 0 if missing kind (lookUp kind s f) else sizeOf s (lookUp kind s f)
 
--- FCB bytes 33 to 35 become the size, low byte first (up to 262,144: a law).
+-- FCB bytes 33 to 35 become the size, low byte first (up to 262,144, under rule 1 to 65,536: a law).
 unfoldable pub does35 : Found → Buffers → Outcome
 does35 x b = accept (withFcb b (put 33 (le 3 (sizeOf (b .image) x)) (b .fcb)))
 

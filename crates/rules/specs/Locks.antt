@@ -8,13 +8,14 @@ use Rattle.words.specs.Tests.{_and_, _or_, _if_else_, all, any, lowest, count}
 use Rattle.words.specs.Lists.{tab, flat}
 use Rattle.words.specs.Bytes.{byte, sameByte, byteFrom, part, le, word}
 use Rattle.words.specs.Tables.{Row, _∕_, _when_, firstOf}
+use Rattle.rules.specs.declared.kind.Rule.{Rule}
 use Rattle.rules.specs.declared.kind.Kind.{Kind}
 use Rattle.rules.specs.declared.file.File.{File}
 use Rattle.rules.specs.declared.item.Item.{Item}
 use Rattle.rules.specs.declared.list.LockList.{LockList}
 use Rattle.rules.specs.Serves.{processes, listSize}
 use Rattle.rules.specs.Drive.{legalName, lookUp, missing, blockOf}
-use Rattle.rules.specs.Kinds.{entries, top}
+use Rattle.rules.specs.Kinds.{toldRule, entries, top}
 
 -- ---- Places and items
 
@@ -85,14 +86,14 @@ abbrev pub userOf : LockList → ℕ → ℕ
 userOf l p = getD (l .users) p 0
 
 abbrev pub withItems : LockList → List Item → LockList
-withItems l xs = record { capacity = l .capacity; openlimit = l .openlimit; locklimit = l .locklimit; users = l .users; items = xs; positions = l .positions }
+withItems l xs = record { capacity = l .capacity; openlimit = l .openlimit; locklimit = l .locklimit; users = l .users; items = xs; positions = l .positions; rule = l .rule }
 
 -- one next entry per process (T-02)
 abbrev pub positionOf : LockList → ℕ → ℕ
 positionOf l p = byte (l .positions) p
 
 abbrev pub withPositions : LockList → List ℕ → LockList
-withPositions l xs = record { capacity = l .capacity; openlimit = l .openlimit; locklimit = l .locklimit; users = l .users; items = l .items; positions = xs }
+withPositions l xs = record { capacity = l .capacity; openlimit = l .openlimit; locklimit = l .locklimit; users = l .users; items = l .items; positions = xs; rule = l .rule }
 
 -- the process's next entry is e
 unfoldable pub movedTo : ℕ → ℕ → LockList → LockList
@@ -119,7 +120,10 @@ unfoldable pub itemIn : List ℕ → ℕ → Item
 itemIn s i = itemFrom (part (placeAt i) placeSize s)
 
 -- Bytes 0 to 2: capacity, open limit and lock limit. Bytes 3 to 18: each process's user. Then 64 places. Sixteen bytes join the
--- end (1,315 in all), one next entry per process (T-02).
+-- end, one next entry per process (T-02), then a last byte (1,316 in all) that chooses the rule (T-11).
+abbrev pub ruleAt : ℕ
+ruleAt = placeAt places + processes
+
 unfoldable pub unpack : List ℕ → LockList
 unpack s = record {
   capacity = byte s 0;
@@ -128,12 +132,17 @@ unpack s = record {
   users = tab (byteFrom s 3) processes;
   items = tab (itemIn s) places;
   positions = tab (byteFrom s (placeAt places)) processes;
+  rule = byte s ruleAt;
 }
 
 unfoldable pub pack : LockList → List ℕ
 pack l =
     l .capacity ∷ l .openlimit ∷ l .locklimit
-    ∷ (tab (byteFrom (l .users) 0) processes ++ (flat packItem (l .items) ++ tab (byteFrom (l .positions) 0) processes))
+    ∷ (tab (byteFrom (l .users) 0) processes ++ (flat packItem (l .items) ++ (tab (byteFrom (l .positions) 0) processes ++ (l .rule ∷ []))))
+
+-- the rule that a list chooses, whatever stands in it: where the byte is neither 0 nor 1, rule 0
+unfoldable pub ruleIn : List ℕ → Rule
+ruleIn list = toldRule (byte list ruleAt)
 
 -- ---- Whose an item is
 
@@ -254,7 +263,7 @@ goodLock kind s l it =
     eqb (it .mode) modeUnlocked and opensUnlocked l (openOf l (it .process) (fileOf l it))
     and not (eqb (blockOf kind s (fileOf l it) (it .number)) 0)
 
--- Processes to 15; names legal; records below 262,144.
+-- Processes to 15; names legal; records below 262,144 (under rule 1 below 65,536, T-11).
 unfoldable pub goodItem : Kind → List ℕ → LockList → Item → Bool
 goodItem kind s l it =
     leb (it .process) 15 and legalName (it .name) 0 and all (isLow (it .name)) 11 and leb (it .number) (top kind)
@@ -291,11 +300,15 @@ keepsLimits l p = leb (opensBy l p) (l .openlimit) and leb (locksBy l p) (l .loc
 unfoldable pub isPosition : Kind → List ℕ → ℕ → Bool
 isPosition kind positions p = leb (byte positions p) (entries kind)
 
+-- (T-11) 255/12 for a byte above 1
+unfoldable pub isRule : ℕ → Bool
+isRule u = leb u 1
+
 unfoldable pub soundLocks : Kind → LockList → List ℕ → Bool
 soundLocks kind l s =
     isLimit (l .capacity) and isLimit (l .openlimit) and isLimit (l .locklimit) and all (isUser (l .users)) processes
     and all (goodPlace kind s l) places and all (isApart l) places and all (keepsLimits l) processes
-    and all (isPosition kind (l .positions)) processes
+    and all (isPosition kind (l .positions)) processes and isRule (l .rule)
 
 -- the zero in each place
 unfoldable pub zeroAt : List ℕ → ℕ → Bool
@@ -307,17 +320,18 @@ soundList kind list s = all (zeroAt list) places and soundLocks kind (unpack lis
 -- ---- Start
 
 -- a value out of range or a wrong buffer length
-unfoldable pub badStart : ℕ → ℕ → ℕ → List ℕ → List ℕ → Bool
-badStart c o k users list =
-    not (isLimit c) or not (isLimit o) or not (isLimit k)
+unfoldable pub badStart : ℕ → ℕ → ℕ → ℕ → List ℕ → List ℕ → Bool
+badStart c o k u users list =
+    not (isLimit c) or not (isLimit o) or not (isLimit k) or not (isRule u)
     or not (eqb (length users) processes) or not (all (isUser users) processes) or not (eqb (length list) listSize)
 
-unfoldable pub rowsStart : ℕ → ℕ → ℕ → List ℕ → List ℕ → List Row
-rowsStart c o k users list = 255 ∕ 13 when badStart c o k users list ∷ []
+unfoldable pub rowsStart : ℕ → ℕ → ℕ → ℕ → List ℕ → List ℕ → List Row
+rowsStart c o k u users list = 255 ∕ 13 when badStart c o k u users list ∷ []
 
--- a fresh list from three numbers and sixteen users: its 64 places empty; Start sets the positions to 64 (to 128)
-unfoldable pub freshList : Kind → ℕ → ℕ → ℕ → List ℕ → List ℕ
-freshList kind c o k users = c ∷ o ∷ k ∷ (users ++ (replicate (placeSize * places) 0 ++ replicate processes (entries kind)))
+-- a fresh list from three numbers, the rule and sixteen users: its 64 places empty; Start sets the positions to 64 (to 128)
+unfoldable pub freshList : Kind → ℕ → ℕ → ℕ → ℕ → List ℕ → List ℕ
+freshList kind c o k u users =
+    c ∷ o ∷ k ∷ (users ++ (replicate (placeSize * places) 0 ++ (replicate processes (entries kind) ++ (u ∷ []))))
 
 -- what Start answers, and the list that it leaves
 pub record Started : Type 0 where
@@ -328,5 +342,6 @@ unfoldable pub startEnds : ℕ → List ℕ → List ℕ → Started
 startEnds code fresh list =
     record { answer = 0 ∕ 0; list = fresh } if eqb code 0 else record { answer = code; list = list }
 
-unfoldable pub start : Kind → ℕ → ℕ → ℕ → List ℕ → List ℕ → Started
-start kind c o k users list = startEnds (firstOf (rowsStart c o k users list)) (freshList kind c o k users) list
+-- "Start takes the byte"
+unfoldable pub start : Kind → ℕ → ℕ → ℕ → ℕ → List ℕ → List ℕ → Started
+start kind c o k u users list = startEnds (firstOf (rowsStart c o k u users list)) (freshList kind c o k u users) list

@@ -80,7 +80,7 @@ isSearch (Call FreeSpace) = false
 isSearch (Call Terminate) = false
 isSearch Unknown = false
 
--- A call has four separate lent buffers: FCB (36 bytes), DMA (2,048 since T-07), list (1,315 since T-02), image.
+-- A call has four separate lent buffers: FCB (36 bytes), DMA (2,048 since T-07), list (1,316 since T-11), image.
 abbrev pub fcbSize : ℕ
 fcbSize = 36
 
@@ -88,7 +88,7 @@ abbrev pub dmaSize : ℕ
 dmaSize = 2048
 
 abbrev pub listSize : ℕ
-listSize = 1315
+listSize = 1316
 
 pub record Buffers : Type 0 where
   pub fcb : List ℕ

@@ -34,9 +34,9 @@ unfoldable pub buildTold : Told → List ℕ → List ℕ → Built
 buildTold (Known kind) s v = build kind s v
 buildTold Other s v = built (255 ∕ 13) v
 
-unfoldable pub startTold : Told → ℕ → ℕ → ℕ → List ℕ → List ℕ → Started
-startTold (Known kind) c o k users list = start kind c o k users list
-startTold Other c o k users list = record { answer = 255 ∕ 13; list = list }
+unfoldable pub startTold : Told → ℕ → ℕ → ℕ → ℕ → List ℕ → List ℕ → Started
+startTold (Known kind) c o k u users list = start kind c o k u users list
+startTold Other c o k u users list = record { answer = 255 ∕ 13; list = list }
 
 -- .. 1 from the image check.
 unfoldable pub checkTold : Told → List ℕ → ℕ

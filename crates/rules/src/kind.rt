@@ -1,12 +1,18 @@
 ghost use mathlib.Core.Path.{_≡_};
 ghost use Prim.Native.Nat.{_≤_};
 ghost use lib.Dec.{ltb};
-ghost use Rattle.rules.specs.Kinds.{toldKind, blockSize, blockRecords, fewest, most, vectorSize, entries, numbers, top, lastModule};
+ghost use Rattle.rules.specs.Kinds.{toldRule, toldKind, ruleOf, blockSize, blockRecords, fewest, most, vectorSize, entries, numbers, highest, top, lastModule};
 
-// The kind of a drive: blocks of 1,024 bytes and one-byte block numbers, or of 2,048 bytes and two-byte numbers.
+// The rule that a book's programs are written to: MP/M II's, or CP/M 2.2's.
+pub enum Rule {
+    Mpm,
+    Cpm,
+}
+
+// The kind of a drive: blocks of 1,024 bytes and one-byte block numbers, or of 2,048 bytes and two-byte numbers; and the rule of its book.
 pub enum Kind {
-    Small,
-    Large,
+    Small(Rule),
+    Large(Rule),
 }
 
 // What a number tells of the kind.
@@ -15,13 +21,23 @@ pub enum Told {
     Other,
 }
 
-// The kind that a number tells.
-pub fn told_kind(number: u32) -> Told
-    ensures { λ r. ⌜ r ≡ toldKind number ⌝ }
+// The rule that a number tells.
+pub fn told_rule(number: u32) -> Rule
+    ensures { λ r. ⌜ r ≡ toldRule number ⌝ }
 {
     match number {
-        0 => Told::Known(Kind::Small),
-        1 => Told::Known(Kind::Large),
+        1 => Rule::Cpm,
+        _ => Rule::Mpm,
+    }
+}
+
+// The kind that a number tells, with that rule.
+pub fn told_kind(number: u32, rule: Rule) -> Told
+    ensures { λ r. ⌜ r ≡ toldKind number rule ⌝ }
+{
+    match number {
+        0 => Told::Known(Kind::Small(rule)),
+        1 => Told::Known(Kind::Large(rule)),
         _ => Told::Other,
     }
 }
@@ -31,8 +47,8 @@ pub fn block_size(kind: Kind) -> usize
     ensures { λ r. ⌜ (r ≡ blockSize kind) × (1024 ≤ r) × (r ≤ 2048) ⌝ }
 {
     match kind {
-        Kind::Small => 1024,
-        Kind::Large => 2048,
+        Kind::Small(_) => 1024,
+        Kind::Large(_) => 2048,
     }
 }
 
@@ -41,8 +57,8 @@ pub fn block_records(kind: Kind) -> usize
     ensures { λ r. ⌜ (r ≡ blockRecords kind) × (8 ≤ r) × (r ≤ 16) ⌝ }
 {
     match kind {
-        Kind::Small => 8,
-        Kind::Large => 16,
+        Kind::Small(_) => 8,
+        Kind::Large(_) => 16,
     }
 }
 
@@ -51,8 +67,8 @@ pub fn entries(kind: Kind) -> usize
     ensures { λ r. ⌜ (r ≡ entries kind) × (64 ≤ r) × (r ≤ 128) ⌝ }
 {
     match kind {
-        Kind::Small => 64,
-        Kind::Large => 128,
+        Kind::Small(_) => 64,
+        Kind::Large(_) => 128,
     }
 }
 
@@ -61,8 +77,8 @@ pub fn numbers(kind: Kind) -> usize
     ensures { λ r. ⌜ (r ≡ numbers kind) × (8 ≤ r) × (r ≤ 16) ⌝ }
 {
     match kind {
-        Kind::Small => 16,
-        Kind::Large => 8,
+        Kind::Small(_) => 16,
+        Kind::Large(_) => 8,
     }
 }
 
@@ -71,8 +87,8 @@ pub fn fewest(kind: Kind) -> usize
     ensures { λ r. ⌜ r ≡ fewest kind ⌝ }
 {
     match kind {
-        Kind::Small => 3,
-        Kind::Large => 257,
+        Kind::Small(_) => 3,
+        Kind::Large(_) => 257,
     }
 }
 
@@ -80,8 +96,8 @@ pub fn most(kind: Kind) -> usize
     ensures { λ r. ⌜ r ≡ most kind ⌝ }
 {
     match kind {
-        Kind::Small => 256,
-        Kind::Large => 4096,
+        Kind::Small(_) => 256,
+        Kind::Large(_) => 4096,
     }
 }
 
@@ -90,18 +106,28 @@ pub fn vector_size(kind: Kind) -> usize
     ensures { λ r. ⌜ (r ≡ vectorSize kind) × (r ≤ 512) ⌝ }
 {
     match kind {
-        Kind::Small => 32,
-        Kind::Large => 512,
+        Kind::Small(_) => 32,
+        Kind::Large(_) => 512,
     }
 }
 
-// The highest record number.
-fn top(kind: Kind) -> usize
-    ensures { λ r. ⌜ r ≡ top kind ⌝ }
+// The rule of a kind.
+fn rule_of(kind: Kind) -> Rule
+    ensures { λ r. ⌜ r ≡ ruleOf kind ⌝ }
 {
     match kind {
-        Kind::Small => 262143,
-        Kind::Large => 262143,
+        Kind::Small(rule) => rule,
+        Kind::Large(rule) => rule,
+    }
+}
+
+// The highest record number of a rule.
+fn highest(rule: Rule) -> usize
+    ensures { λ r. ⌜ r ≡ highest rule ⌝ }
+{
+    match rule {
+        Rule::Mpm => 262143,
+        Rule::Cpm => 65535,
     }
 }
 
@@ -109,15 +135,15 @@ fn top(kind: Kind) -> usize
 pub fn is_past(kind: Kind, r: usize) -> bool
     ensures { λ t. ⌜ t ≡ ltb (top kind) r ⌝ }
 {
-    top(kind) < r
+    highest(rule_of(kind)) < r
 }
 
 // The highest record's module.
 pub fn last_module(kind: Kind) -> u8
     ensures { λ r. ⌜ r ≡ lastModule kind ⌝ }
 {
-    match kind {
-        Kind::Small => 63,
-        Kind::Large => 63,
+    match rule_of(kind) {
+        Rule::Mpm => 63,
+        Rule::Cpm => 15,
     }
 }

@@ -9,7 +9,7 @@ ghost use Rattle.rules.specs.Locks.{itemAt, userOf, positionOf, movedTo,
 ghost use Rattle.rules.specs.Codes.{standsAgainstAt, isOthers, isNew};
 ghost use Rattle.rules.specs.Effects.{placed, opened, closed, unlockedRun, withoutBy, lockedRun};
 
-// The lock list, unpacked: its limits, each process's user, 64 places, and each process's next entry.
+// The lock list, unpacked: its limits, each process's user, 64 places, each process's next entry, and the number of its rule.
 pub struct LockList {
     pub capacity: u8,
     pub openlimit: u8,
@@ -17,6 +17,7 @@ pub struct LockList {
     pub users: [u8; 16],
     pub items: [Item; 64],
     pub positions: [u8; 16],
+    pub rule: u8,
 }
 
 impl LockList {

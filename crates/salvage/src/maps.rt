@@ -3,6 +3,7 @@ use directory::entry::map_number;
 use directory::place::blocks_in;
 use drive::check::in_range;
 use rules::kind::Kind;
+use rules::kind::Rule;
 use rules::kind::entries;
 use rules::kind::numbers;
 use words::bits::is_set;
@@ -80,20 +81,20 @@ fn clean_all(kind: Kind, image: &mut [u8], report: &mut [u8], seen: &mut [u8])
 }
 
 // The marks are 32 bytes on a drive of the first kind, 512 on one of the second.
-fn clean_small(image: &mut [u8], report: &mut [u8])
-    requires { ⌜ (32 * entries Small ≤ length (now image)) × (blocks Small (now image) ≤ most Small) × (length (now report) ≡ entries Small) ⌝ }
-    ensures { λ _. ⌜ EntriesDone Small (now (report .entry)) (now (image .entry)) (now (image .exit)) (now (report .exit)) ⌝ }
+fn clean_small(rule: Rule, image: &mut [u8], report: &mut [u8])
+    requires { ⌜ (32 * entries (Small rule) ≤ length (now image)) × (blocks (Small rule) (now image) ≤ most (Small rule)) × (length (now report) ≡ entries (Small rule)) ⌝ }
+    ensures { λ _. ⌜ EntriesDone (Small rule) (now (report .entry)) (now (image .entry)) (now (image .exit)) (now (report .exit)) ⌝ }
 {
     let mut seen = [0u8; 32];
-    clean_all(Kind::Small, image, report, &mut seen);
+    clean_all(Kind::Small(rule), image, report, &mut seen);
 }
 
-fn clean_large(image: &mut [u8], report: &mut [u8])
-    requires { ⌜ (32 * entries Large ≤ length (now image)) × (blocks Large (now image) ≤ most Large) × (length (now report) ≡ entries Large) ⌝ }
-    ensures { λ _. ⌜ EntriesDone Large (now (report .entry)) (now (image .entry)) (now (image .exit)) (now (report .exit)) ⌝ }
+fn clean_large(rule: Rule, image: &mut [u8], report: &mut [u8])
+    requires { ⌜ (32 * entries (Large rule) ≤ length (now image)) × (blocks (Large rule) (now image) ≤ most (Large rule)) × (length (now report) ≡ entries (Large rule)) ⌝ }
+    ensures { λ _. ⌜ EntriesDone (Large rule) (now (report .entry)) (now (image .entry)) (now (image .exit)) (now (report .exit)) ⌝ }
 {
     let mut seen = [0u8; 512];
-    clean_all(Kind::Large, image, report, &mut seen);
+    clean_all(Kind::Large(rule), image, report, &mut seen);
 }
 
 // The third pass: zeroes block numbers out of range or naming a block already named, and tells how many of each entry in use.
@@ -102,7 +103,7 @@ pub fn clean(kind: Kind, image: &mut [u8], report: &mut [u8])
     ensures { λ _. ⌜ EntriesDone kind (now (report .entry)) (now (image .entry)) (now (image .exit)) (now (report .exit)) ⌝ }
 {
     match kind {
-        Kind::Small => clean_small(image, report),
-        Kind::Large => clean_large(image, report),
+        Kind::Small(rule) => clean_small(rule, image, report),
+        Kind::Large(rule) => clean_large(rule, image, report),
     }
 }

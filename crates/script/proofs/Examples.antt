@@ -40,9 +40,9 @@ unfolding imageOf isRecord _and_
 nothing = start-cut none [] (omega arith) refl ∙ ap (λ (v : List ℕ). ran (headerLine ++ v) none) bad-start
 
 -- a start record with a capacity over 64
-over : runOf none (startRecord 65 2 2 (replicate 16 0)) ≡ ran (headerLine ++ text "bad record 0\n") none
+over : runOf none (startRecord 65 2 2 (replicate 16 0) 0) ≡ ran (headerLine ++ text "bad record 0\n") none
 unfolding rules startOf startRecord imageOf
-over = start-refused none (startRecord 65 2 2 (replicate 16 0)) (omega arith) refl ∙ ap (λ (v : List ℕ). ran (headerLine ++ v) none) bad-start
+over = start-refused none (startRecord 65 2 2 (replicate 16 0) 0) (omega arith) refl ∙ ap (λ (v : List ℕ). ran (headerLine ++ v) none) bad-start
 
 -- a call record cut after its first byte
 cut : runOf none (sessionStart ++ (0x4D ∷ [])) ≡ ran (headerLine ++ text "bad record 1\n") none

@@ -2,40 +2,44 @@
 use Prim.Native.Nat.{ℕ, _≤_}
 use mathlib.Core.Path.{_≡_, refl, ap, _∙_}
 use mathlib.Core.Bool.{true}
-use mathlib.Core.List.{List, _∷_, _++_}
+use mathlib.Core.List.{List, [], _∷_, _++_}
 use native.Mathlib.Omega.{arith}
 use borrow.Author.Tests.{eq-eqb, eqb-true}
 use lib.Dec.{eqb}
-use lib.ListN.{length, take, drop, length-append, length-drop, take-append-drop}
-use lib.Seq.{take-at, take-all, drop-at, drop-drop, drop-cons}
+use lib.ListN.{length, take, drop, length-append, length-drop, drop-of-length-le, take-append-drop}
+use lib.Seq.{take-at, take-all, drop-at, drop-drop, drop-cons, getD-at}
 use Rattle.words.specs.Tests.{_and_}
 use Rattle.words.specs.Bytes.{byte}
 use Rattle.words.proofs.Tests.{and-fst, and-snd}
 use Rattle.rules.specs.Serves.{processes, fcbSize, dmaSize}
-use Rattle.script.specs.Records.{startSize, callSize, startRecord, callRecord, isRecord, isStart, isCall, firstNumber, secondNumber, thirdNumber, usersIn, fcbIn, dmaIn}
+use Rattle.script.specs.Records.{startSize, callSize, startRecord, callRecord, isRecord, isStart, isCall, firstNumber, secondNumber, thirdNumber, usersIn, ruleNumber, fcbIn, dmaIn}
 
 -- ---- from parts to the record and back
 
-module _ (capacity opens locks : ℕ) (users : List ℕ) (h : length users ≡ processes) where
-  pub start-is : isStart (startRecord capacity opens locks users) ≡ true
+module _ (capacity opens locks : ℕ) (users : List ℕ) (rule : ℕ) (h : length users ≡ processes) where
+  pub start-is : isStart (startRecord capacity opens locks users rule) ≡ true
   unfolding startRecord isRecord _and_
-  start-is = rw (eq-eqb (length (startRecord capacity opens locks users)) startSize (omega arith))
+  start-is = rw (eq-eqb (length (startRecord capacity opens locks users rule)) startSize (omega (arith, length-append users (rule ∷ []))))
 
-  pub start-first : firstNumber (startRecord capacity opens locks users) ≡ capacity
+  pub start-first : firstNumber (startRecord capacity opens locks users rule) ≡ capacity
   unfolding startRecord
   start-first = refl
 
-  pub start-second : secondNumber (startRecord capacity opens locks users) ≡ opens
+  pub start-second : secondNumber (startRecord capacity opens locks users rule) ≡ opens
   unfolding startRecord
   start-second = refl
 
-  pub start-third : thirdNumber (startRecord capacity opens locks users) ≡ locks
+  pub start-third : thirdNumber (startRecord capacity opens locks users rule) ≡ locks
   unfolding startRecord
   start-third = refl
 
-  pub start-users : usersIn (startRecord capacity opens locks users) ≡ users
+  pub start-users : usersIn (startRecord capacity opens locks users rule) ≡ users
   unfolding startRecord
-  start-users = take-all processes users (omega arith)
+  start-users = take-at users (rule ∷ []) processes h
+
+  pub start-rule : ruleNumber (startRecord capacity opens locks users rule) ≡ rule
+  unfolding startRecord
+  start-rule = getD-at users rule [] 0 processes h
 
 module _ (function process count : ℕ) (fcb dma : List ℕ) (h : length fcb ≡ fcbSize) (g : length dma ≡ dmaSize) where
   pub call-is : isCall (callRecord function process count fcb dma) ≡ true
@@ -89,13 +93,16 @@ five s h =
     let e : drop 4 s ≡ byte s 4 ∷ drop 5 s = drop-cons s 4 0 (omega arith) in
     cc
 
-pub start-made : (s : List ℕ) → isStart s ≡ true → s ≡ startRecord (firstNumber s) (secondNumber s) (thirdNumber s) (usersIn s)
+pub start-made : (s : List ℕ) → isStart s ≡ true → s ≡ startRecord (firstNumber s) (secondNumber s) (thirdNumber s) (usersIn s) (ruleNumber s)
 unfolding startRecord
 start-made s h =
     let n = is-long startSize 0x53 s h in
     let a = is-first startSize 0x53 s h in
     let b = is-second startSize 0x53 s h in
-    let e : take processes (drop 5 s) ≡ drop 5 s = take-all processes (drop 5 s) (rw length-drop (omega arith)) in
+    let d : drop processes (drop 5 s) ≡ drop 21 s = drop-drop processes 5 s in
+    let l : drop 21 s ≡ byte s 21 ∷ drop 22 s = drop-cons s 21 0 (omega arith) in
+    let z : drop 22 s ≡ [] = drop-of-length-le s {i = 22} (omega arith) in
+    let w : take processes (drop 5 s) ++ drop processes (drop 5 s) ≡ drop 5 s = take-append-drop processes (drop 5 s) in
     cc (five s (omega arith))
 
 pub call-made : (s : List ℕ) → isCall s ≡ true → s ≡ callRecord (firstNumber s) (secondNumber s) (thirdNumber s) (fcbIn s) (dmaIn s)

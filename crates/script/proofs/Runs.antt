@@ -52,7 +52,7 @@ module _ (disk : Option (List ℕ)) (input : List ℕ) (h : length (imageOf disk
       (either (isStart (take startSize input)))
 
 pub start-good : (r rest image list : List ℕ) → isStart r ≡ true → startOf r (replicate listSize 0) ≡ record { answer = 0 ∕ 0; list = list }
-    → startsOn (r ++ rest) image ≡ callsOn (suc (length (r ++ rest))) 0 rest list image (vectorFor image)
+    → startsOn (r ++ rest) image ≡ callsOn (suc (length (r ++ rest))) 0 rest list image (vectorFor r image)
 unfolding startsOn startThen _if_else_
 start-good r rest image list h g =
     let n = is-long startSize 0x53 r h in

@@ -10,15 +10,17 @@ use native.Mathlib.Omega.{arith}
 use lib.ListN.{length, take, replicate, length-append, length-replicate}
 use Rattle.words.specs.Tests.{_if_else_}
 use Rattle.words.specs.Tables.{_∕_, anyRow}
+use Rattle.rules.specs.declared.kind.Rule.the-variants.{Mpm}
 use Rattle.rules.specs.declared.kind.Kind.the-variants.{Small}
-use Rattle.rules.specs.Kinds.{toldKind}
+use Rattle.rules.specs.Kinds.{toldRule, toldKind}
+use Rattle.rules.specs.Locks.{ruleIn}
 use Rattle.rules.specs.Serves.{Outcome, buffers, processes, listSize, fcbSize, dmaSize}
 use Rattle.rules.specs.Several.{callRun}
 use Rattle.rules.specs.Vector.{Five, Built, five, vectorOf, rowsBuild}
 use Rattle.rules.specs.Told.{fiveTold, buildTold}
 use Rattle.rules.proofs.Vector.{five-whole, build-accepted}
 use Rattle.session.specs.Open.{rules}
-use Rattle.session.specs.Session.{Step, Line, AsListed, session, fcbWith, dmaWith, firstImage, firstList, image5}
+use Rattle.session.specs.Session.{Step, Line, AsListed, session, fcbWith, dmaWith, firstImage, firstList, image5, orders, list0, list1, list3, list11, list12, list13, listWith, openBy, lockBy, none}
 use Rattle.session.proofs.Session.{the-session}
 use Rattle.script.specs.Text.{text, digitsBelow, digits}
 use Rattle.script.specs.Records.{startRecord, callRecord, callSize, isStart, isCall}
@@ -30,7 +32,7 @@ use Rattle.script.proofs.Runs.{image-fits, start-good, calls-end, calls
 
 -- an outcome, and beside it the vector of its image
 unfoldable withVector : Outcome → Five
-withVector o = five o (vectorOf Small (o .left .image))
+withVector o = five o (vectorOf (Small Mpm) (o .left .image))
 
 -- ---- a record of the session
 
@@ -47,14 +49,14 @@ unfolding stepRecord
 step-is s = call-is (s .function) (s .process) (s .count) (fcbWith (s .recordNumber)) (dmaWith (s .id)) (fcb-long (s .recordNumber)) (dma-long (s .id))
 
 -- with the vector of the image: the call of four buffers, and the vector of the image that it left
-step-asks : (s : Step) (l i : List ℕ)
-    → callOf (stepRecord s) l i (vectorOf Small i)
-    ≡ withVector (callRun Small (s .function) (s .process) (s .count) (buffers (fcbWith (s .recordNumber)) (dmaWith (s .id)) l i))
+step-asks : (s : Step) (l i : List ℕ) → ruleIn l ≡ Mpm
+    → callOf (stepRecord s) l i (vectorOf (Small Mpm) i)
+    ≡ withVector (callRun (Small Mpm) (s .function) (s .process) (s .count) (buffers (fcbWith (s .recordNumber)) (dmaWith (s .id)) l i))
 unfolding stepRecord callOf callRecord toldKind fiveTold withVector _if_else_
-step-asks s l i =
+step-asks s l i r =
     let f = call-fcb (s .function) (s .process) (s .count) (fcbWith (s .recordNumber)) (dmaWith (s .id)) (fcb-long (s .recordNumber)) (dma-long (s .id)) in
     let d = call-dma (s .function) (s .process) (s .count) (fcbWith (s .recordNumber)) (dmaWith (s .id)) (fcb-long (s .recordNumber)) (dma-long (s .id)) in
-    rw (f, d) (five-whole Small (s .function) (s .process) (s .count) (vectorOf Small i)
+    rw (r, f, d) (five-whole (Small Mpm) (s .function) (s .process) (s .count) (vectorOf (Small Mpm) i)
     (buffers (fcbWith (s .recordNumber)) (dmaWith (s .id)) l i) refl)
 
 -- ---- calls of the session, as listed
@@ -72,21 +74,26 @@ imageAfter i (x ∷ xs) = imageAfter (x .gives .left .image) xs
 -- the line of a call of the session, and on with what is listed
 step-then : (calls : ℕ) (s : Step) (o : Outcome) (f : List ℕ → List ℕ → List ℕ → Ran)
     → callThen calls (stepRecord s) (withVector o) f
-    ≡ (callLine calls (s .process) (s .function) (o .answer) then f (o .left .list) (o .left .image) (vectorOf Small (o .left .image)))
+    ≡ (callLine calls (s .process) (s .function) (o .answer) then f (o .left .list) (o .left .image) (vectorOf (Small Mpm) (o .left .image)))
 unfolding callThen stepRecord callRecord withVector
 step-then calls s o f = refl
 
-calls-run : (more calls : ℕ) (l i : List ℕ) (xs : List Line) → length xs < more → AsListed l i xs
-    → callsOn more calls (stepRecords xs) l i (vectorOf Small i) ≡ ran (linesFrom calls xs) (some (imageAfter i xs))
-unfolding AsListed stepRecords linesFrom imageAfter
-calls-run zero calls l i xs h a = absurd (not-suc-le-zero h)
-calls-run (suc more) calls l i [] h a = calls-end more calls l i (vectorOf Small i)
-calls-run (suc more) calls l i (x ∷ xs) h a =
-    calls-go-on more calls (stepRecord (x .asks)) (stepRecords xs) l i (vectorOf Small i) (step-is (x .asks))
-    ∙ ap (λ (o : Five). callThen calls (stepRecord (x .asks)) o (callsOn more (calls + 1) (stepRecords xs))) (step-asks (x .asks) l i ∙ ap withVector (a .0))
+-- every list that is listed chooses the rule 0
+unfoldable EachMpm : List Line → Type 0
+EachMpm [] = Unit {0}
+EachMpm (x ∷ xs) = (ruleIn (x .gives .left .list) ≡ Mpm) × EachMpm xs
+
+calls-run : (more calls : ℕ) (l i : List ℕ) (xs : List Line) → length xs < more → AsListed l i xs → ruleIn l ≡ Mpm → EachMpm xs
+    → callsOn more calls (stepRecords xs) l i (vectorOf (Small Mpm) i) ≡ ran (linesFrom calls xs) (some (imageAfter i xs))
+unfolding AsListed EachMpm stepRecords linesFrom imageAfter
+calls-run zero calls l i xs h a r m = absurd (not-suc-le-zero h)
+calls-run (suc more) calls l i [] h a r m = calls-end more calls l i (vectorOf (Small Mpm) i)
+calls-run (suc more) calls l i (x ∷ xs) h a r m =
+    calls-go-on more calls (stepRecord (x .asks)) (stepRecords xs) l i (vectorOf (Small Mpm) i) (step-is (x .asks))
+    ∙ ap (λ (o : Five). callThen calls (stepRecord (x .asks)) o (callsOn more (calls + 1) (stepRecords xs))) (step-asks (x .asks) l i r ∙ ap withVector (a .0))
     ∙ step-then calls (x .asks) (x .gives) (callsOn more (calls + 1) (stepRecords xs))
     ∙ ap (λ (r : Ran). callLine calls (x .asks .process) (x .asks .function) (x .gives .answer) then r)
-    (calls-run more (calls + 1) (x .gives .left .list) (x .gives .left .image) xs (omega arith) (a .1))
+    (calls-run more (calls + 1) (x .gives .left .list) (x .gives .left .image) xs (omega arith) (a .1) (m .0) (m .1))
 
 -- the first k calls of those listed
 first-listed : (k : ℕ) (l i : List ℕ) (xs : List Line) → AsListed l i xs → AsListed l i (take k xs)
@@ -94,6 +101,12 @@ unfolding AsListed
 first-listed zero l i xs a = tt
 first-listed (suc k) l i [] a = tt
 first-listed (suc k) l i (x ∷ xs) a = (a .0, first-listed k (x .gives .left .list) (x .gives .left .image) xs (a .1))
+
+first-mpm : (k : ℕ) (xs : List Line) → EachMpm xs → EachMpm (take k xs)
+unfolding EachMpm
+first-mpm zero xs m = tt
+first-mpm (suc k) [] m = tt
+first-mpm (suc k) (x ∷ xs) m = (m .0, first-mpm k xs (m .1))
 
 -- there are no more calls than bytes
 few : (xs : List Line) → length xs ≤ length (stepRecords xs)
@@ -109,19 +122,28 @@ few (x ∷ xs) =
 
 pub begins : isStart sessionStart ≡ true
 unfolding sessionStart
-begins = start-is 3 2 2 (replicate processes 0) refl
+begins = start-is 3 2 2 (replicate processes 0) 0 refl
 
 pub starts : startOf sessionStart (replicate listSize 0) ≡ record { answer = 0 ∕ 0; list = firstList }
 unfolding rules startOf sessionStart startRecord firstList
 starts = refl
 
 -- the first image is sound, so the vector beside it is its own
-pub begins-with : vectorFor firstImage ≡ vectorOf Small firstImage
-unfolding vectorFor toldKind buildTold _if_else_
-begins-with = ap (λ (x : Built). x .vector) (build-accepted Small firstImage (replicate vectorLong 0) fine)
+pub begins-with : vectorFor sessionStart firstImage ≡ vectorOf (Small Mpm) firstImage
+unfolding vectorFor toldKind toldRule buildTold sessionStart startRecord _if_else_
+begins-with = ap (λ (x : Built). x .vector) (build-accepted (Small Mpm) firstImage (replicate vectorLong 0) fine)
   where
-    fine : anyRow (rowsBuild Small firstImage (replicate vectorLong 0)) ≡ false
+    fine : anyRow (rowsBuild (Small Mpm) firstImage (replicate vectorLong 0)) ≡ false
     fine = unfold rules firstImage in refl
+
+-- the session is written to the rule 0
+first-is-mpm : ruleIn firstList ≡ Mpm
+unfolding rules firstList
+first-is-mpm = refl
+
+session-mpm : EachMpm session
+unfolding rules EachMpm session orders firstList list0 list1 list3 list11 list12 list13 listWith openBy lockBy none
+session-mpm = (refl, (refl, (refl, (refl, (refl, (refl, (refl, (refl, (refl, (refl, (refl, (refl, (refl, (refl, tt))))))))))))))
 
 -- the first k calls of the session
 the-run : (k : ℕ)
@@ -137,7 +159,8 @@ the-run k =
     ∙ ap (λ (r : Ran). headerLine then r)
     (start-good sessionStart rest firstImage firstList begins starts
     ∙ ap (callsOn (suc (length (sessionStart ++ rest))) 0 rest firstList firstImage) begins-with
-    ∙ calls-run (suc (length (sessionStart ++ rest))) 0 firstList firstImage (take k session) (omega arith) listed)
+    ∙ calls-run (suc (length (sessionStart ++ rest))) 0 firstList firstImage (take k session) (omega arith) listed first-is-mpm (first-mpm k session
+    session-mpm))
 
 pub nine-lines : runOf (some firstImage) sessionInput ≡ ran nineLines (some image5)
 unfolding sessionInput nineLines session linesFrom imageAfter text digitsBelow digits field headerLine callLine endLine _if_else_

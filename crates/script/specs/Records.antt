@@ -1,7 +1,7 @@
 -- The records that `mpmcalls` reads. Assumes nothing.
 use Prim.Native.Nat.{ℕ, _+_}
 use mathlib.Core.Bool.{Bool}
-use mathlib.Core.List.{List, _∷_, _++_}
+use mathlib.Core.List.{List, [], _∷_, _++_}
 use lib.ListN.{length}
 use lib.Dec.{eqb}
 use Rattle.words.specs.Tests.{_and_}
@@ -16,9 +16,9 @@ markSize = 2
 abbrev pub numbersSize : ℕ
 numbersSize = 3
 
--- 4D 53 and the list's first 19 bytes: capacity, open limit, lock limit and sixteen users
+-- 4D 53 and the list's first 19 bytes: capacity, open limit, lock limit and sixteen users; the rule "after the 19" (T-11)
 abbrev pub startSize : ℕ
-startSize = markSize + numbersSize + processes
+startSize = markSize + numbersSize + processes + 1
 
 -- 4D 43, function, process, count (a byte each), FCB, DMA
 abbrev pub callSize : ℕ
@@ -48,6 +48,10 @@ thirdNumber s = byte s (markSize + 2)
 abbrev pub usersIn : List ℕ → List ℕ
 usersIn s = part (markSize + numbersSize) processes s
 
+-- its rule
+abbrev pub ruleNumber : List ℕ → ℕ
+ruleNumber s = byte s (markSize + numbersSize + processes)
+
 -- FCB and DMA of a call record
 abbrev pub fcbIn : List ℕ → List ℕ
 fcbIn s = part (markSize + numbersSize) fcbSize s
@@ -58,8 +62,8 @@ dmaIn s = part (markSize + numbersSize + fcbSize) dmaSize s
 -- ---- What only proofs need
 
 -- the records that their parts make
-unfoldable pub startRecord : ℕ → ℕ → ℕ → List ℕ → List ℕ
-startRecord capacity opens locks users = 0x4D ∷ 0x53 ∷ capacity ∷ opens ∷ locks ∷ users
+unfoldable pub startRecord : ℕ → ℕ → ℕ → List ℕ → ℕ → List ℕ
+startRecord capacity opens locks users rule = 0x4D ∷ 0x53 ∷ capacity ∷ opens ∷ locks ∷ (users ++ (rule ∷ []))
 
 unfoldable pub callRecord : ℕ → ℕ → ℕ → List ℕ → List ℕ → List ℕ
 callRecord function process count fcb dma = 0x4D ∷ 0x43 ∷ function ∷ process ∷ count ∷ (fcb ++ dma)

@@ -9,11 +9,11 @@ use lib.Dec.{ltb, eqb}
 use Rattle.words.specs.Tests.{_if_else_}
 use Rattle.words.specs.Tables.{_∕_}
 use Rattle.rules.specs.Serves.{buffers, listSize}
-use Rattle.rules.specs.Locks.{Started}
-use Rattle.rules.specs.Kinds.{toldKind}
+use Rattle.rules.specs.Locks.{Started, ruleIn}
+use Rattle.rules.specs.Kinds.{toldRule, toldKind}
 use Rattle.rules.specs.Vector.{Five}
 use Rattle.rules.specs.Told.{fiveTold, buildTold, startTold}
-use Rattle.script.specs.Records.{startSize, callSize, isStart, isCall, firstNumber, secondNumber, thirdNumber, usersIn, fcbIn, dmaIn}
+use Rattle.script.specs.Records.{startSize, callSize, isStart, isCall, firstNumber, secondNumber, thirdNumber, usersIn, ruleNumber, fcbIn, dmaIn}
 use Rattle.script.specs.Lines.{headerLine, callLine, endLine, badLine, badStartLine, badCallLine, longImageLine}
 
 -- the number that tells the kind of drive: `mpmcalls` stays with the first kind (T-09)
@@ -24,12 +24,13 @@ firstKind = 0
 
 -- Start, of what a start record says
 unfoldable pub startOf : List ℕ → List ℕ → Started
-startOf r list = startTold (toldKind firstKind) (firstNumber r) (secondNumber r) (thirdNumber r) (usersIn r) list
+startOf r list =
+    startTold (toldKind firstKind (toldRule (ruleNumber r))) (firstNumber r) (secondNumber r) (thirdNumber r) (ruleNumber r) (usersIn r) list
 
 -- the call that a call record says, on a list, an image and the vector beside it (T-04)
 unfoldable pub callOf : List ℕ → List ℕ → List ℕ → List ℕ → Five
 callOf r list image vector =
-    fiveTold (toldKind firstKind) (firstNumber r) (secondNumber r) (thirdNumber r) vector (buffers (fcbIn r) (dmaIn r) list image)
+    fiveTold (toldKind firstKind (ruleIn list)) (firstNumber r) (secondNumber r) (thirdNumber r) vector (buffers (fcbIn r) (dmaIn r) list image)
 
 -- what a routine answered to a call, and the list, the image and the vector that it left, are that
 pub record DidCall (o : Five) (answer : ℕ) (list image vector : List ℕ) : Type 0 where
@@ -43,8 +44,8 @@ abbrev pub vectorLong : ℕ
 vectorLong = 32
 
 -- `mpmcalls` builds its own vector, once: that of the image, or all zeros for an image that is not sound, on which no call gets as far
-unfoldable pub vectorFor : List ℕ → List ℕ
-vectorFor image = buildTold (toldKind firstKind) image (replicate vectorLong 0) .vector
+unfoldable pub vectorFor : List ℕ → List ℕ → List ℕ
+vectorFor r image = buildTold (toldKind firstKind (toldRule (ruleNumber r))) image (replicate vectorLong 0) .vector
 
 -- ---- A run
 
@@ -88,7 +89,7 @@ callsOn (suc more) calls input list image vector =
 -- The start record. "A bad start": a bad mark, a cut record, or one that Start refuses.
 unfoldable pub startThen : List ℕ → List ℕ → Started → Ran
 startThen input image o =
-    callsOn (suc (length input)) 0 (drop startSize input) (o .list) image (vectorFor image) if eqb (o .answer) (0 ∕ 0) else ran badStartLine none
+    callsOn (suc (length input)) 0 (drop startSize input) (o .list) image (vectorFor (take startSize input) image) if eqb (o .answer) (0 ∕ 0) else ran badStartLine none
 
 unfoldable pub startsOn : List ℕ → List ℕ → Ran
 startsOn input image =

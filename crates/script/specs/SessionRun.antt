@@ -17,7 +17,7 @@ stepRecords (x ∷ xs) = stepRecord (x .asks) ++ stepRecords xs
 
 -- capacity 3, open limit 2, lock limit 2, all users 0; ..
 unfoldable pub sessionStart : List ℕ
-sessionStart = startRecord 3 2 2 (replicate processes 0)
+sessionStart = startRecord 3 2 2 (replicate processes 0) 0
 
 -- .. then S0 to S6
 unfoldable pub sessionInput : List ℕ

@@ -3,11 +3,13 @@ use crate::part;
 use crate::record::CALL_SIZE;
 use rules::file::File;
 ghost use mathlib.Core.Path.{_≡_};
-ghost use Rattle.rules.specs.Kinds.{toldKind};
+ghost use Rattle.rules.specs.Kinds.{toldRule, toldKind};
+ghost use Rattle.rules.specs.Locks.{ruleIn};
 ghost use Rattle.rules.specs.Serves.{buffers};
 ghost use Rattle.rules.specs.Told.{fiveTold, buildTold, checkTold, lookTold};
 ghost use Rattle.rules.specs.Vector.{built, DidFive};
 ghost use Rattle.locklist.specs.Start.{DidStart};
+ghost use Rattle.script.specs.Records.{ruleNumber};
 ghost use Rattle.script.specs.Run.{firstKind, startOf, callOf, DidCall};
 
 // The kind of drive that DISK.IMG is of.
@@ -20,7 +22,16 @@ pub fn start_by(s: &[u8], list: &mut [u8]) -> u32
     let capacity = part::first_number(s) as u32;
     let opens = part::second_number(s) as u32;
     let locks = part::third_number(s) as u32;
-    engine::mpm_start(FIRST_KIND, capacity, opens, locks, part::users_in(s), list)
+    let rule = part::rule_number(s) as u32;
+    engine::mpm_start(
+        FIRST_KIND,
+        capacity,
+        opens,
+        locks,
+        rule,
+        part::users_in(s),
+        list,
+    )
 }
 
 // A call, on a drive of that kind.
@@ -34,7 +45,7 @@ fn call(
     image: &mut [u8],
     vector: &mut [u8],
 ) -> u32
-    ensures { λ r. ⌜ DidFive (fiveTold (toldKind firstKind) function process count (now (vector .entry)) (buffers (now (fcb .entry)) (now (dma .entry)) (now (list .entry)) (now (image .entry)))) r (buffers (now (fcb .exit)) (now (dma .exit)) (now (list .exit)) (now (image .exit))) (now (vector .exit)) ⌝ }
+    ensures { λ r. ⌜ DidFive (fiveTold (toldKind firstKind (ruleIn (now (list .entry)))) function process count (now (vector .entry)) (buffers (now (fcb .entry)) (now (dma .entry)) (now (list .entry)) (now (image .entry)))) r (buffers (now (fcb .exit)) (now (dma .exit)) (now (list .exit)) (now (image .exit))) (now (vector .exit)) ⌝ }
 {
     engine::mpm_call(
         FIRST_KIND,
@@ -70,24 +81,25 @@ pub fn call_by(s: &[u8; CALL_SIZE], list: &mut [u8], image: &mut [u8], vector: &
     )
 }
 
-// The vector of an image, or the one there where the image is unsound.
-pub fn vector_by(image: &[u8], vector: &mut [u8]) -> u32
-    ensures { λ r. ⌜ built r (now (vector .exit)) ≡ buildTold (toldKind firstKind) (now (image .entry)) (now (vector .entry)) ⌝ }
+// The vector of an image under the rule of the start record, or the one there where the image is unsound.
+pub fn vector_by(s: &[u8], image: &[u8], vector: &mut [u8]) -> u32
+    ensures { λ r. ⌜ built r (now (vector .exit)) ≡ buildTold (toldKind firstKind (toldRule (ruleNumber (now (s .entry))))) (now (image .entry)) (now (vector .entry)) ⌝ }
 {
-    engine::mpm_vector(FIRST_KIND, image, vector)
+    let rule = part::rule_number(s) as u32;
+    engine::mpm_vector(FIRST_KIND, rule, image, vector)
 }
 
 // The image check.
-pub fn check_by(image: &[u8]) -> u32
-    ensures { λ r. ⌜ r ≡ checkTold (toldKind firstKind) (now (image .entry)) ⌝ }
+pub fn check_by(rule: u32, image: &[u8]) -> u32
+    ensures { λ r. ⌜ r ≡ checkTold (toldKind firstKind (toldRule rule)) (now (image .entry)) ⌝ }
 {
-    engine::mpm_check(FIRST_KIND, image)
+    engine::mpm_check(FIRST_KIND, rule, image)
 }
 
 // Look, at a record of a file.
-pub fn look_by(file: File, number: u32, image: &[u8]) -> u32
-    ensures { λ r. ⌜ r ≡ lookTold (toldKind firstKind) (file .user) (file .name) number (now (image .entry)) ⌝ }
+pub fn look_by(rule: u32, file: File, number: u32, image: &[u8]) -> u32
+    ensures { λ r. ⌜ r ≡ lookTold (toldKind firstKind (toldRule rule)) (file .user) (file .name) number (now (image .entry)) ⌝ }
 {
     let name = file.name;
-    engine::mpm_look(FIRST_KIND, file.user as u32, &name, number, image)
+    engine::mpm_look(FIRST_KIND, rule, file.user as u32, &name, number, image)
 }

@@ -1,9 +1,9 @@
-// The parts of a record: two mark bytes, three numbers, and sixteen users or FCB and DMA.
+// The parts of a record: two mark bytes, three numbers, and sixteen users and the rule or FCB and DMA.
 use crate::record::CALL_SIZE;
 use rules::bytes::put_bytes;
 ghost use mathlib.Core.Path.{_≡_};
 ghost use Rattle.words.specs.Bytes.{byte, part};
-ghost use Rattle.script.specs.Records.{firstNumber, secondNumber, thirdNumber, usersIn, fcbIn, dmaIn};
+ghost use Rattle.script.specs.Records.{firstNumber, secondNumber, thirdNumber, usersIn, ruleNumber, fcbIn, dmaIn};
 
 // Their sizes in bytes.
 pub const MARKS_SIZE: usize = 2;
@@ -65,6 +65,13 @@ pub fn users_in(s: &[u8]) -> &[u8]
     ensures { λ r. ⌜ now r ≡ usersIn (now (s .entry)) ⌝ }
 {
     part_of(s, MARKS_SIZE + NUMBERS_SIZE, USERS_SIZE)
+}
+
+// Its rule.
+pub fn rule_number(s: &[u8]) -> u8
+    ensures { λ r. ⌜ r ≡ ruleNumber (now (s .entry)) ⌝ }
+{
+    byte_at(s, MARKS_SIZE + NUMBERS_SIZE + USERS_SIZE)
 }
 
 // The FCB of a call record.

@@ -8,7 +8,7 @@ ghost use Prim.Native.Nat.{_≤_};
 ghost use Rattle.script.specs.Records.{isStart, isCall, isRecord};
 
 // Sizes in bytes.
-pub const START_SIZE: usize = MARKS_SIZE + NUMBERS_SIZE + USERS_SIZE;
+pub const START_SIZE: usize = MARKS_SIZE + NUMBERS_SIZE + USERS_SIZE + 1;
 
 pub const CALL_SIZE: usize = MARKS_SIZE + NUMBERS_SIZE + FCB_SIZE + DMA_SIZE;
 
@@ -26,7 +26,7 @@ fn is_record(s: &[u8], size: usize, mark: u8) -> bool
     s[1] == mark
 }
 
-// A start record: 4D 53, three numbers and sixteen users.
+// A start record: 4D 53, three numbers, sixteen users and the rule.
 pub fn is_start(s: &[u8]) -> bool
     ensures { λ r. ⌜ r ≡ isStart (now (s .entry)) ⌝ }
 {

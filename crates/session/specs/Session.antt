@@ -5,6 +5,7 @@ use mathlib.Core.List.{List, [], _∷_, _++_}
 use lib.ListN.{replicate}
 use Rattle.words.specs.Tables.{_∕_}
 use Rattle.rules.specs.declared.kind.Kind.the-variants.{Small}
+use Rattle.rules.specs.declared.kind.Rule.the-variants.{Mpm}
 use Rattle.rules.specs.Serves.{Outcome, buffers, outcome}
 use Rattle.rules.specs.Several.{callRun}
 
@@ -39,9 +40,9 @@ step p n r c id = record { process = p; function = n; recordNumber = r; count = 
 unfoldable pub firstImage : List ℕ
 firstImage = replicate 4096 0xE5
 
--- capacity 3, open limit 2, lock limit 2, all users 0
+-- capacity 3, open limit 2, lock limit 2, all users 0, rule 0
 unfoldable pub firstList : List ℕ
-firstList = 3 ∷ 2 ∷ 2 ∷ (replicate 1296 0 ++ replicate 16 64)
+firstList = 3 ∷ 2 ∷ 2 ∷ (replicate 1296 0 ++ (replicate 16 64 ++ (0 ∷ [])))
 
 -- entry 0 with its first byte, its count and its first two map bytes, the rest of the directory empty, then blocks 2 and 3
 unfoldable pub imageWith : ℕ → ℕ → ℕ → ℕ → List ℕ → List ℕ → List ℕ
@@ -58,7 +59,7 @@ writtenWith id = id ∷ (replicate 127 0 ++ replicate 896 0xE5)
 
 -- the list with places 0, 1 and 2
 unfoldable pub listWith : List ℕ → List ℕ → List ℕ → List ℕ
-listWith place₀ place₁ place₂ = 3 ∷ 2 ∷ 2 ∷ (replicate 16 0 ++ (place₀ ++ (place₁ ++ (place₂ ++ (replicate 1220 0 ++ replicate 16 64)))))
+listWith place₀ place₁ place₂ = 3 ∷ 2 ∷ 2 ∷ (replicate 16 0 ++ (place₀ ++ (place₁ ++ (place₂ ++ (replicate 1220 0 ++ (replicate 16 64 ++ (0 ∷ [])))))))
 
 unfoldable pub openBy : ℕ → List ℕ
 openBy p = 0x4F ∷ 0x46 ∷ p ∷ (orders ++ (1 ∷ 0 ∷ 0 ∷ 0 ∷ 0 ∷ 0 ∷ []))
@@ -149,5 +150,6 @@ session =
 unfoldable pub AsListed : List ℕ → List ℕ → List Line → Type 0
 AsListed l i [] = Unit {0}
 AsListed l i (x ∷ xs) =
-    (callRun Small (x .asks .function) (x .asks .process) (x .asks .count) (buffers (fcbWith (x .asks .recordNumber)) (dmaWith (x .asks .id)) l i) ≡ x .gives)
+    (callRun (Small Mpm) (x .asks .function) (x .asks .process) (x .asks .count) (buffers (fcbWith (x .asks .recordNumber)) (dmaWith (x .asks .id)) l i)
+    ≡ x .gives)
     × AsListed (x .gives .left .list) (x .gives .left .image) xs

@@ -26,7 +26,7 @@ use Rattle.rules.specs.declared.routine.Chosen.{Chosen}
 use Rattle.rules.specs.declared.routine.Chosen.the-variants.{Call, Unknown}
 use Rattle.rules.specs.Serves.{Buffers, Outcome, chosen}
 use Rattle.rules.specs.Drive.{nameAt, recordAt, blockIn, fileFrom}
-use Rattle.rules.specs.Locks.{blank, isOpened, itemAt, userOf, positionOf, firstMark, secondMark, packItem, pack, unpack, isLimit, isUser, isLow, isZero, goodEmpty}
+use Rattle.rules.specs.Locks.{blank, isOpened, itemAt, userOf, positionOf, firstMark, secondMark, packItem, pack, unpack, isLimit, isUser, isRule, isLow, isZero, goodEmpty}
 use Rattle.rules.specs.Asks.{callerFile, newFile, recordOf}
 use Rattle.rules.specs.Effects.{madeEntry, made, erasedAt, erased, lowChanged, renamedAt, renamed, newEntry, entered, mapped, countTo, counted, cleared, stored, written, contents, searched, finds, findsNone, does15, does16, does17, does18, does19, does22, makes, does23, does33, does34, does35, does41, does42, does43, does46, does143}
 use Rattle.rules.specs.Call.{Asked, asked, effectOf, rowsCall, call}
@@ -169,18 +169,20 @@ module _ (kind : Kind) (l : LockList) (s : List ℕ) (g : SoundLocks kind l s) (
 
   -- a sound list, packed, is bytes
   pub pack-bytes : areBytes (pack l) ≡ true
-  unfolding pack isLimit isUser
+  unfolding pack isLimit isUser isRule
   pack-bytes =
       let c : l .capacity ≤ 64 = leb-true _ _ (and-snd _ _ (g .limits .capacity-good)) in
       let o : l .openlimit ≤ 64 = leb-true _ _ (and-snd _ _ (g .limits .open-good)) in
       let k : l .locklimit ≤ 64 = leb-true _ _ (and-snd _ _ (g .limits .lock-good)) in
+      let r : l .rule ≤ 1 = leb-true _ _ (g .limits .rule-good) in
       bytes-cons (l .capacity) _ (omega arith) (bytes-cons (l .openlimit) _ (omega arith) (bytes-cons (l .locklimit) _ (omega arith)
       (bytes-append _ _
       (bytes-tab (byteFrom (l .users) 0) 16 (λ j m. let u : byte (l .users) j ≤ 15 = leb-true _ _ (all-at (isUser (l .users)) 16 j (g .limits .users-good) m) in
       from-start (l .users) j (omega arith)))
       (bytes-append _ _ (bytes-flat packItem blank (l .items) (λ i m. item-bytes (itemAt l i) (place-small i (let z = shape .items-long in omega arith))))
-      (bytes-tab (byteFrom (l .positions) 0) 16 (λ j m.
-      let u : positionOf l j ≤ entries kind = g .next j m in let few = entries-few kind in from-start (l .positions) j (omega arith)))))))
+      (bytes-append _ _ (bytes-tab (byteFrom (l .positions) 0) 16 (λ j m.
+      let u : positionOf l j ≤ entries kind = g .next j m in let few = entries-few kind in from-start (l .positions) j (omega arith)))
+      (bytes-replicate 1 (l .rule) (omega arith)))))))
 
 -- ---- a call
 

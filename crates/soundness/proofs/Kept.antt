@@ -29,7 +29,7 @@ use Rattle.soundness.proofs.Left.{ListLeft, ImageLeft, list-same, one-s
 
 pub record SoundBoth (kind : Kind) (list image : List ℕ) : Type 0 where
   pub image-sound : soundImage kind image ≡ true
-  pub list-long : length list ≡ 1315
+  pub list-long : length list ≡ 1316
   pub list-sound : soundList kind list image ≡ true
 
 packed : (kind : Kind) (l : LockList) (s : List ℕ) → SoundShape kind l s → soundImage kind s ≡ true → SoundBoth kind (pack l) s

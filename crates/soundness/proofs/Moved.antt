@@ -62,6 +62,7 @@ module _ (l : LockList) (p e : ℕ) (h : Shape l) where
         open-good = g .limits .open-good;
         lock-good = g .limits .lock-good;
         users-good = g .limits .users-good;
+        rule-good = g .limits .rule-good;
       };
       place = λ i m. moved-place i (g .place i m);
       apart = g .apart;

@@ -24,7 +24,13 @@ use Rattle.rules.proofs.SoundList.{Shape, Holder, GoodOpen, GoodLock, isPlain, 
 module _ (l : LockList) (xs : List Item) where
   -- its limits are as good as before; ..
   pub limits-with : Limits l → Limits (withItems l xs)
-  limits-with g = record { capacity-good = g .capacity-good; open-good = g .open-good; lock-good = g .lock-good; users-good = g .users-good }
+  limits-with g = record {
+    capacity-good = g .capacity-good;
+    open-good = g .open-good;
+    lock-good = g .lock-good;
+    users-good = g .users-good;
+    rule-good = g .rule-good;
+  }
 
   module _ (kind : Kind) (s : List ℕ) where
     -- .. so is an item, a lock if its process still has that file open unlocked, ..

@@ -43,7 +43,7 @@ modeOf q list = itemAt (unpack list) (openOf (unpack list) (q .process) (fileOfC
 -- ---- the table of 43 reads of the list its length, that it is sound, and the caller's open
 
 -- the general table, of a list that is sound
-all-as : (kind : Kind) (n p c : ℕ) (fcb dma list image : List ℕ) → length list ≡ 1315 → soundList kind list image ≡ true
+all-as : (kind : Kind) (n p c : ℕ) (fcb dma list image : List ℕ) → length list ≡ 1316 → soundList kind list image ≡ true
     → rowsAll kind n p c (record { fcb = fcb; dma = dma; list = list; image = image })
     ≡ 255 ∕ 13 when (isUnknown (chosen n) or leb 16 p or ltb c 1 or ltb 16 c or not (eqb (length fcb) 36) or not (eqb (length dma) 2048) or false)
     ∷ 255 ∕ 1 when not (soundImage kind image) ∷ 255 ∕ 12 when false ∷ 255 ∕ 4 when badDrive n fcb ∷ []

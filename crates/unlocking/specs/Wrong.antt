@@ -8,6 +8,7 @@ use Rattle.words.specs.Lists.{turns}
 use Rattle.words.specs.Tables.{_∕_}
 use Rattle.rules.specs.declared.kind.Kind.{Kind}
 use Rattle.rules.specs.declared.kind.Kind.the-variants.{Small}
+use Rattle.rules.specs.declared.kind.Rule.the-variants.{Mpm}
 use Rattle.rules.specs.declared.file.File.{File}
 use Rattle.rules.specs.declared.item.Item.{Item}
 use Rattle.rules.specs.declared.list.LockList.{LockList}
@@ -46,7 +47,7 @@ strict kind q list image = unlocks kind q list image if holdsSome q list else ou
 
 -- What each of them fails.
 pub record WrongUnlocks : Type 0 where
-  pub not-settling : GivesBack (locks Small) (settling Small) → ⊥
-  pub not-sweeping : GivesBack (locks Small) (sweeping Small) → ⊥
-  pub not-strict : Commutes (strict Small) → ⊥
-  pub not-strict-again : Repeats (strict Small) → ⊥
+  pub not-settling : GivesBack (locks (Small Mpm)) (settling (Small Mpm)) → ⊥
+  pub not-sweeping : GivesBack (locks (Small Mpm)) (sweeping (Small Mpm)) → ⊥
+  pub not-strict : Commutes (strict (Small Mpm)) → ⊥
+  pub not-strict-again : Repeats (strict (Small Mpm)) → ⊥

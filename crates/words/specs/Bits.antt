@@ -12,19 +12,19 @@ unfoldable pub bits : (ℕ → Bool) → ℕ → ℕ
 bits f zero = 0
 bits f (suc n) = 2 * bits f n + (1 if f n else 0)
 
--- ---- What only proofs need: the rules read no bit and change none
-
 -- bit k of a byte, bit 0 the lowest
 unfoldable pub bitOf : ℕ → ℕ → Bool
 bitOf k x = eqb (x / 2 ^ k % 2) 1
 
--- a byte with bit k set: 2ᵏ more where it was clear
-unfoldable pub setBit : ℕ → ℕ → ℕ
-setBit k x = x if bitOf k x else x + 2 ^ k
-
 -- bit b of a list of bytes is set: bit 7 − b mod 8 of byte b div 8, so that the high bit of byte 0 stands for number 0
 unfoldable pub isSet : List ℕ → ℕ → Bool
 isSet s b = bitOf (7 - b % 8) (byte s (b / 8))
+
+-- ---- What only proofs need: the rules change no bit
+
+-- a byte with bit k set: 2ᵏ more where it was clear
+unfoldable pub setBit : ℕ → ℕ → ℕ
+setBit k x = x if bitOf k x else x + 2 ^ k
 
 -- bit b is not set
 unfoldable pub isClear : List ℕ → ℕ → Bool

@@ -17,6 +17,7 @@ use Rattle.words.proofs.Lists.{tab-getD, filled-turn}
 use Rattle.words.proofs.Sets.{filled-none, filled-ends}
 use Rattle.rules.specs.Locks.{isLow}
 use Rattle.rules.specs.Effects.{madeEntry, lowChanged, entered, mapped, counted, cleared, stored, written}
+use Rattle.rules.specs.declared.kind.Rule.{Rule}
 use Rattle.rules.specs.declared.kind.Kind.{Kind}
 use Rattle.rules.specs.declared.kind.Kind.the-variants.{Small, Large}
 use Rattle.rules.specs.Kinds.{width, blockSize}
@@ -54,17 +55,15 @@ pub ruleset lowering = (needs, low-at, low-byte, filled-none, filled-turn, fille
 
 -- ---- a block number in an entry's map
 
-pub small-put : (t s : List ℕ) (e k b : ℕ) → t ≡ put (32 * e + (16 + k)) (b % 256 ∷ []) s → t ≡ put (mapAt Small e k) (le (width Small) b) s
-unfolding width le
-small-put t s e k b h = let q : 1 * k ≡ k = omega arith in rw q h
+-- as an arm of a match on the kind has put it, in its bytes
+module _ (kind : Kind) (u : Rule) (t s : List ℕ) (e k b : ℕ) where
+  pub small-put : kind ≡ Small u → t ≡ put (32 * e + (16 + k)) (b % 256 ∷ []) s → t ≡ put (mapAt kind e k) (le (width kind) b) s
+  unfolding width le
+  small-put q h = let z : 1 * k ≡ k = omega arith in rw (q, z) h
 
-pub large-put : (t s : List ℕ) (e k b : ℕ) → t ≡ put (32 * e + (16 + 2 * k)) (b % 256 ∷ b / 256 % 256 ∷ []) s → t ≡ put (mapAt Large e k) (le (width Large) b) s
-unfolding width le
-large-put t s e k b h = h
-
-pub number-put : (kind one : Kind) (t s : List ℕ) (e k b : ℕ) → kind ≡ one → t ≡ put (mapAt one e k) (le (width one) b) s
-    → t ≡ put (mapAt kind e k) (le (width kind) b) s
-number-put kind one t s e k b q h = rw q h
+  pub large-put : kind ≡ Large u → t ≡ put (32 * e + (16 + 2 * k)) (b % 256 ∷ b / 256 % 256 ∷ []) s → t ≡ put (mapAt kind e k) (le (width kind) b) s
+  unfolding width le
+  large-put q h = rw q h
 
 module _ (kind : Kind) (w : Spot) (r : ℕ) (s : List ℕ) where
   pub mapped-on : (t : List ℕ) (k : ℕ) → w .taken ≡ true → k ≡ mapPlace kind r → t ≡ put (mapAt kind (w .entry) k) (le (width kind) (w .block)) s

@@ -9,10 +9,10 @@ use rules::kind::Kind;
 use rules::kind::block_size;
 use rules::spot::Spot;
 ghost use mathlib.Core.Path.{_≡_};
-ghost use Prim.Native.Nat.{_+_, _*_, _<_, _≤_};
+ghost use Prim.Native.Nat.{_+_, _*_, _/_, _%_, _<_, _≤_};
+ghost use mathlib.Core.List.{[], _∷_};
 ghost use lib.ListN.{length};
 ghost use Rattle.words.specs.Bytes.{put, le};
-ghost use Rattle.rules.specs.declared.kind.Kind.the-variants.{Small, Large};
 ghost use Rattle.rules.specs.Kinds.{blockSize, numbers, width};
 ghost use Rattle.rules.specs.Drive.{mapAt, recordAt};
 ghost use Rattle.rules.specs.Effects.{newEntry, entered, mapped, counted, cleared, stored, written};
@@ -77,7 +77,7 @@ pub fn enter(image: &mut [u8], w: Spot, first: usize, f: File, r: usize)
 // Stores a one-byte block number in place `k` of entry `e`'s map.
 fn put_small(image: &mut [u8], e: usize, k: usize, block: usize)
     requires { ⌜ (32 * e + 32 ≤ length (now image)) × (k < 16) ⌝ }
-    ensures { λ _. ⌜ now (image .exit) ≡ put (mapAt Small e k) (le (width Small) block) (now (image .entry)) ⌝ }
+    ensures { λ _. ⌜ now (image .exit) ≡ put (32 * e + (16 + k)) (block % 256 ∷ []) (now (image .entry)) ⌝ }
 {
     let v = [(block % 256) as u8];
     put_bytes(image, 32 * e + (16 + k), &v);
@@ -86,7 +86,7 @@ fn put_small(image: &mut [u8], e: usize, k: usize, block: usize)
 // .. a two-byte one, low byte first
 fn put_large(image: &mut [u8], e: usize, k: usize, block: usize)
     requires { ⌜ (32 * e + 32 ≤ length (now image)) × (k < 8) ⌝ }
-    ensures { λ _. ⌜ now (image .exit) ≡ put (mapAt Large e k) (le (width Large) block) (now (image .entry)) ⌝ }
+    ensures { λ _. ⌜ now (image .exit) ≡ put (32 * e + (16 + 2 * k)) (block % 256 ∷ block / 256 % 256 ∷ []) (now (image .entry)) ⌝ }
 {
     let v = [(block % 256) as u8, (block / 256 % 256) as u8];
     put_bytes(image, 32 * e + (16 + 2 * k), &v);
@@ -98,8 +98,8 @@ pub fn put_number(kind: Kind, image: &mut [u8], e: usize, k: usize, block: usize
     ensures { λ _. ⌜ now (image .exit) ≡ put (mapAt kind e k) (le (width kind) block) (now (image .entry)) ⌝ }
 {
     match kind {
-        Kind::Small => put_small(image, e, k, block),
-        Kind::Large => put_large(image, e, k, block),
+        Kind::Small(_) => put_small(image, e, k, block),
+        Kind::Large(_) => put_large(image, e, k, block),
     }
 }
 

@@ -173,10 +173,13 @@ fn item(mark: [u8; 2], process: u8, name: [u8; 11], mode: u8, record: u32) -> [u
 }
 
 /// The length of a list.
-pub const LIST: usize = 1_315;
+pub const LIST: usize = 1_316;
 
 /// Where the sixteen positions stand in a list.
-pub const POSITIONS: Range<usize> = 1_299..LIST;
+pub const POSITIONS: Range<usize> = 1_299..1_315;
+
+/// Where the byte stands that chooses the rule.
+pub const RULE: usize = 1_315;
 
 pub fn place_start(place: usize) -> usize {
     19 + 20 * place

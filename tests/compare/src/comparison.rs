@@ -15,7 +15,7 @@ use std::path::Path;
 /// A batch stays below 64 KB in each direction.
 const BATCH_BYTES: usize = 48 * 1024;
 
-const CASE_MARK: &[u8; 8] = b"MPMCASE4";
+const CASE_MARK: &[u8; 8] = b"MPMCASE5";
 
 /// The step at which engine and reference part.
 #[derive(Debug)]

@@ -5,6 +5,7 @@ use crate::faults::{ImageRule, Judged, ListRule, VectorRule};
 use reference::answer::Answer;
 use reference::calls::{MOST_RECORDS, RUN_FUNCTIONS};
 use reference::kind::Kind;
+use reference::rule::Rule;
 use std::collections::{BTreeMap, BTreeSet};
 use std::fmt::Write;
 
@@ -337,6 +338,19 @@ impl Block {
     }
 }
 
+/// What was met at the end of a file, by the list's rule.
+#[derive(Clone, Copy, Debug, PartialEq, Eq, PartialOrd, Ord)]
+pub enum End {
+    /// The last record was read, written or locked.
+    LastDone,
+    /// The number behind it got 6/0.
+    NextRefused,
+}
+
+impl End {
+    const ALL: [End; 2] = [End::LastDone, End::NextRefused];
+}
+
 /// Which half of the 128 entries was damaged; those of the first kind all stand in the lower one.
 #[derive(Clone, Copy, Debug, PartialEq, Eq, PartialOrd, Ord)]
 pub enum Half {
@@ -469,6 +483,9 @@ const SIZES: [(Kind, usize); 7] = [
 
 type Key = (Told, u32, u8, u8, &'static str);
 
+/// The kind of drive, the rule, the function and what was met.
+type EndKey = (Kind, (Rule, (u32, End)));
+
 #[derive(Clone, Default)]
 pub struct Coverage {
     calls: BTreeMap<Key, u64>,
@@ -487,6 +504,7 @@ pub struct Coverage {
     image_rules: BTreeMap<(Kind, ImageRule, Half), u64>,
     list_rules: BTreeMap<(Kind, ListRule), u64>,
     vector_rules: BTreeMap<(Kind, VectorRule), u64>,
+    ends: BTreeMap<EndKey, u64>,
     /// The places in their bytes of the vector's bits that calls have set or cleared.
     bits: BTreeMap<(Kind, u32, usize), u64>,
     /// Where the entries stand that searches have found.
@@ -579,6 +597,11 @@ impl Coverage {
         add(&mut self.vector_rules, (kind, rule));
     }
 
+    /// A call has come to the end of what its list's rule allows.
+    pub fn note_end(&mut self, kind: Kind, rule: Rule, function: u32, end: End) {
+        add(&mut self.ends, (kind, (rule, (function, end))));
+    }
+
     /// A call has set or cleared a bit at this place of its byte, 0 being the high one.
     pub fn note_bit(&mut self, kind: Kind, function: u32, place: usize) {
         add(&mut self.bits, (kind, function, place));
@@ -627,6 +650,11 @@ impl Coverage {
         complaints.extend(compare_keys("list rule", &self.list_rules, &list_rules));
         let vector_rules = pairs(&Kind::ALL, &VectorRule::ALL);
         complaints.extend(compare_keys("vector rule", &self.vector_rules, &vector_rules));
+        let ends = pairs(
+            &Kind::ALL,
+            &pairs(&Rule::ALL, &pairs(&[33, 34, 40, 41, 42, 43], &End::ALL)),
+        );
+        complaints.extend(compare_keys("end of a file", &self.ends, &ends));
         let bits = of_each(&[19, 34, 40], &[0, 1, 2, 3, 4, 5, 6, 7]);
         complaints.extend(compare_keys("bit of the vector", &self.bits, &bits));
         complaints
@@ -726,6 +754,7 @@ impl Coverage {
         lines.push_str(&counted("list broken", &self.list_rules));
         lines.push_str(&counted("bits wrong", &self.vector_rules));
         lines.push_str(&counted("bit", &self.bits));
+        lines.push_str(&counted("end", &self.ends));
         lines
     }
 }

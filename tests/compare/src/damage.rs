@@ -2,32 +2,41 @@
 //! if `faults` agrees that just this rule is broken, or at least this one where it cannot be broken
 //! alone.
 
-use crate::build::{lock_item, open_item, place_start, put_item, Entry, POSITIONS};
+use crate::build::{lock_item, open_item, place_start, put_item, Entry, POSITIONS, RULE};
 use crate::faults::{
-    self, directory_faults, list_faults, vector_rules, ImageRule, Item, ListRule, VectorRule,
+    self, directory_faults, list_faults, vector_rules, As, ImageRule, Item, ListRule, VectorRule,
 };
 use crate::random::Random;
 use reference::drive::EMPTY;
 use reference::kind::{Kind, ENTRY};
+use reference::rule::Rule;
 use std::collections::BTreeSet;
 
 const TRIES: usize = 12;
 const NOWHERE: [u8; 11] = *b"NOWHERE XYZ";
 
 /// A directory that breaks just this rule. The length is not the directory's to break.
-pub fn break_directory(rule: ImageRule, kind: Kind, image: &[u8], random: &mut Random) -> Option<Vec<u8>> {
+pub fn break_directory(
+    rule: ImageRule,
+    of: impl Into<As>,
+    image: &[u8],
+    random: &mut Random,
+) -> Option<Vec<u8>> {
+    let of = of.into();
+    let kind = of.kind;
     let blocks = image.len() / kind.block();
     let wanted = BTreeSet::from([rule]);
     (0..TRIES).find_map(|_| {
         let mut directory = image[..kind.directory()].to_vec();
         Directory {
             kind,
+            rule: of.rule,
             bytes: &mut directory,
             random,
             victim: None,
         }
         .damage(rule, blocks)?;
-        (directory_faults(kind, &directory, blocks) == wanted).then_some(directory)
+        (directory_faults(of, &directory, blocks) == wanted).then_some(directory)
     })
 }
 
@@ -43,7 +52,9 @@ const REASONS: [ImageRule; 7] = [
 ];
 
 /// A directory with two or three rules broken, as often as not all by one entry.
-pub fn break_several(kind: Kind, image: &[u8], random: &mut Random) -> Vec<u8> {
+pub fn break_several(of: impl Into<As>, image: &[u8], random: &mut Random) -> Vec<u8> {
+    let of = of.into();
+    let kind = of.kind;
     let blocks = image.len() / kind.block();
     let mut rules: Vec<ImageRule> = (0..random.between(2, 3)).map(|_| random.pick(&REASONS)).collect();
     // A repeated extent is another entry's copy, so it comes before what is wrong with it besides.
@@ -51,6 +62,7 @@ pub fn break_several(kind: Kind, image: &[u8], random: &mut Random) -> Vec<u8> {
     let mut bytes = image[..kind.directory()].to_vec();
     let mut directory = Directory {
         kind,
+        rule: of.rule,
         bytes: &mut bytes,
         random,
         victim: None,
@@ -67,6 +79,7 @@ pub fn break_several(kind: Kind, image: &[u8], random: &mut Random) -> Vec<u8> {
 
 struct Directory<'a> {
     kind: Kind,
+    rule: Rule,
     bytes: &'a mut [u8],
     random: &'a mut Random,
     /// The entry that every damage is to change; else each changes one by chance.
@@ -127,7 +140,8 @@ impl Directory<'_> {
             return Some((of, entry));
         }
         let slot = self.a_slot(true)?;
-        let mut later = entry.extent(self.random.between(1, 2047) as u32);
+        let extents = self.rule.record_limit() as usize / 128;
+        let mut later = entry.extent(self.random.between(1, extents - 1) as u32);
         later.0[16..].fill(0);
         Some((slot, later))
     }
@@ -138,7 +152,7 @@ impl Directory<'_> {
             ImageRule::User => self.bad_user(),
             ImageRule::Name => self.bad_name(),
             ImageRule::Ex => self.bad_byte_of_later_extent(12, 32),
-            ImageRule::Module => self.bad_byte_of_later_extent(14, 64),
+            ImageRule::Module => self.bad_byte_of_later_extent(14, self.rule.module_limit().into()),
             ImageRule::Count => self.bad_count(),
             ImageRule::MapRange => self.bad_map(blocks),
             ImageRule::BlockTwice => self.double_block(blocks),
@@ -234,7 +248,7 @@ impl Directory<'_> {
     fn no_extent_zero(&mut self) -> Option<()> {
         let (slot, entry) = self.a_victim()?;
         let damaged = match self.random.chance(70) {
-            true => entry.extent(self.random.pick(&[1, 2, 31, 32, 64, 2047])),
+            true => entry.extent(self.random.pick(&[1, 2, 31, 32, 64, 511, 2047])),
             false => entry.user(EMPTY),
         };
         self.put(slot, damaged)
@@ -375,6 +389,7 @@ impl List<'_> {
             ListRule::LockHasBlock => self.lock_without_block(),
             ListRule::LockTwice => self.second_lock(),
             ListRule::Position => self.bad_position(),
+            ListRule::RuleByte => self.bad_rule(),
         }
     }
 
@@ -549,6 +564,11 @@ impl List<'_> {
             .random
             .pick(&[one_too_many, one_too_many, 65, 128, 129, 0xE5, 0xFF]);
         self.set_header(at, byte)
+    }
+
+    fn bad_rule(&mut self) -> Option<()> {
+        let byte = self.random.pick(&[2, 3, 22, 0x80, 0xFF]);
+        self.set_header(RULE, byte)
     }
 
     fn second_lock(&mut self) -> Option<()> {

@@ -1,22 +1,23 @@
 //! An engine is whatever serves the five functions, and perhaps has a plain side that makes a call
 //! as single calls.
 
-use crate::step::{Reply, Step};
+use crate::step::{Reply, Step, Told};
 use crate::table::Table;
 use reference::calls::{call_explained, Buffers, Numbers};
 use reference::singly::{is_run_function, singly};
 
 /// Buffers are lent mutable even where the function may only read, so that a write can be seen.
 pub trait Engine {
-    fn start(&mut self, kind: u32, numbers: [u32; 3], users: &mut [u8], list: &mut [u8]) -> u32;
+    /// The numbers are capacity, open limit, lock limit and rule.
+    fn start(&mut self, kind: u32, numbers: [u32; 4], users: &mut [u8], list: &mut [u8]) -> u32;
 
-    fn check(&mut self, kind: u32, image: &mut [u8]) -> u32;
+    fn check(&mut self, told: Told, image: &mut [u8]) -> u32;
 
     /// Where the 128 bytes begin in the image, or 0.
-    fn look(&mut self, kind: u32, user: u32, name: &mut [u8], record: u32, image: &mut [u8]) -> u32;
+    fn look(&mut self, told: Told, user: u32, name: &mut [u8], record: u32, image: &mut [u8]) -> u32;
 
     /// Builds the allocation vector of the image.
-    fn vector(&mut self, kind: u32, image: &mut [u8], vector: &mut [u8]) -> u32;
+    fn vector(&mut self, told: Told, image: &mut [u8], vector: &mut [u8]) -> u32;
 
     fn call(&mut self, numbers: Numbers, buffers: Buffers) -> u32;
 
@@ -43,20 +44,22 @@ pub struct Reference {
 }
 
 impl Engine for Reference {
-    fn start(&mut self, kind: u32, numbers: [u32; 3], users: &mut [u8], list: &mut [u8]) -> u32 {
-        reference::start(kind, numbers[0], numbers[1], numbers[2], users, list)
+    fn start(&mut self, kind: u32, numbers: [u32; 4], users: &mut [u8], list: &mut [u8]) -> u32 {
+        let [capacity, open_limit, lock_limit, rule] = numbers;
+        reference::start(kind, capacity, open_limit, lock_limit, rule, users, list)
     }
 
-    fn check(&mut self, kind: u32, image: &mut [u8]) -> u32 {
-        reference::check(kind, image)
+    fn check(&mut self, told: Told, image: &mut [u8]) -> u32 {
+        reference::check(told.kind, told.rule, image)
     }
 
-    fn look(&mut self, kind: u32, user: u32, name: &mut [u8], record: u32, image: &mut [u8]) -> u32 {
-        reference::look(kind, user, name, record, image).map_or(0, |at| at as u32)
+    fn look(&mut self, told: Told, user: u32, name: &mut [u8], record: u32, image: &mut [u8]) -> u32 {
+        let found = reference::look(told.kind, told.rule, user, name, record, image);
+        found.map_or(0, |at| at as u32)
     }
 
-    fn vector(&mut self, kind: u32, image: &mut [u8], vector: &mut [u8]) -> u32 {
-        reference::vector(kind, image, vector)
+    fn vector(&mut self, told: Told, image: &mut [u8], vector: &mut [u8]) -> u32 {
+        reference::vector(told.kind, told.rule, image, vector)
     }
 
     fn call(&mut self, numbers: Numbers, buffers: Buffers) -> u32 {

@@ -2,9 +2,47 @@
 //! disagrees with the directory, found by walking the bytes.
 //! Written apart from the decoders, as a check on them and to see that a rule is broken alone.
 
-use crate::build::POSITIONS;
+use crate::build::{POSITIONS, RULE};
 use reference::kind::Kind;
+use reference::rule::Rule;
 use std::collections::BTreeSet;
+
+/// As what an image is judged. A kind alone is judged by the rule of MP/M II.
+#[derive(Clone, Copy, Debug, PartialEq, Eq)]
+pub struct As {
+    pub kind: Kind,
+    pub rule: Rule,
+}
+
+impl From<Kind> for As {
+    fn from(kind: Kind) -> As {
+        As {
+            kind,
+            rule: Rule::MpmII,
+        }
+    }
+}
+
+impl From<(Kind, Rule)> for As {
+    fn from((kind, rule): (Kind, Rule)) -> As {
+        As { kind, rule }
+    }
+}
+
+fn highest_module(rule: Rule) -> u8 {
+    match rule {
+        Rule::MpmII => 63,
+        Rule::Cpm22 => 15,
+    }
+}
+
+/// The highest record that a file can have.
+pub fn last_record(rule: Rule) -> u32 {
+    match rule {
+        Rule::MpmII => 262_143,
+        Rule::Cpm22 => 65_535,
+    }
+}
 
 #[derive(Clone, Copy, Debug, PartialEq, Eq, PartialOrd, Ord)]
 pub enum ImageRule {
@@ -60,10 +98,11 @@ pub enum ListRule {
     LockHasBlock,
     LockTwice,
     Position,
+    RuleByte,
 }
 
 impl ListRule {
-    pub const ALL: [ListRule; 23] = [
+    pub const ALL: [ListRule; 24] = [
         ListRule::CapacityRange,
         ListRule::OpenLimitRange,
         ListRule::LockLimitRange,
@@ -87,6 +126,7 @@ impl ListRule {
         ListRule::LockHasBlock,
         ListRule::LockTwice,
         ListRule::Position,
+        ListRule::RuleByte,
     ];
 
     /// A process over 15 or an illegal name leaves an open without a file on the image and a lock
@@ -165,7 +205,7 @@ pub fn extent_number(entry: &[u8]) -> usize {
     usize::from(entry[12]) + 32 * usize::from(entry[14])
 }
 
-fn entry_faults(kind: Kind, entry: &[u8], blocks: usize) -> Vec<ImageRule> {
+fn entry_faults(of: As, entry: &[u8], blocks: usize) -> Vec<ImageRule> {
     let mut faults = Vec::new();
     let mut note = |broken: bool, rule: ImageRule| {
         if broken {
@@ -175,10 +215,13 @@ fn entry_faults(kind: Kind, entry: &[u8], blocks: usize) -> Vec<ImageRule> {
     note(entry[0] > 15, ImageRule::User);
     note(!is_legal_name(&entry[1..12]), ImageRule::Name);
     note(entry[12] > 31, ImageRule::Ex);
-    note(entry[14] > 63, ImageRule::Module);
+    note(entry[14] > highest_module(of.rule), ImageRule::Module);
     note(entry[15] > 128, ImageRule::Count);
     let wild = |&block: &u16| block == 1 || usize::from(block) >= blocks;
-    note(block_numbers(kind, entry).iter().any(wild), ImageRule::MapRange);
+    note(
+        block_numbers(of.kind, entry).iter().any(wild),
+        ImageRule::MapRange,
+    );
     faults
 }
 
@@ -213,17 +256,20 @@ fn blocks_of(kind: Kind, length: usize) -> Option<usize> {
     range.into_iter().find(|blocks| block * blocks == length)
 }
 
-pub fn image_faults(kind: Kind, image: &[u8]) -> BTreeSet<ImageRule> {
-    match blocks_of(kind, image.len()) {
+pub fn image_faults(of: impl Into<As>, image: &[u8]) -> BTreeSet<ImageRule> {
+    let of = of.into();
+    match blocks_of(of.kind, image.len()) {
         None => BTreeSet::from([ImageRule::Length]),
-        Some(blocks) => directory_faults(kind, image, blocks),
+        Some(blocks) => directory_faults(of, image, blocks),
     }
 }
 
 /// The faults of a directory, which may be the beginning of an image, on a drive of so many blocks.
-pub fn directory_faults(kind: Kind, directory: &[u8], blocks: usize) -> BTreeSet<ImageRule> {
+pub fn directory_faults(of: impl Into<As>, directory: &[u8], blocks: usize) -> BTreeSet<ImageRule> {
+    let of = of.into();
+    let kind = of.kind;
     let mut faults: BTreeSet<ImageRule> = used_entries(kind, directory)
-        .flat_map(|entry| entry_faults(kind, entry, blocks))
+        .flat_map(|entry| entry_faults(of, entry, blocks))
         .collect();
     let whole = [
         (has_double_block(kind, directory), ImageRule::BlockTwice),
@@ -315,7 +361,9 @@ pub fn reason_number(rule: ImageRule) -> u32 {
 }
 
 /// The image must have a length of this kind.
-pub fn judged(kind: Kind, image: &[u8]) -> Judged {
+pub fn judged(of: impl Into<As>, image: &[u8]) -> Judged {
+    let of = of.into();
+    let kind = of.kind;
     let blocks = blocks_of(kind, image.len()).expect("a length of this kind");
     let slots = image[..directory_length(kind)].chunks(32).enumerate();
     let entries: Vec<(usize, &[u8])> = slots.filter(|(_, entry)| entry[0] != 0xE5).collect();
@@ -326,7 +374,7 @@ pub fn judged(kind: Kind, image: &[u8]) -> Judged {
     let mut named = BTreeSet::new();
     let mut bad = Vec::new();
     for (i, (slot, entry)) in entries.iter().enumerate() {
-        let mut rules = entry_faults(kind, entry, blocks);
+        let mut rules = entry_faults(of, entry, blocks);
         let numbers = block_numbers(kind, entry).into_iter();
         let repeats = numbers.filter(|block| *block != 0 && !named.insert(*block));
         if repeats.count() > 0 {
@@ -350,11 +398,12 @@ pub fn judged(kind: Kind, image: &[u8]) -> Judged {
 }
 
 /// What the image check has to answer.
-pub fn check_answer(kind: Kind, image: &[u8]) -> u32 {
-    if blocks_of(kind, image.len()).is_none() {
+pub fn check_answer(of: impl Into<As>, image: &[u8]) -> u32 {
+    let of = of.into();
+    if blocks_of(of.kind, image.len()).is_none() {
         return reason_number(ImageRule::Length);
     }
-    judged(kind, image)
+    judged(of, image)
         .told()
         .map_or(0, |(slot, reason)| reason + 256 * slot as u32)
 }
@@ -463,6 +512,14 @@ pub fn items(list: &[u8]) -> Vec<(usize, Item<'_>)> {
         .collect()
 }
 
+/// The rule by which an image beside the list is judged: that of a byte above 1 is 0.
+pub fn rule_beside(list: &[u8]) -> Rule {
+    match list.get(RULE) {
+        Some(1) => Rule::Cpm22,
+        _ => Rule::MpmII,
+    }
+}
+
 fn header_faults(list: &[u8]) -> Vec<ListRule> {
     let out_of_range = |at: usize| list[at] == 0 || list[at] > 64;
     let rules = [
@@ -470,6 +527,7 @@ fn header_faults(list: &[u8]) -> Vec<ListRule> {
         (out_of_range(1), ListRule::OpenLimitRange),
         (out_of_range(2), ListRule::LockLimitRange),
         (list[3..19].iter().any(|&user| user > 15), ListRule::User),
+        (list[RULE] > 1, ListRule::RuleByte),
     ];
     broken(&rules)
 }
@@ -489,7 +547,7 @@ fn form_faults(place: usize, item: Item, capacity: u8) -> Vec<ListRule> {
     ])
 }
 
-fn item_faults(item: Item) -> Vec<ListRule> {
+fn item_faults(item: Item, rule: Rule) -> Vec<ListRule> {
     broken(&[
         (item.process() > 15, ListRule::Process),
         (item.name().iter().any(|&byte| byte > 127), ListRule::NameHighBit),
@@ -498,7 +556,7 @@ fn item_faults(item: Item) -> Vec<ListRule> {
         (item.is_lock() && item.mode() != 1, ListRule::LockMode),
         (item.0[15] != 0, ListRule::ZeroByte),
         (item.is_open() && item.record() != 0, ListRule::OpenRecord),
-        (item.record() > 262_143, ListRule::RecordRange),
+        (item.record() > last_record(rule), ListRule::RecordRange),
     ])
 }
 
@@ -591,7 +649,7 @@ pub fn list_faults(kind: Kind, list: &[u8], image: &[u8]) -> BTreeSet<ListRule> 
         faults.extend(form_faults(*place, *item, list[0]));
     }
     for item in opens.iter().chain(&locks) {
-        faults.extend(item_faults(*item));
+        faults.extend(item_faults(*item, rule_beside(list)));
     }
     for open in &opens {
         faults.extend(open_faults(kind, *open, &opens, list, image));

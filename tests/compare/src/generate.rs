@@ -1,7 +1,7 @@
 //! Makes sessions at random from a seed: a drive, a list, and calls that run on, with damage,
 //! wrong lengths and wild numbers in between.
 
-use crate::build::{empty_image_of, place_start, Entry, Fcb, LIST, POSITIONS};
+use crate::build::{empty_image_of, place_start, Entry, Fcb, LIST, POSITIONS, RULE};
 use crate::coverage::{Coverage, Half};
 use crate::damage::{break_directory, break_list, break_several, break_vector};
 use crate::deed::SEARCHES;
@@ -10,10 +10,11 @@ use crate::history::blocks_of_groups;
 use crate::named::{self, Case};
 use crate::random::Random;
 use crate::stage::{Made, Stage};
-use crate::step::{changes, put_back, Step};
+use crate::step::{changes, put_back, Step, Told};
 use reference::calls::{Numbers, DMA_LENGTH, MOST_RECORDS};
 use reference::kind::Kind;
 use reference::program::{CALL_MARK, START_MARK};
+use reference::rule::Rule;
 use reference::singly::is_run_function;
 use std::collections::BTreeSet;
 
@@ -43,12 +44,10 @@ const EDGE_RECORDS: [u32; 33] = [
     4_095, 4_096, 4_097, 8_176, 8_191, 262_015, 262_016, 262_128, 262_135, 262_143,
 ];
 
-const LAST_EXTENT: u32 = 2_047;
+const EXTENTS: [u32; 7] = [1, 2, 31, 32, 33, 63, 511];
 
-/// One past the last record.
-const END_OF_RECORDS: u32 = 262_144;
-
-const EXTENTS: [u32; 8] = [1, 2, 31, 32, 33, 63, 2_046, LAST_EXTENT];
+/// Numbers that tell the rule of MP/M II.
+const NO_RULES: [u32; 6] = [0, 2, 255, 256, 257, u32::MAX];
 
 const WEIGHTS: [(u32, usize); 16] = [
     (15, 15),
@@ -110,6 +109,8 @@ pub struct Generator {
     stage: Stage,
     /// The kind of the session's drive.
     kind: Kind,
+    /// The rule of its list.
+    rule: Rule,
 }
 
 impl Generator {
@@ -118,6 +119,7 @@ impl Generator {
             random: Random::new(seed),
             stage: Stage::default(),
             kind: Kind::First,
+            rule: Rule::MpmII,
         }
     }
 
@@ -191,6 +193,7 @@ impl Generator {
         self.stage.begin();
         let cast = self.cast();
         self.kind = Kind::First;
+        self.choose_rule();
         let most_blocks = self.random.pick(&[6, 12, 12, 64]);
         let blocks = self.random.between(3, most_blocks);
         let mut image = self.drive(&cast, blocks, 0xE5);
@@ -214,7 +217,7 @@ impl Generator {
 
     fn spoil(&mut self, image: &mut Vec<u8>) {
         let rule = self.random.pick(&ImageRule::ALL);
-        match break_directory(rule, self.kind, image, &mut self.random) {
+        match break_directory(rule, (self.kind, self.rule), image, &mut self.random) {
             Some(directory) => image[..directory.len()].copy_from_slice(&directory),
             None => image.truncate(self.random.below(image.len())),
         }
@@ -233,7 +236,36 @@ impl Generator {
         step
     }
 
+    fn choose_rule(&mut self) {
+        self.rule = match self.random.chance(65) {
+            true => Rule::MpmII,
+            false => Rule::Cpm22,
+        };
+    }
+
+    /// The session's rule by its number, and now and then by another or another rule.
+    fn told(&mut self, kind: u32) -> Told {
+        let rule = match self.random.chance(90) {
+            true => self.rule.number(),
+            false => self.random.pick(&[0, 1, 2, 256, 257, u32::MAX]),
+        };
+        Told { kind, rule }
+    }
+
+    /// The drive as its list has it judged.
+    fn own_told(&self) -> Told {
+        Told {
+            kind: self.kind.number(),
+            rule: self.rule.number(),
+        }
+    }
+
+    fn last_extent(&self) -> u32 {
+        self.rule.record_limit() / 128 - 1
+    }
+
     fn session_on(&mut self, blocks: usize) {
+        self.choose_rule();
         self.stage.begin();
         let cast = self.cast();
         let fill = self.random.pick(&[0xE5, 0, 0x5A]);
@@ -263,9 +295,8 @@ impl Generator {
         let fill = self.random.pick(&[0, 0xFF, 0xA5]);
         self.stage.serve(Step::Vector { length: 0, fill });
         self.stage.serve(Step::Vector { length, fill });
-        self.stage.serve(Step::Build {
-            kind: self.kind.number(),
-        });
+        let told = self.own_told();
+        self.stage.serve(Step::Build { told });
     }
 
     /// Every process opens every file unlocked, the first one making those that are not there.
@@ -276,7 +307,7 @@ impl Generator {
                 self.plain_call(process, 15, unlocked);
                 if number == 0 {
                     self.plain_call(process, 22, unlocked);
-                    let record = self.random.pick(&EDGE_RECORDS);
+                    let record = self.edge_record();
                     self.plain_call(process, 34, unlocked.record(record));
                 }
             }
@@ -330,7 +361,7 @@ impl Generator {
         let lock_limit = self.random.pick(&[1, 2, 3, 4, 15, 16, 17, 64]);
         self.stage.serve(Step::Start {
             kind: self.kind.number(),
-            numbers: [capacity, open_limit, lock_limit],
+            numbers: [capacity, open_limit, lock_limit, self.rule.number()],
             users: cast.users.to_vec(),
         });
     }
@@ -424,13 +455,33 @@ impl Generator {
     /// Extent 0, which a file must have, and perhaps others.
     fn some_extents(&mut self) -> BTreeSet<u32> {
         let mut extents = BTreeSet::from([0]);
+        let last = self.last_extent();
         if self.random.chance(10) {
-            extents.insert(LAST_EXTENT);
+            extents.insert(last);
         }
         while self.random.chance(35) {
-            extents.insert(self.random.pick(&EXTENTS));
+            extents.insert(self.an_extent());
         }
         extents
+    }
+
+    /// A later extent, at an edge of what there is by the session's rule.
+    fn an_extent(&mut self) -> u32 {
+        let last = self.last_extent();
+        match self.random.below(10) {
+            0 => last,
+            1 => last - 1,
+            _ => self.random.pick(&EXTENTS),
+        }
+    }
+
+    /// A record at the edge of a block, an extent or a module; those at the end of a file are of the session's rule.
+    fn edge_record(&mut self) -> u32 {
+        let record = self.random.pick(&EDGE_RECORDS);
+        match record >= 262_144 - 4_096 {
+            true => self.rule.record_limit() - (262_144 - record),
+            false => record,
+        }
     }
 
     fn an_entry(&mut self, user: u8, name: [u8; 11], extent: u32, free: &mut Vec<u16>) -> Entry {
@@ -535,7 +586,8 @@ impl Generator {
             true => self.kind.number(),
             false => self.wrong_kind(),
         };
-        self.stage.serve(Step::Check { kind });
+        let told = self.told(kind);
+        self.stage.serve(Step::Check { told });
     }
 
     /// The other kind, or none at all.
@@ -848,8 +900,8 @@ impl Generator {
             .filter(|number| !groups.contains(number))
             .collect();
         if missing.is_empty() || self.random.chance(15) {
-            let any_extent = 128 * self.random.pick(&EXTENTS);
-            return self.random.pick(&[END_OF_RECORDS, any_extent]);
+            let any_extent = 128 * self.an_extent();
+            return self.random.pick(&[self.rule.record_limit(), any_extent]);
         }
         let in_an_extent = self.kind.numbers_per_entry() as u32;
         let opens_an_extent = |number: &u32| number.is_multiple_of(in_an_extent);
@@ -886,12 +938,22 @@ impl Generator {
             0..50 => self
                 .record_with_block(user, name)
                 .unwrap_or_else(|| self.random.below(20) as u32),
-            50..85 => self.random.pick(&EDGE_RECORDS),
+            50..85 => self.edge_record(),
             85..92 => self.random.below(300) as u32,
             92..96 => self.random.below(262_144) as u32,
-            _ => self
-                .random
-                .pick(&[262_144, 262_145, 262_159, 0x40_0000, 0xFF_0000, 0xFF_FFFF]),
+            _ => {
+                let end = self.rule.record_limit();
+                self.random.pick(&[
+                    end,
+                    end,
+                    end + 1,
+                    end + 15,
+                    262_144,
+                    0x40_0000,
+                    0xFF_0000,
+                    0xFF_FFFF,
+                ])
+            }
         }
     }
 
@@ -999,7 +1061,7 @@ impl Generator {
 
     fn put_tested_record(&mut self, dma: &mut [u8], user: u8, name: &[u8; 11], record: u32) {
         let image = self.stage.image();
-        let Some(at) = reference::look(self.kind.number(), u32::from(user), name, record, image) else {
+        let Some(at) = reference::look(self.kind.number(), 0, u32::from(user), name, record, image) else {
             return;
         };
         if self.random.chance(10) {
@@ -1036,8 +1098,9 @@ impl Generator {
             true => self.kind.number(),
             false => self.wrong_kind(),
         };
+        let told = self.told(kind);
         self.stage.serve(Step::Look {
-            kind,
+            told,
             user,
             name,
             record,
@@ -1073,10 +1136,11 @@ impl Generator {
         if self.random.chance(20) {
             return self.start(cast);
         }
-        let mut numbers = [1, 2, 64];
+        let mut numbers = [1, 2, 64, self.rule.number()];
         let mut users = cast.users.to_vec();
         let mut kind = self.kind.number();
-        match self.random.below(5) {
+        match self.random.below(6) {
+            5 => numbers[3] = self.random.pick(&NO_RULES[1..]),
             4 => kind = self.random.pick(&UNKNOWN_KINDS),
             0 => users[self.random.below(16)] = self.random.pick(&[16, 0x80, 0xFF]),
             1 => users.truncate(self.random.below(16)),
@@ -1150,7 +1214,8 @@ impl Generator {
     fn with_damaged_directory(&mut self, cast: &Cast) {
         let rule = self.random.pick(&ImageRule::ALL);
         let before = self.stage.image()[..self.kind.directory()].to_vec();
-        let Some(damaged) = break_directory(rule, self.kind, self.stage.image(), &mut self.random) else {
+        let judged_as = (self.kind, self.rule);
+        let Some(damaged) = break_directory(rule, judged_as, self.stage.image(), &mut self.random) else {
             return;
         };
         let half = half_damaged(&before, &damaged);
@@ -1162,9 +1227,15 @@ impl Generator {
             self.look(cast);
             self.build();
         }
+        let list = self.stage.list().to_vec();
+        if self.random.chance(20) {
+            let bytes = vec![self.random.pick(&[2, 3, 255])];
+            self.stage.serve(Step::PatchList { at: RULE, bytes });
+        }
         for _ in 0..self.random.between(1, 3) {
             self.call(cast);
         }
+        self.stage.set_list(&list);
         self.patch_image(&damaged, &before);
         self.stage.repaired();
     }
@@ -1174,10 +1245,11 @@ impl Generator {
         let before = self.stage.image()[..self.kind.directory()].to_vec();
         self.stage.damaged();
         for _ in 0..self.random.between(1, 6) {
-            let damaged = break_several(self.kind, self.stage.image(), &mut self.random);
+            let judged_as = (self.kind, self.rule);
+            let damaged = break_several(judged_as, self.stage.image(), &mut self.random);
             self.patch_image(&before, &damaged);
             self.check();
-            let is_bad = check_answer(self.kind, self.stage.image()) != 0;
+            let is_bad = check_answer(judged_as, self.stage.image()) != 0;
             if is_bad && self.random.chance(20) {
                 self.call(cast);
             }
@@ -1269,7 +1341,8 @@ impl Generator {
             true => self.kind.number(),
             false => self.wrong_kind(),
         };
-        self.stage.serve(Step::Build { kind });
+        let told = self.told(kind);
+        self.stage.serve(Step::Build { told });
     }
 
     /// Searches that go on where no search has left off: at either end of the directory, or anywhere.
@@ -1325,9 +1398,8 @@ impl Generator {
         self.look(cast);
         // Without it, a block that was named or given up makes the vector disagree.
         if self.random.chance(70) {
-            self.stage.serve(Step::Build {
-                kind: self.kind.number(),
-            });
+            let told = self.own_told();
+            self.stage.serve(Step::Build { told });
         }
         for _ in 0..self.random.between(1, 4) {
             self.call(cast);
@@ -1391,7 +1463,9 @@ impl Generator {
 
     fn with_wrong_list_length(&mut self, cast: &Cast) {
         let before = self.stage.list().to_vec();
-        let length = self.random.pick(&[0, 19, 1298, 1299, 1300, 1314, 1316, 2630]);
+        let length = self
+            .random
+            .pick(&[0, 19, 1298, 1299, 1300, 1314, 1315, 1317, 2632]);
         self.stage.damaged();
         self.stage.serve(Step::List { length, fill: 0 });
         self.call(cast);
@@ -1460,8 +1534,14 @@ fn aim_at(record: u32, before: u32) -> Aim {
 fn program_record(step: &Step) -> Vec<u8> {
     match step {
         Step::Start { numbers, users, .. } => {
-            let numbers = numbers.map(|number| number as u8);
-            [&START_MARK[..], &numbers, users].concat()
+            let [capacity, open_limit, lock_limit, rule] = numbers.map(|number| number as u8);
+            [
+                &START_MARK[..],
+                &[capacity, open_limit, lock_limit],
+                users,
+                &[rule],
+            ]
+            .concat()
         }
         Step::Call { numbers, fcb, dma } => {
             let numbers = [numbers.function, numbers.process, numbers.count].map(|number| number as u8);

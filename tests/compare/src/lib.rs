@@ -17,6 +17,7 @@ pub mod linked;
 pub mod named;
 pub mod named_entries;
 pub mod named_kinds;
+pub mod named_rules;
 pub mod named_searches;
 pub mod named_vectors;
 pub mod parts;

@@ -1,6 +1,7 @@
 //! An engine linked into this program by its C symbols.
 
 use crate::engine::Engine;
+use crate::step::Told;
 use reference::calls::{Buffers, Numbers};
 
 /// mpm_call and mpm_singly have the same parameters.
@@ -56,23 +57,32 @@ extern "C" {
         vector_len: usize,
     ) -> u32;
 
-    fn mpm_vector(kind: u32, image: *const u8, image_len: usize, vector: *mut u8, vector_len: usize) -> u32;
+    fn mpm_vector(
+        kind: u32,
+        rule: u32,
+        image: *const u8,
+        image_len: usize,
+        vector: *mut u8,
+        vector_len: usize,
+    ) -> u32;
 
     fn mpm_start(
         kind: u32,
         capacity: u32,
         open_limit: u32,
         lock_limit: u32,
+        rule: u32,
         users: *const u8,
         users_len: usize,
         list: *mut u8,
         list_len: usize,
     ) -> u32;
 
-    fn mpm_check(kind: u32, image: *const u8, image_len: usize) -> u32;
+    fn mpm_check(kind: u32, rule: u32, image: *const u8, image_len: usize) -> u32;
 
     fn mpm_look(
         kind: u32,
+        rule: u32,
         user: u32,
         name: *const u8,
         name_len: usize,
@@ -87,14 +97,15 @@ pub struct Linked;
 // SAFETY, of all six: each pointer comes with the length of the slice it is taken from, and the
 // slices are separate and stay borrowed until the call returns.
 impl Engine for Linked {
-    fn start(&mut self, kind: u32, numbers: [u32; 3], users: &mut [u8], list: &mut [u8]) -> u32 {
-        let [capacity, open_limit, lock_limit] = numbers;
+    fn start(&mut self, kind: u32, numbers: [u32; 4], users: &mut [u8], list: &mut [u8]) -> u32 {
+        let [capacity, open_limit, lock_limit, rule] = numbers;
         unsafe {
             mpm_start(
                 kind,
                 capacity,
                 open_limit,
                 lock_limit,
+                rule,
                 users.as_mut_ptr(),
                 users.len(),
                 list.as_mut_ptr(),
@@ -103,14 +114,15 @@ impl Engine for Linked {
         }
     }
 
-    fn check(&mut self, kind: u32, image: &mut [u8]) -> u32 {
-        unsafe { mpm_check(kind, image.as_mut_ptr(), image.len()) }
+    fn check(&mut self, told: Told, image: &mut [u8]) -> u32 {
+        unsafe { mpm_check(told.kind, told.rule, image.as_mut_ptr(), image.len()) }
     }
 
-    fn look(&mut self, kind: u32, user: u32, name: &mut [u8], record: u32, image: &mut [u8]) -> u32 {
+    fn look(&mut self, told: Told, user: u32, name: &mut [u8], record: u32, image: &mut [u8]) -> u32 {
         unsafe {
             mpm_look(
-                kind,
+                told.kind,
+                told.rule,
                 user,
                 name.as_mut_ptr(),
                 name.len(),
@@ -121,10 +133,11 @@ impl Engine for Linked {
         }
     }
 
-    fn vector(&mut self, kind: u32, image: &mut [u8], vector: &mut [u8]) -> u32 {
+    fn vector(&mut self, told: Told, image: &mut [u8], vector: &mut [u8]) -> u32 {
         unsafe {
             mpm_vector(
-                kind,
+                told.kind,
+                told.rule,
                 image.as_mut_ptr(),
                 image.len(),
                 vector.as_mut_ptr(),

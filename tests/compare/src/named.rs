@@ -9,10 +9,11 @@ use crate::faults::{reason_number, ImageRule, ListRule};
 use crate::generate::half_damaged;
 use crate::random::Random;
 use crate::stage::{changed_dma, changed_fcb, Stage};
-use crate::step::Step;
-use crate::{named_entries, named_kinds, named_searches, named_vectors};
+use crate::step::{Step, Told};
+use crate::{named_entries, named_kinds, named_rules, named_searches, named_vectors};
 use reference::calls::{Numbers, DMA_LENGTH, MOST_RECORDS, RUN_FUNCTIONS};
 use reference::kind::Kind;
+use reference::rule::Rule;
 
 pub type Play = fn(&mut Script);
 
@@ -79,7 +80,8 @@ pub fn cases() -> Vec<Case> {
             .into_iter()
             .chain(named_entries::CASES)
             .chain(named_searches::CASES)
-            .chain(named_vectors::CASES);
+            .chain(named_vectors::CASES)
+            .chain(named_rules::CASES);
         cases.map(move |(name, play)| (kind, name, play))
     });
     both.chain(named_kinds::CASES)
@@ -94,6 +96,7 @@ pub fn play(case: &Case, stage: &mut Stage, random: &mut Random) {
         random,
         case: case.title(),
         kind: case.kind,
+        rule: Rule::MpmII,
         book: Book::of(case.kind, case.kind.fewest_blocks()),
     };
     (case.play)(&mut script);
@@ -105,6 +108,8 @@ pub struct Script<'a> {
     pub random: &'a mut Random,
     case: String,
     pub kind: Kind,
+    /// The rule that its lists are started with, and that functions without a list are told.
+    pub rule: Rule,
     /// The drive as it was when its world began.
     book: Book,
 }
@@ -281,6 +286,12 @@ impl<'a> Script<'a> {
     }
 
     pub fn starts_told(&mut self, kind: u32, numbers: [u32; 3], users: &[u8], accepted: bool) {
+        self.starts_with_rule(kind, numbers, self.rule.number(), users, accepted);
+    }
+
+    pub fn starts_with_rule(&mut self, kind: u32, limits: [u32; 3], rule: u32, users: &[u8], accepted: bool) {
+        let [capacity, open_limit, lock_limit] = limits;
+        let numbers = [capacity, open_limit, lock_limit, rule];
         let reply = self.stage.serve(Step::Start {
             kind,
             numbers,
@@ -308,7 +319,7 @@ impl<'a> Script<'a> {
 
     /// Whatever the case has put into the image by hand, the vector follows it.
     pub fn call(&mut self, process: u32, function: u32, fcb: Fcb) -> Asked<'_, 'a> {
-        self.stage.follow(self.kind);
+        self.stage.follow(self.kind, self.rule);
         let kind = self.kind.number();
         Asked {
             script: self,
@@ -327,8 +338,16 @@ impl<'a> Script<'a> {
         self.check_told(self.kind.number(), wanted);
     }
 
+    pub fn told(&self, kind: u32) -> Told {
+        Told {
+            kind,
+            rule: self.rule.number(),
+        }
+    }
+
     pub fn check_told(&mut self, kind: u32, wanted: u32) {
-        let reply = self.stage.serve(Step::Check { kind });
+        let told = self.told(kind);
+        let reply = self.stage.serve(Step::Check { told });
         if reply.map(|reply| reply.answer) != Some(wanted) {
             self.complain(&format!("check of kind {kind} does not give {wanted}"));
         }
@@ -336,8 +355,8 @@ impl<'a> Script<'a> {
 
     /// The code alone; the stage knows the entry.
     fn check_code(&mut self, wanted: u32) {
-        let kind = self.kind.number();
-        let reply = self.stage.serve(Step::Check { kind });
+        let told = self.told(self.kind.number());
+        let reply = self.stage.serve(Step::Check { told });
         if reply.map(|reply| reply.answer % 256) != Some(wanted) {
             self.complain(&format!("check does not give {wanted}"));
         }
@@ -348,8 +367,9 @@ impl<'a> Script<'a> {
     }
 
     pub fn look_told(&mut self, kind: u32, user: u32, name: &[u8], record: u32, wanted: usize) {
+        let told = self.told(kind);
         let reply = self.stage.serve(Step::Look {
-            kind,
+            told,
             user,
             name: name.to_vec(),
             record,
@@ -666,7 +686,7 @@ fn start_edges(script: &mut Script) {
     for length in [0, 15, 17] {
         script.starts([9, 9, 9], &vec![0; length], false);
     }
-    for length in [0, 1299, 1314, 1316] {
+    for length in [0, 1299, 1314, 1315, 1317] {
         script.stage.serve(Step::List { length, fill: 0x33 });
         script.starts([9, 9, 9], &[0; 16], false);
     }
@@ -718,7 +738,7 @@ fn common_refusals(script: &mut Script) {
                 .lengths(fcb, dma)
                 .gives(255, 13);
         }
-        for length in [0, 1299, 1314, 1316] {
+        for length in [0, 1299, 1314, 1315, 1317] {
             script.stage.serve(Step::List { length, fill: 0 });
             script.call(0, function, wrong_drive).gives(255, 13);
         }

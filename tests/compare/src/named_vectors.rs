@@ -49,7 +49,8 @@ impl Script<'_> {
 
     fn builds(&mut self, kind: u32, a: u8, h: u8) {
         let before = self.stage.vector().to_vec();
-        let reply = self.stage.serve(Step::Build { kind });
+        let told = self.told(kind);
+        let reply = self.stage.serve(Step::Build { told });
         let answer = reply.map(|reply| reply.answer);
         if answer != Some(u32::from(a) + 256 * u32::from(h)) {
             self.complain(&format!("building for kind {kind} gave {answer:?}, not {a}/{h}"));

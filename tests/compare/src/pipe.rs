@@ -2,7 +2,7 @@
 //! standard input and gives the replies on its standard output.
 
 use crate::engine::Engine;
-use crate::step::{set_image, set_list, set_vector, Changes, Reply, Step, BUFFERS};
+use crate::step::{set_image, set_list, set_vector, Changes, Reply, Step, Told, BUFFERS};
 use crate::table::Table;
 use crate::wire::{get_reply, put_step};
 use reference::calls::{Buffers, Numbers};
@@ -180,7 +180,7 @@ fn apply(changes: &Changes, to: &mut [u8]) {
 }
 
 impl Engine for Pipe {
-    fn start(&mut self, kind: u32, numbers: [u32; 3], users: &mut [u8], list: &mut [u8]) -> u32 {
+    fn start(&mut self, kind: u32, numbers: [u32; 4], users: &mut [u8], list: &mut [u8]) -> u32 {
         let step = Step::Start {
             kind,
             numbers,
@@ -192,15 +192,15 @@ impl Engine for Pipe {
         reply.answer
     }
 
-    fn check(&mut self, kind: u32, image: &mut [u8]) -> u32 {
-        let reply = self.single(whole_image(image), Step::Check { kind });
+    fn check(&mut self, told: Told, image: &mut [u8]) -> u32 {
+        let reply = self.single(whole_image(image), Step::Check { told });
         apply(&reply.changes[3], image);
         reply.answer
     }
 
-    fn look(&mut self, kind: u32, user: u32, name: &mut [u8], record: u32, image: &mut [u8]) -> u32 {
+    fn look(&mut self, told: Told, user: u32, name: &mut [u8], record: u32, image: &mut [u8]) -> u32 {
         let step = Step::Look {
-            kind,
+            told,
             user,
             name: name.to_vec(),
             record,
@@ -211,9 +211,9 @@ impl Engine for Pipe {
         reply.answer
     }
 
-    fn vector(&mut self, kind: u32, image: &mut [u8], vector: &mut [u8]) -> u32 {
+    fn vector(&mut self, told: Told, image: &mut [u8], vector: &mut [u8]) -> u32 {
         let steps = [whole_image(image), set_vector(vector)].concat();
-        let reply = self.single(steps, Step::Build { kind });
+        let reply = self.single(steps, Step::Build { told });
         apply(&reply.changes[3], image);
         apply(&reply.changes[4], vector);
         reply.answer

@@ -2,21 +2,22 @@
 //! coverage, the history, buffers that may not change, runs made once more as single calls, and
 //! the second reading of soundness.
 
-use crate::build::{LIST, POSITIONS};
+use crate::build::{LIST, POSITIONS, RULE};
 use crate::comparison::describe_step;
-use crate::coverage::{orders, Coverage, Last, Meanwhile};
+use crate::coverage::{orders, Coverage, End, Last, Meanwhile};
 use crate::deed::{Deed, SEARCHES};
 use crate::engine::Reference;
 use crate::faults::{
-    bit_is_set, block_of, check_answer, image_faults, is_legal_name, judged, list_faults, position_behind,
-    record_at, searched, size_of, vector_faults, vector_length,
+    bit_is_set, block_of, check_answer, image_faults, is_legal_name, judged, last_record, list_faults,
+    position_behind, record_at, rule_beside, searched, size_of, vector_faults, vector_length,
 };
 use crate::history::{groups_with_block, History, Kept, Noted};
 use crate::parts::SHORT_IMAGE;
-use crate::step::{set_image, set_list, set_vector, Change, Reply, Step, BUFFERS};
+use crate::step::{set_image, set_list, set_vector, Change, Reply, Step, Told, BUFFERS};
 use crate::table::Table;
 use reference::calls::Numbers;
 use reference::kind::Kind;
+use reference::rule::Rule;
 use reference::singly::is_run_function;
 use std::collections::BTreeSet;
 
@@ -138,7 +139,7 @@ impl Stage {
 
     /// Has the vector built in a buffer of its length, if the image was altered by hand. Where the
     /// image is not sound, the vector is of no image.
-    pub fn follow(&mut self, kind: Kind) {
+    pub fn follow(&mut self, kind: Kind, rule: Rule) {
         if !std::mem::take(&mut self.is_stale) {
             return;
         }
@@ -146,8 +147,11 @@ impl Stage {
         if self.vector().len() != length {
             self.serve(Step::Vector { length, fill: 0xA5 });
         }
-        let kind = kind.number();
-        self.serve(Step::Build { kind });
+        let told = Told {
+            kind: kind.number(),
+            rule: rule.number(),
+        };
+        self.serve(Step::Build { told });
     }
 
     pub fn serve_all(&mut self, steps: Vec<Step>) {
@@ -218,8 +222,8 @@ impl Stage {
         match step {
             Step::Start { kind, numbers, users } => self.watch_start(*kind, *numbers, users, reply),
             Step::Call { .. } => self.watch_call(step, reply, before),
-            Step::Check { kind } => self.watch_check(*kind, reply),
-            Step::Build { kind } => self.watch_build(*kind, reply),
+            Step::Check { told } => self.watch_check(*told, reply),
+            Step::Build { told } => self.watch_build(*told, reply),
             Step::Look { .. } => self.watch_look(step, reply),
             _ => {}
         }
@@ -237,44 +241,55 @@ impl Stage {
         }
     }
 
-    fn watch_start(&mut self, told: u32, numbers: [u32; 3], users: &[u8], reply: &Reply) {
+    fn watch_start(&mut self, told: u32, numbers: [u32; 4], users: &[u8], reply: &Reply) {
         self.coverage.note_start(told, reply.answer);
+        let [capacity, open_limit, lock_limit, rule] = numbers;
+        if rule > 1 && reply.answer != WRONG_NUMBERS {
+            self.complain(format!("Start has taken rule {rule}"));
+        }
         let (0, Some(kind)) = (reply.answer, Kind::told(told)) else {
             return;
         };
         let users: Option<[u8; 16]> = users.try_into().ok();
         let image = self.table.image();
         self.history = users
-            .filter(|_| image_faults(kind, image).is_empty())
-            .map(|users| History::new(kind, numbers, users, groups_with_block(kind, image)));
+            .filter(|_| image_faults((kind, Rule::told(rule)), image).is_empty())
+            .map(|users| {
+                let limits = [capacity, open_limit, lock_limit];
+                History::new(kind, limits, users, groups_with_block(kind, image))
+            });
+        if self.table.list()[RULE] != rule as u8 {
+            self.complain(format!("Start has not chosen rule {rule}"));
+        }
     }
 
-    fn watch_check(&mut self, told: u32, reply: &Reply) {
-        self.coverage.note_check(told, reply.answer);
-        let kind = Kind::told(told);
-        let wanted = kind.map_or(1, |kind| check_answer(kind, self.table.image()));
+    fn watch_check(&mut self, told: Told, reply: &Reply) {
+        self.coverage.note_check(told.kind, reply.answer);
+        let judged_as = Kind::told(told.kind).map(|kind| (kind, Rule::told(told.rule)));
+        let wanted = judged_as.map_or(1, |judged_as| check_answer(judged_as, self.table.image()));
         if reply.answer != wanted {
             self.complain(format!("check says {}, the bytes {wanted}", reply.answer));
         }
-        let Some(kind) = kind else {
+        let Some((kind, rule)) = judged_as else {
             return;
         };
-        let faults = image_faults(kind, self.table.image());
+        let faults = image_faults((kind, rule), self.table.image());
         if faults.is_empty() != (wanted == 0) {
             self.complain(format!("the bytes say {wanted}, the faults are {faults:?}"));
         }
         if wanted > 1 {
-            for order in orders(&judged(kind, self.table.image())) {
+            for order in orders(&judged((kind, rule), self.table.image())) {
                 self.coverage.note_order(kind, order);
             }
         }
     }
 
-    fn watch_build(&mut self, told: u32, reply: &Reply) {
-        self.coverage.note_build(told, reply.answer);
+    fn watch_build(&mut self, told: Told, reply: &Reply) {
+        self.coverage.note_build(told.kind, reply.answer);
         let (vector, image) = (self.table.vector(), self.table.image());
-        let kind = Kind::told(told).filter(|kind| vector.len() == vector_length(*kind));
-        let sound = kind.filter(|kind| image_faults(*kind, image).is_empty());
+        let kind = Kind::told(told.kind).filter(|kind| vector.len() == vector_length(*kind));
+        let rule = Rule::told(told.rule);
+        let sound = kind.filter(|kind| image_faults((*kind, rule), image).is_empty());
         let wanted = match (kind, sound) {
             (None, _) => WRONG_NUMBERS,
             (_, None) => UNSOUND_IMAGE,
@@ -288,7 +303,7 @@ impl Stage {
 
     fn watch_look(&mut self, step: &Step, reply: &Reply) {
         let Step::Look {
-            kind: told,
+            told,
             user,
             name,
             record,
@@ -296,10 +311,13 @@ impl Stage {
         else {
             return;
         };
-        self.coverage.note_look(*told, reply.answer);
+        self.coverage.note_look(told.kind, reply.answer);
         let image = self.table.image();
-        let asked_well = *user < 16 && name.len() == 11 && is_legal_name(name) && *record < 262_144;
-        let kind = Kind::told(*told).filter(|kind| asked_well && image_faults(*kind, image).is_empty());
+        let rule = Rule::told(told.rule);
+        let asked_well =
+            *user < 16 && name.len() == 11 && is_legal_name(name) && *record <= last_record(rule);
+        let is_sound = |kind: &Kind| asked_well && image_faults((*kind, rule), image).is_empty();
+        let kind = Kind::told(told.kind).filter(is_sound);
         let found = kind.map(|kind| (kind, block_of(kind, *user as u8, name, *record, image)));
         let wanted = match found {
             None | Some((_, 0)) => 0,
@@ -320,6 +338,7 @@ impl Stage {
             self.watch_drive(kind, *numbers, fcb, reply);
             self.watch_search(kind, step, reply, before);
             self.note_bits(kind, numbers.function, &before.vector);
+            self.note_end(kind, *numbers, fcb, reply.answer);
             if self.damaged || self.served.is_multiple_of(SOUNDNESS_INTERVAL) {
                 self.compare_soundness(kind, reply.answer);
             }
@@ -461,6 +480,27 @@ impl Stage {
         }
     }
 
+    /// Notes what was done with the last record of the list's rule, and what was answered for the one behind it.
+    fn note_end(&mut self, kind: Kind, numbers: Numbers, fcb: &[u8], answer: u32) {
+        let is_of_records = is_run_function(numbers.function) || (41..=43).contains(&numbers.function);
+        let (true, Some(&[low, middle, high])) = (is_of_records, fcb.get(33..36)) else {
+            return;
+        };
+        let (record, rule) = (
+            u32::from_le_bytes([low, middle, high, 0]),
+            rule_beside(self.table.list()),
+        );
+        let last = last_record(rule);
+        if record == last && Deed::of_call(numbers, answer) != Deed::Refused {
+            self.coverage
+                .note_end(kind, rule, numbers.function, End::LastDone);
+        }
+        if record == last + 1 && answer == 6 {
+            self.coverage
+                .note_end(kind, rule, numbers.function, End::NextRefused);
+        }
+    }
+
     /// Notes the places in their bytes of the bits that a call has set or cleared.
     fn note_bits(&mut self, kind: Kind, function: u32, before: &[u8]) {
         let now = self.table.vector();
@@ -508,7 +548,8 @@ impl Stage {
         if answer == WRONG_NUMBERS {
             return;
         }
-        let image_is_sound = image_faults(kind, self.table.image()).is_empty();
+        let judged_as = (kind, rule_beside(self.table.list()));
+        let image_is_sound = image_faults(judged_as, self.table.image()).is_empty();
         if image_is_sound == (answer == UNSOUND_IMAGE) {
             self.complain(format!("image sound: {image_is_sound}, answer {answer}"));
             return;

@@ -9,6 +9,13 @@ pub const MAX_LIST: usize = 4096;
 pub const MAX_VECTOR: usize = 4096;
 pub const MAX_DMA: usize = 4096;
 
+/// What a function without a list is told of an image, as the host gives it.
+#[derive(Clone, Copy, Debug, PartialEq, Eq)]
+pub struct Told {
+    pub kind: u32,
+    pub rule: u32,
+}
+
 #[derive(Clone, Debug, PartialEq, Eq)]
 pub enum Step {
     /// The image gets this length: it is cut, or lengthened with the fill byte.
@@ -38,9 +45,10 @@ pub enum Step {
         at: usize,
         bytes: Vec<u8>,
     },
+    /// With capacity, open limit, lock limit and rule.
     Start {
         kind: u32,
-        numbers: [u32; 3],
+        numbers: [u32; 4],
         users: Vec<u8>,
     },
     Call {
@@ -49,14 +57,14 @@ pub enum Step {
         dma: Vec<u8>,
     },
     Check {
-        kind: u32,
+        told: Told,
     },
     /// Builds the vector from the image.
     Build {
-        kind: u32,
+        told: Told,
     },
     Look {
-        kind: u32,
+        told: Told,
         user: u32,
         name: Vec<u8>,
         record: u32,

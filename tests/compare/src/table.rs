@@ -272,11 +272,11 @@ impl Table {
                     vector,
                 },
             ),
-            Step::Check { kind } => engine.check(*kind, image),
-            Step::Build { kind } => engine.vector(*kind, image, vector),
+            Step::Check { told } => engine.check(*told, image),
+            Step::Build { told } => engine.vector(*told, image, vector),
             Step::Look {
-                kind, user, record, ..
-            } => engine.look(*kind, *user, first, *record, image),
+                told, user, record, ..
+            } => engine.look(*told, *user, first, *record, image),
             _ => 0,
         }
     }

@@ -5,11 +5,11 @@
 //!         'i' at(4) n(2) bytes               a part of it gets these bytes
 //!         'L', 'l'                           the same for the list
 //!         'B', 'b'                           the same for the allocation vector
-//!         'S' kind(4) capacity(4) open limit(4) lock limit(4) n(2) users
+//!         'S' kind(4) capacity(4) open limit(4) lock limit(4) rule(4) n(2) users
 //!         'C' kind(4) function(4) process(4) count(4) n(2) FCB, DMA
-//!         'K' kind(4)                        check the image
-//!         'M' kind(4)                        make the vector from the image
-//!         'V' kind(4) user(4) record(4) n(2) name    look
+//!         'K' kind(4) rule(4)                check the image
+//!         'M' kind(4) rule(4)                make the vector from the image
+//!         'V' kind(4) rule(4) user(4) record(4) n(2) name    look
 //!         'W'                                compare the whole image
 //! DMA:    length(2) fill(1) n(2) bytes       the bytes, and behind them the fill byte
 //! Reply, to S, C, K, M, V and W (whose answer is 0):
@@ -18,7 +18,7 @@
 //!         n(2), and n times at(4) n(2) bytes; n of 65,535 means too many to tell.
 
 use crate::step::{
-    Apart, Change, Changes, Reply, Step, BUFFERS, MAX_CHANGED_BYTES, MAX_CHANGES, MAX_DMA, MAX_IMAGE,
+    Apart, Change, Changes, Reply, Step, Told, BUFFERS, MAX_CHANGED_BYTES, MAX_CHANGES, MAX_DMA, MAX_IMAGE,
     MAX_LIST, MAX_VECTOR,
 };
 use reference::calls::Numbers;
@@ -77,8 +77,8 @@ pub fn put_step(step: &Step, out: &mut Vec<u8>) {
         Step::Vector { length, fill } => put_length(b'B', *length, *fill, out),
         Step::PatchVector { at, bytes } => put_patch(b'b', *at, bytes, out),
         Step::Start { kind, numbers, users } => {
-            let [capacity, open_limit, lock_limit] = *numbers;
-            put_numbers(b'S', &[*kind, capacity, open_limit, lock_limit], out);
+            let [capacity, open_limit, lock_limit, rule] = *numbers;
+            put_numbers(b'S', &[*kind, capacity, open_limit, lock_limit, rule], out);
             put_bytes(users, out);
         }
         Step::Call { numbers, fcb, dma } => {
@@ -92,15 +92,15 @@ pub fn put_step(step: &Step, out: &mut Vec<u8>) {
             put_bytes(fcb, out);
             put_dma(dma, out);
         }
-        Step::Check { kind } => put_numbers(b'K', &[*kind], out),
-        Step::Build { kind } => put_numbers(b'M', &[*kind], out),
+        Step::Check { told } => put_numbers(b'K', &[told.kind, told.rule], out),
+        Step::Build { told } => put_numbers(b'M', &[told.kind, told.rule], out),
         Step::Look {
-            kind,
+            told,
             user,
             name,
             record,
         } => {
-            put_numbers(b'V', &[*kind, *user, *record], out);
+            put_numbers(b'V', &[told.kind, told.rule, *user, *record], out);
             put_bytes(name, out);
         }
         Step::Whole => out.push(b'W'),
@@ -151,6 +151,13 @@ fn get_u16(from: &mut impl Read) -> io::Result<u16> {
 
 fn get_u32(from: &mut impl Read) -> io::Result<u32> {
     Ok(u32::from_le_bytes(get(from)?))
+}
+
+fn get_told(from: &mut impl Read) -> io::Result<Told> {
+    Ok(Told {
+        kind: get_u32(from)?,
+        rule: get_u32(from)?,
+    })
 }
 
 fn get_at_most(limit: usize, from: &mut impl Read) -> io::Result<usize> {
@@ -218,7 +225,7 @@ pub fn get_step(from: &mut impl Read) -> io::Result<Option<Step>> {
         },
         b'S' => Step::Start {
             kind: get_u32(from)?,
-            numbers: [get_u32(from)?, get_u32(from)?, get_u32(from)?],
+            numbers: [get_u32(from)?, get_u32(from)?, get_u32(from)?, get_u32(from)?],
             users: get_bytes(from)?,
         },
         b'C' => Step::Call {
@@ -231,11 +238,15 @@ pub fn get_step(from: &mut impl Read) -> io::Result<Option<Step>> {
             fcb: get_bytes(from)?,
             dma: get_dma(from)?,
         },
-        b'K' => Step::Check { kind: get_u32(from)? },
-        b'M' => Step::Build { kind: get_u32(from)? },
+        b'K' => Step::Check {
+            told: get_told(from)?,
+        },
+        b'M' => Step::Build {
+            told: get_told(from)?,
+        },
         b'W' => Step::Whole,
         b'V' => Step::Look {
-            kind: get_u32(from)?,
+            told: get_told(from)?,
             user: get_u32(from)?,
             record: get_u32(from)?,
             name: get_bytes(from)?,

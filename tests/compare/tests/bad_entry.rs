@@ -7,11 +7,12 @@ use compare::engine::{Engine, Reference};
 use compare::faults::{block_numbers, check_answer, extent_number, judged};
 use compare::generate::Generator;
 use compare::stage::Made;
+use compare::step::Told;
 use reference::calls::{Buffers, Numbers};
 use reference::kind::Kind;
 
 fn told(kind: Kind, image: &[u8]) -> (u32, usize) {
-    let answer = reference::check(kind.number(), image);
+    let answer = reference::check(kind.number(), 0, image);
     assert_eq!(check_answer(kind, image), answer);
     (answer % 256, answer as usize / 256)
 }
@@ -58,11 +59,14 @@ fn each_reason_alone() {
 fn an_image_of_wrong_length_and_an_unknown_kind_tell_entry_0() {
     for length in [0, 1, 2048, 3071, 257 * 1024, 256 * 2048, 4_097 * 2048] {
         let image = vec![0x77; length];
-        assert_eq!((reference::check(0, &image), reference::check(1, &image)), (1, 1));
+        assert_eq!(
+            (reference::check(0, 0, &image), reference::check(1, 0, &image)),
+            (1, 1)
+        );
     }
     for kind in [2, 255, 256, 257, u32::MAX] {
-        assert_eq!(reference::check(kind, &vec![0x77; 3072]), 1);
-        assert_eq!(reference::check(kind, &vec![0xE5; 3072]), 1);
+        assert_eq!(reference::check(kind, 0, &vec![0x77; 3072]), 1);
+        assert_eq!(reference::check(kind, 0, &vec![0xE5; 3072]), 1);
     }
 }
 
@@ -284,32 +288,32 @@ fn judged_length(kind: Kind, image: &[u8]) -> bool {
 struct WrongCheck(Wrong);
 
 impl Engine for WrongCheck {
-    fn start(&mut self, kind: u32, numbers: [u32; 3], users: &mut [u8], list: &mut [u8]) -> u32 {
+    fn start(&mut self, kind: u32, numbers: [u32; 4], users: &mut [u8], list: &mut [u8]) -> u32 {
         Reference::default().start(kind, numbers, users, list)
     }
 
-    fn check(&mut self, kind: u32, image: &mut [u8]) -> u32 {
-        let Some(told) = Kind::told(kind) else {
+    fn check(&mut self, told: Told, image: &mut [u8]) -> u32 {
+        let Some(kind) = Kind::told(told.kind) else {
             return 1;
         };
-        let answer = Reference::default().check(kind, &mut self.0.sees(told, image));
+        let answer = Reference::default().check(told, &mut self.0.sees(kind, image));
         match answer {
             1 if self.0 == Wrong::TellsEntry1ForALength => 1 + 256,
             0 | 1 => answer,
             _ => {
                 let (slot, reason) = (answer as usize / 256, answer % 256);
-                let (slot, reason) = self.0.tells(told, image, slot, reason);
+                let (slot, reason) = self.0.tells(kind, image, slot, reason);
                 reason + 256 * slot as u32
             }
         }
     }
 
-    fn look(&mut self, kind: u32, user: u32, name: &mut [u8], record: u32, image: &mut [u8]) -> u32 {
-        Reference::default().look(kind, user, name, record, image)
+    fn look(&mut self, told: Told, user: u32, name: &mut [u8], record: u32, image: &mut [u8]) -> u32 {
+        Reference::default().look(told, user, name, record, image)
     }
 
-    fn vector(&mut self, kind: u32, image: &mut [u8], vector: &mut [u8]) -> u32 {
-        Reference::default().vector(kind, image, vector)
+    fn vector(&mut self, told: Told, image: &mut [u8], vector: &mut [u8]) -> u32 {
+        Reference::default().vector(told, image, vector)
     }
 
     fn call(&mut self, numbers: Numbers, buffers: Buffers) -> u32 {

@@ -8,10 +8,13 @@ use compare::engine::{Engine, Reference};
 use compare::faults::block_of;
 use compare::generate::Generator;
 use compare::pipe::Pipe;
-use compare::step::{changes, Apart, Step, ANSWER_APART};
+use compare::step::{changes, Apart, Step, Told, ANSWER_APART};
 use compare::wire::{get_reply, get_step, put_reply, put_step};
 use reference::calls::{Buffers, Numbers};
 use reference::kind::Kind;
+
+/// A drive of the first kind, by the rule of MP/M II.
+const TOLD: Told = Told { kind: 0, rule: 0 };
 
 /// The buffers before or after a call.
 #[derive(Clone)]
@@ -37,20 +40,20 @@ type Fault = fn(&mut Done);
 struct Faulty(Fault);
 
 impl Engine for Faulty {
-    fn start(&mut self, kind: u32, numbers: [u32; 3], users: &mut [u8], list: &mut [u8]) -> u32 {
+    fn start(&mut self, kind: u32, numbers: [u32; 4], users: &mut [u8], list: &mut [u8]) -> u32 {
         Reference::default().start(kind, numbers, users, list)
     }
 
-    fn check(&mut self, kind: u32, image: &mut [u8]) -> u32 {
-        Reference::default().check(kind, image)
+    fn check(&mut self, told: Told, image: &mut [u8]) -> u32 {
+        Reference::default().check(told, image)
     }
 
-    fn look(&mut self, kind: u32, user: u32, name: &mut [u8], record: u32, image: &mut [u8]) -> u32 {
-        Reference::default().look(kind, user, name, record, image)
+    fn look(&mut self, told: Told, user: u32, name: &mut [u8], record: u32, image: &mut [u8]) -> u32 {
+        Reference::default().look(told, user, name, record, image)
     }
 
-    fn vector(&mut self, kind: u32, image: &mut [u8], vector: &mut [u8]) -> u32 {
-        Reference::default().vector(kind, image, vector)
+    fn vector(&mut self, told: Told, image: &mut [u8], vector: &mut [u8]) -> u32 {
+        Reference::default().vector(told, image, vector)
     }
 
     fn call(&mut self, numbers: Numbers, buffers: Buffers) -> u32 {
@@ -62,20 +65,20 @@ impl Engine for Faulty {
 struct FaultyPlainSide(Fault);
 
 impl Engine for FaultyPlainSide {
-    fn start(&mut self, kind: u32, numbers: [u32; 3], users: &mut [u8], list: &mut [u8]) -> u32 {
+    fn start(&mut self, kind: u32, numbers: [u32; 4], users: &mut [u8], list: &mut [u8]) -> u32 {
         Reference::default().start(kind, numbers, users, list)
     }
 
-    fn check(&mut self, kind: u32, image: &mut [u8]) -> u32 {
-        Reference::default().check(kind, image)
+    fn check(&mut self, told: Told, image: &mut [u8]) -> u32 {
+        Reference::default().check(told, image)
     }
 
-    fn look(&mut self, kind: u32, user: u32, name: &mut [u8], record: u32, image: &mut [u8]) -> u32 {
-        Reference::default().look(kind, user, name, record, image)
+    fn look(&mut self, told: Told, user: u32, name: &mut [u8], record: u32, image: &mut [u8]) -> u32 {
+        Reference::default().look(told, user, name, record, image)
     }
 
-    fn vector(&mut self, kind: u32, image: &mut [u8], vector: &mut [u8]) -> u32 {
-        Reference::default().vector(kind, image, vector)
+    fn vector(&mut self, told: Told, image: &mut [u8], vector: &mut [u8]) -> u32 {
+        Reference::default().vector(told, image, vector)
     }
 
     fn call(&mut self, numbers: Numbers, buffers: Buffers) -> u32 {
@@ -843,7 +846,7 @@ fn the_named_cases_see_every_fault() {
 #[test]
 fn chance_sees_every_fault() {
     let mut generator = Generator::new(4);
-    let sessions: Vec<_> = (0..600).map(|_| generator.session_of(Kind::First)).collect();
+    let sessions: Vec<_> = (0..900).map(|_| generator.session_of(Kind::First)).collect();
     for (number, fault) in all_faults().enumerate() {
         let mut engine = Faulty(fault);
         let mut comparison = Comparison::new(&mut engine);
@@ -967,24 +970,24 @@ fn a_plain_side_without_fault_agrees() {
 struct Scribbler;
 
 impl Engine for Scribbler {
-    fn start(&mut self, kind: u32, numbers: [u32; 3], users: &mut [u8], list: &mut [u8]) -> u32 {
+    fn start(&mut self, kind: u32, numbers: [u32; 4], users: &mut [u8], list: &mut [u8]) -> u32 {
         Reference::default().start(kind, numbers, users, list)
     }
 
-    fn check(&mut self, kind: u32, image: &mut [u8]) -> u32 {
-        let answer = Reference::default().check(kind, image);
+    fn check(&mut self, told: Told, image: &mut [u8]) -> u32 {
+        let answer = Reference::default().check(told, image);
         if let Some(byte) = image.last_mut() {
             *byte ^= 1;
         }
         answer
     }
 
-    fn look(&mut self, kind: u32, user: u32, name: &mut [u8], record: u32, image: &mut [u8]) -> u32 {
-        Reference::default().look(kind, user, name, record, image)
+    fn look(&mut self, told: Told, user: u32, name: &mut [u8], record: u32, image: &mut [u8]) -> u32 {
+        Reference::default().look(told, user, name, record, image)
     }
 
-    fn vector(&mut self, kind: u32, image: &mut [u8], vector: &mut [u8]) -> u32 {
-        Reference::default().vector(kind, image, vector)
+    fn vector(&mut self, told: Told, image: &mut [u8], vector: &mut [u8]) -> u32 {
+        Reference::default().vector(told, image, vector)
     }
 
     fn call(&mut self, numbers: Numbers, buffers: Buffers) -> u32 {
@@ -999,7 +1002,7 @@ fn a_check_that_writes_is_seen() {
             length: 3072,
             fill: 0xE5,
         },
-        Step::Check { kind: 0 },
+        Step::Check { told: TOLD },
     ];
     let made = on_reference(steps);
     let difference = Comparison::new(&mut Scribbler).run(&made);
@@ -1094,7 +1097,7 @@ fn a_plain_side_apart_survives_the_wire() {
             length: 3072,
             fill: 0xE5,
         },
-        Step::Check { kind: 0 },
+        Step::Check { told: TOLD },
     ]);
     let mut reply = made[1].reply.clone().unwrap();
     reply.apart = Some(Apart {
@@ -1144,11 +1147,11 @@ fn a_pipe_to_the_reference_agrees() {
 #[test]
 fn the_pipe_serves_the_five_functions_one_by_one() {
     let mut pipe = pipe_to_reference();
-    let (mut list, mut image, mut vector) = (vec![0xAA; 1315], vec![0xE5; 4096], vec![0xAA; 32]);
-    assert_eq!(pipe.start(0, [3, 2, 2], &mut [0; 16], &mut list), 0);
+    let (mut list, mut image, mut vector) = (vec![0xAA; 1316], vec![0xE5; 4096], vec![0xAA; 32]);
+    assert_eq!(pipe.start(0, [3, 2, 2, 0], &mut [0; 16], &mut list), 0);
     assert_eq!(list[..3], [3, 2, 2]);
-    assert_eq!(pipe.check(0, &mut image), 0);
-    assert_eq!(pipe.vector(0, &mut image, &mut vector), 0);
+    assert_eq!(pipe.check(TOLD, &mut image), 0);
+    assert_eq!(pipe.vector(TOLD, &mut image, &mut vector), 0);
     assert_eq!(vector[..2], [0xC0, 0]);
     let mut fcb = compare::build::Fcb::named("X").unlocked().0.to_vec();
     let mut dma = vec![9; 2048];
@@ -1171,7 +1174,7 @@ fn the_pipe_serves_the_five_functions_one_by_one() {
     assert_eq!(image[2048..2048 + 128], [9; 128]);
     assert_eq!(vector[..2], [0xE0, 0]);
     let mut name = compare::build::name("X");
-    assert_eq!(pipe.look(0, 0, &mut name, 0, &mut image), 2048);
+    assert_eq!(pipe.look(TOLD, 0, &mut name, 0, &mut image), 2048);
 }
 
 #[test]
@@ -1181,7 +1184,7 @@ fn a_pipe_that_ends_is_a_difference() {
             length: 3072,
             fill: 0xE5,
         },
-        Step::Check { kind: 0 },
+        Step::Check { told: TOLD },
     ]);
     for command in ["true", "no-such-program-anywhere"] {
         let mut pipe = Pipe::new(vec![command.to_string()]);

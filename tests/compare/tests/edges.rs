@@ -18,7 +18,7 @@ fn the_last_record() {
     assert_eq!(world.entry(1), entry);
     assert_eq!(world.record_at(2, 7), [0x55; 128]);
     assert_eq!(world.record_at(2, 6), [0xE5; 128]);
-    let at = reference::look(0, 0, &name("LAST.DAT"), 262_143, &world.image);
+    let at = reference::look(0, 0, 0, &name("LAST.DAT"), 262_143, &world.image);
     assert_eq!(at, Some(2 * 1024 + 7 * 128));
     assert_eq!(world.ask(0, 42, file.record(262_143)).go(), OK);
     assert_eq!(world.ask(0, 42, file.record(262_143)).count(2).go(), (6, 0));
@@ -43,7 +43,7 @@ fn byte_35_of_4() {
 #[test]
 fn blocks() {
     for (blocks, wanted) in [(2, 1), (3, 0), (256, 0), (257, 1)] {
-        assert_eq!(reference::check(0, &empty_image(blocks)), wanted);
+        assert_eq!(reference::check(0, 0, &empty_image(blocks)), wanted);
         let answer = World::empty(blocks).ask(0, 46, Fcb([0; 36])).go();
         assert_eq!(answer == OK, wanted == 0, "{blocks} blocks");
         assert!(answer == OK || answer == (255, 1));
@@ -134,14 +134,14 @@ fn start_users() {
 
 #[test]
 fn start_list_length() {
-    for length in [0, 1, 19, 1299, 1314, 1316, 4096] {
+    for length in [0, 1, 19, 1299, 1314, 1315, 1317, 4096] {
         assert_start([64, 1, 64], &[0; 16], length, false);
     }
 }
 
 fn assert_start(numbers: [u32; 3], users: &[u8], length: usize, passes: bool) {
     let mut list = vec![0xAA; length];
-    let word = reference::start(0, numbers[0], numbers[1], numbers[2], users, &mut list);
+    let word = reference::start(0, numbers[0], numbers[1], numbers[2], 0, users, &mut list);
     if !passes {
         assert_eq!(split(word), (255, 13), "{numbers:?}");
         assert_eq!(list, vec![0xAA; length]);
@@ -151,13 +151,14 @@ fn assert_start(numbers: [u32; 3], users: &[u8], length: usize, passes: bool) {
     assert_eq!(list[..3], numbers.map(|number| number as u8));
     assert_eq!(list[3..19], *users);
     assert_eq!(list[19..1299], [0; 1280]);
-    assert_eq!(list[1299..], [64; 16]);
+    assert_eq!(list[1299..1315], [64; 16]);
+    assert_eq!(list[1315..], [0]);
 }
 
 #[test]
 fn buffer_lengths() {
     for function in KNOWN {
-        let lengths = [0, 1, 35, 37, 256, 1299, 1314, 1316, 2047, 2049];
+        let lengths = [0, 1, 35, 37, 256, 1299, 1314, 1315, 1317, 2047, 2049];
         for length in lengths {
             let mut world = World::empty(3);
             let bytes = vec![0; length];
@@ -219,7 +220,7 @@ fn look() {
         ],
     );
     let file = name("F");
-    let find = |user: u32, record: u32| reference::look(0, user, &file, record, &image);
+    let find = |user: u32, record: u32| reference::look(0, 0, user, &file, record, &image);
     assert_eq!(find(0, 8), Some(3072));
     assert_eq!(find(0, 15), Some(3072 + 7 * 128));
     assert_eq!(find(0, 7), None);
@@ -235,13 +236,13 @@ fn look() {
     assert_eq!(find(256, 8), None);
 
     let high = file.map(|byte| byte | 128);
-    assert_eq!(reference::look(0, 0, &high, 8, &image), Some(3072));
-    assert_eq!(reference::look(0, 0, &file[..10], 8, &image), None);
+    assert_eq!(reference::look(0, 0, 0, &high, 8, &image), Some(3072));
+    assert_eq!(reference::look(0, 0, 0, &file[..10], 8, &image), None);
     assert_eq!(
-        reference::look(0, 0, &[&file[..], b" "].concat(), 8, &image),
+        reference::look(0, 0, 0, &[&file[..], b" "].concat(), 8, &image),
         None
     );
-    assert_eq!(reference::look(0, 0, &[], 8, &image), None);
-    assert_eq!(reference::look(0, 0, &name(" F"), 8, &image), None);
-    assert_eq!(reference::look(0, 0, &name("F"), 8, &image[..4095]), None);
+    assert_eq!(reference::look(0, 0, 0, &[], 8, &image), None);
+    assert_eq!(reference::look(0, 0, 0, &name(" F"), 8, &image), None);
+    assert_eq!(reference::look(0, 0, 0, &name("F"), 8, &image[..4095]), None);
 }

@@ -11,7 +11,7 @@ use compare::engine::{Engine, Reference};
 use compare::faults::{block_of, image_faults, reason_number, ImageRule};
 use compare::generate::Generator;
 use compare::stage::Made;
-use compare::step::Step;
+use compare::step::{Step, Told};
 use reference::calls::{Buffers, Numbers};
 use reference::kind::Kind;
 use std::collections::BTreeSet;
@@ -52,13 +52,19 @@ fn free_records(world: &mut World) -> u32 {
 fn lengths_of_both_kinds() {
     for blocks in [257, 258, 1_027, 4_096] {
         let image = empty_image_of(Kind::Second, blocks);
-        assert_eq!((reference::check(1, &image), reference::check(0, &image)), (0, 1));
+        assert_eq!(
+            (reference::check(1, 0, &image), reference::check(0, 0, &image)),
+            (0, 1)
+        );
         let mut world = World::large(image);
         assert_eq!(free_records(&mut world), 16 * (blocks as u32 - 2));
     }
     for blocks in [3, 4, 64, 255, 256] {
         let image = empty_image(blocks);
-        assert_eq!((reference::check(1, &image), reference::check(0, &image)), (1, 0));
+        assert_eq!(
+            (reference::check(1, 0, &image), reference::check(0, 0, &image)),
+            (1, 0)
+        );
     }
     for length in [
         256 * 2048,
@@ -69,7 +75,10 @@ fn lengths_of_both_kinds() {
         257 * 1024,
     ] {
         let image = vec![0xE5; length];
-        assert_eq!((reference::check(1, &image), reference::check(0, &image)), (1, 1));
+        assert_eq!(
+            (reference::check(1, 0, &image), reference::check(0, 0, &image)),
+            (1, 1)
+        );
         assert_eq!(World::large(image).ask(0, 46, Fcb([0; 36])).go(), (255, 1));
     }
 }
@@ -109,11 +118,11 @@ fn unknown_kinds() {
                 world.kind = kind;
                 assert_eq!(world.ask(99, function, file()).count(0).go(), (255, 13));
             }
-            assert_eq!(reference::check(kind, &image), 1);
-            assert_eq!(reference::look(kind, 0, &name("FILE.DAT"), 0, &image), None);
+            assert_eq!(reference::check(kind, 0, &image), 1);
+            assert_eq!(reference::look(kind, 0, 0, &name("FILE.DAT"), 0, &image), None);
         }
         let mut list = vec![0xAA; LIST];
-        let answer = reference::start(kind, 9, 9, 9, &[0; 16], &mut list);
+        let answer = reference::start(kind, 9, 9, 9, 0, &[0; 16], &mut list);
         assert_eq!(split(answer), (255, 13));
         assert_eq!(list, [0xAA; LIST]);
     }
@@ -123,11 +132,12 @@ fn unknown_kinds() {
 fn start_differs_in_the_positions_alone() {
     let mut lists = [vec![0xAA; LIST], vec![0x55; LIST]];
     for (kind, list) in (0..).zip(&mut lists) {
-        assert_eq!(reference::start(kind, 3, 2, 1, &[7; 16], list), 0);
+        assert_eq!(reference::start(kind, 3, 2, 1, 0, &[7; 16], list), 0);
     }
     assert_eq!(lists[0][..1299], lists[1][..1299]);
-    assert_eq!(lists[0][1299..], [64; 16]);
-    assert_eq!(lists[1][1299..], [128; 16]);
+    assert_eq!(lists[0][1299..1315], [64; 16]);
+    assert_eq!(lists[1][1299..1315], [128; 16]);
+    assert_eq!(lists[0][1315..], lists[1][1315..]);
 }
 
 /// The list has no mark of its kind: 64 is no end there, and 128 is none here.
@@ -140,7 +150,7 @@ fn a_list_started_for_the_other_kind() {
     }
     let all = Fcb::of([b'?'; 11]);
     let mut world = World::large(image);
-    world.list[1299..].fill(64);
+    world.list[1299..1315].fill(64);
     assert_eq!(world.ask(3, 18, all).go(), (0, 0));
     assert_eq!(world.dma[1..6], *b"AT   ");
     assert_eq!(world.list[1299 + 3], 65);
@@ -182,7 +192,7 @@ fn records_lie_sixteen_to_a_block() {
     for record in [32, 47, 48, 111] {
         assert_eq!(world.ask(0, 33, file().record(record)).go(), (1, 0));
     }
-    let look = |record| reference::look(1, 0, &name("FILE.DAT"), record, &world.image);
+    let look = |record| reference::look(1, 0, 0, &name("FILE.DAT"), record, &world.image);
     assert_eq!(look(15), Some(256 * 2048 + 15 * 128));
     assert_eq!(look(16), Some(2 * 2048));
     assert_eq!(look(32), None);
@@ -255,7 +265,7 @@ fn assert_faults(image: Vec<u8>, rules: &[ImageRule]) {
         [] => 0,
         [rule, ..] => reason_number(*rule) + 256 * last.unwrap() as u32,
     };
-    assert_eq!(reference::check(1, &image), answer);
+    assert_eq!(reference::check(1, 0, &image), answer);
     let answer = World::large(image).ask(0, 46, Fcb([0; 36])).go();
     assert_eq!(answer, if rules.is_empty() { OK } else { (255, 1) });
 }
@@ -494,7 +504,7 @@ impl Spoilt<'_> {
 }
 
 impl Engine for WrongEngine {
-    fn start(&mut self, kind: u32, numbers: [u32; 3], users: &mut [u8], list: &mut [u8]) -> u32 {
+    fn start(&mut self, kind: u32, numbers: [u32; 4], users: &mut [u8], list: &mut [u8]) -> u32 {
         let kind = match self.0 {
             Wrong::StartForgetsTheKind if kind > 1 => 0,
             Wrong::StartWrites64 if kind == 1 => 0,
@@ -503,10 +513,11 @@ impl Engine for WrongEngine {
         Reference::default().start(kind, numbers, users, list)
     }
 
-    fn check(&mut self, kind: u32, image: &mut [u8]) -> u32 {
-        let part = self.0.part(kind, image);
-        let kind = self.0.kind(kind, image);
-        let answer = Reference::default().check(kind, &mut image[part]);
+    fn check(&mut self, told: Told, image: &mut [u8]) -> u32 {
+        let part = self.0.part(told.kind, image);
+        let kind = self.0.kind(told.kind, image);
+        let told = Told { kind, ..told };
+        let answer = Reference::default().check(told, &mut image[part]);
         if kind != 1 || answer < 2 {
             return answer;
         }
@@ -517,23 +528,24 @@ impl Engine for WrongEngine {
             Wrong::ChecksTwelveBits => mask_high_bytes(&mut copy, 0x0F),
             _ => {}
         }
-        reference::check(kind, &copy)
+        reference::check(kind, told.rule, &copy)
     }
 
-    fn look(&mut self, kind: u32, user: u32, name: &mut [u8], record: u32, image: &mut [u8]) -> u32 {
+    fn look(&mut self, told: Told, user: u32, name: &mut [u8], record: u32, image: &mut [u8]) -> u32 {
         let kind = match self.0 {
-            Wrong::LookTakesUnknownKinds if kind > 1 => 1,
-            _ => self.0.kind(kind, image),
+            Wrong::LookTakesUnknownKinds if told.kind > 1 => 1,
+            _ => self.0.kind(told.kind, image),
         };
-        let at = Reference::default().look(kind, user, name, record, image);
+        let told = Told { kind, ..told };
+        let at = Reference::default().look(told, user, name, record, image);
         match self.0 {
             Wrong::LooksAtTheLowByte if kind == 1 => at % (256 * 2048),
             _ => at,
         }
     }
 
-    fn vector(&mut self, kind: u32, image: &mut [u8], vector: &mut [u8]) -> u32 {
-        Reference::default().vector(kind, image, vector)
+    fn vector(&mut self, told: Told, image: &mut [u8], vector: &mut [u8]) -> u32 {
+        Reference::default().vector(told, image, vector)
     }
 
     fn call(&mut self, numbers: Numbers, buffers: Buffers) -> u32 {

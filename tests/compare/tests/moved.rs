@@ -5,6 +5,7 @@ use compare::build::{image_of, name, Entry};
 use compare::desk::cases::Cases;
 use compare::desk::{difference, named, on_reference, watch, Case, Desk, Local, What};
 use compare::faults::{block_numbers, extent_number, used_entries};
+use compare::step::Told;
 use reference::kind::Kind;
 use std::collections::{BTreeMap, BTreeSet};
 
@@ -123,7 +124,7 @@ fn it_is_what_look_shows() {
     let one = two_files(kind);
     let shown = |image: &[u8]| -> Vec<Option<Vec<u8>>> {
         let records = (0..128).chain(33 * 128..34 * 128);
-        let look = |record| reference::look(0, 0, &name("A"), record, image);
+        let look = |record| reference::look(0, 0, 0, &name("A"), record, image);
         records
             .map(|record| look(record).map(|at| image[at..at + 128].to_vec()))
             .collect()
@@ -132,7 +133,7 @@ fn it_is_what_look_shows() {
     let mut alike = 0;
     for _ in 0..200 {
         let other = cases.pair_of(kind, &one);
-        if reference::check(0, &other) != 0 {
+        if reference::check(0, 0, &other) != 0 {
             continue;
         }
         if reference::same(0, &one, &other) == 0 {
@@ -315,7 +316,7 @@ fn wrong_same(wrong: Option<Wrong>, kind: u32, first: &mut [u8], second: &mut [u
     let Some(kind) = Kind::told(kind) else {
         return if has(Wrong::UnknownKindIs3) { 3 } else { 1 };
     };
-    let sound = |image: &[u8]| reference::check(kind.number(), image) == 0;
+    let sound = |image: &[u8]| reference::check(kind.number(), 0, image) == 0;
     if has(Wrong::SecondBeforeFirst) && !sound(second) {
         return 2;
     }
@@ -346,8 +347,8 @@ fn wrong_same(wrong: Option<Wrong>, kind: u32, first: &mut [u8], second: &mut [u
 
 fn desk(wrong: Option<Wrong>) -> impl Desk {
     Local(
-        move |_: What, kind: u32, buffers: &mut [&mut [u8]]| match buffers {
-            [first, second] => wrong_same(wrong, kind, first, second),
+        move |_: What, told: Told, buffers: &mut [&mut [u8]]| match buffers {
+            [first, second] => wrong_same(wrong, told.kind, first, second),
             _ => unreachable!("two buffers"),
         },
     )

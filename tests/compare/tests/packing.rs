@@ -1,11 +1,12 @@
 //! Packing: what it has to leave, written from document 02; and packers that are wrong about it, which the named cases
 //! and chance have to see.
 
-use compare::build::{image_of, name, open_item, put_entry, put_item, Entry, Fcb, LIST, POSITIONS};
+use compare::build::{image_of, name, open_item, put_entry, put_item, Entry, Fcb, LIST, POSITIONS, RULE};
 use compare::desk::cases::Cases;
 use compare::desk::packs::fresh_list;
 use compare::desk::{difference, named, on_reference, watch, Case, Desk, Local, What};
 use compare::faults::vector_of;
+use compare::step::Told;
 use reference::kind::Kind;
 
 fn file(text: &str) -> Entry {
@@ -477,7 +478,8 @@ fn wrong_pack(wrong: Option<Wrong>, kind: u32, image: &mut [u8], list: &mut [u8]
     let Some(kind) = told else {
         return 255 + 256 * 13;
     };
-    let image_is_bad = reference::check(kind.number(), image) != 0;
+    let rule = list.get(RULE).copied().unwrap_or(0).into();
+    let image_is_bad = reference::check(kind.number(), rule, image) != 0;
     let sound_list = |image: &mut [u8]| {
         let (mut fcb, mut dma, mut vector) = (vec![0; 36], vec![0; 2_048], vector_of(kind, image));
         let mut copy = as_taken(wrong, list);
@@ -545,8 +547,8 @@ fn wrong_pack(wrong: Option<Wrong>, kind: u32, image: &mut [u8], list: &mut [u8]
 
 fn desk(wrong: Option<Wrong>) -> impl Desk {
     Local(
-        move |_: What, kind: u32, buffers: &mut [&mut [u8]]| match buffers {
-            [image, list, packed] => wrong_pack(wrong, kind, image, list, packed),
+        move |_: What, told: Told, buffers: &mut [&mut [u8]]| match buffers {
+            [image, list, packed] => wrong_pack(wrong, told.kind, image, list, packed),
             _ => unreachable!("three buffers"),
         },
     )

@@ -6,7 +6,7 @@ const HEADER: &str = "call process function A H\n";
 
 fn start_record() -> Vec<u8> {
     let mut record = vec![0x4D, 0x53, 3, 2, 2];
-    record.extend([0; 16]);
+    record.extend([0; 17]);
     record
 }
 
@@ -90,8 +90,8 @@ fn every_cut() {
     for length in 0..=input.len() {
         let (printed, out) = run(Some(&empty_image(3)), &input[..length]);
         let (calls, rest) = match length {
-            0..21 => (0, None),
-            _ => ((length - 21) / 2089, Some((length - 21) % 2089)),
+            0..22 => (0, None),
+            _ => ((length - 22) / 2089, Some((length - 22) % 2089)),
         };
         let last = match rest {
             None => "bad record 0\n".to_string(),
@@ -151,7 +151,7 @@ fn records_of_the_old_length_are_no_records() {
 
 #[test]
 fn bad_marks() {
-    for (at, wanted) in [(0, 0), (1, 0), (21, 1), (22, 1), (21 + 2089, 2), (22 + 2089, 2)] {
+    for (at, wanted) in [(0, 0), (1, 0), (22, 1), (23, 1), (22 + 2089, 2), (23 + 2089, 2)] {
         let mut input = two_calls();
         input[at] ^= 0x10;
         let (printed, out) = run(Some(&empty_image(3)), &input);

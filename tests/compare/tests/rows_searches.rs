@@ -56,21 +56,24 @@ fn listed(world: &mut World, process: u32, fcb: Fcb) -> Vec<usize> {
 }
 
 #[test]
-fn a_list_of_1315_bytes() {
-    assert_eq!(World::empty(3).list.len(), 1_315);
-    for length in [1_299, 1_314, 1_316] {
+fn a_list_of_1316_bytes() {
+    assert_eq!(World::empty(3).list.len(), 1_316);
+    for length in [1_299, 1_315, 1_317] {
         for function in KNOWN {
             let mut world = World::empty(3);
             world.list.resize(length, 64);
             assert_eq!(world.ask(0, function, all()).go(), (255, 13));
         }
         let mut list = vec![7; length];
-        assert_eq!(reference::start(0, 9, 9, 9, &[0; 16], &mut list), 255 + 256 * 13);
+        assert_eq!(
+            reference::start(0, 9, 9, 9, 0, &[0; 16], &mut list),
+            255 + 256 * 13
+        );
         assert_eq!(list, vec![7; length]);
     }
 }
 
-/// How a host takes an old list over: sixteen bytes of 64 behind it, of the second kind 128.
+/// How a host takes an old list over: sixteen bytes of 64 behind it, of the second kind 128, and a rule of 0.
 #[test]
 fn an_old_list_taken_over() {
     for (kind, end) in [(Kind::First, 64), (Kind::Second, 128)] {
@@ -79,6 +82,7 @@ fn an_old_list_taken_over() {
         let whole = world.list.clone();
         world.list.truncate(1_299);
         world.list.extend([end; 16]);
+        world.list.push(0);
         assert_eq!(world.list, whole);
         assert_eq!(world.ask(3, 18, all()).go(), NONE);
         assert_eq!(listed(&mut world, 3, all()), [5]);
@@ -195,8 +199,8 @@ fn only_searches_and_the_end_of_a_process_move_a_position() {
     let mut world = World::empty(8);
     world.must(1, 22, file);
     world.must(1, 34, file);
-    world.list[1299..].copy_from_slice(&[0, 1, 2, 3, 4, 5, 6, 7, 8, 9, 10, 11, 12, 13, 63, 64]);
-    let positions = world.list[1299..].to_vec();
+    world.list[1299..1315].copy_from_slice(&[0, 1, 2, 3, 4, 5, 6, 7, 8, 9, 10, 11, 12, 13, 63, 64]);
+    let positions = world.list[1299..1315].to_vec();
     let renamed = Fcb::named("OLD").new_name(name("NEW"));
     for (function, fcb) in [
         (15, file),
@@ -214,12 +218,12 @@ fn only_searches_and_the_end_of_a_process_move_a_position() {
         (16, file),
     ] {
         world.must(1, function, fcb);
-        assert_eq!(world.list[1299..], positions, "function {function}");
+        assert_eq!(world.list[1299..1315], positions, "function {function}");
     }
     world.must(2, 143, file);
     let mut wanted = positions.clone();
     wanted[2] = 64;
-    assert_eq!(world.list[1299..], wanted);
+    assert_eq!(world.list[1299..1315], wanted);
 }
 
 /// One process goes on where it was, whatever the others do to the directory and in their searches.

@@ -5,6 +5,7 @@ use compare::build::{image_of, Entry};
 use compare::desk::cases::Cases;
 use compare::desk::{by_reference, difference, named, on_reference, watch, Case, Desk, Local, What};
 use compare::faults::image_faults;
+use compare::step::Told;
 use reference::kind::Kind;
 
 const BLOCKS: [(Kind, usize); 2] = [(Kind::First, 40), (Kind::Second, 300)];
@@ -26,7 +27,7 @@ fn assert_salvaged(made: impl Fn(Kind, usize) -> (Vec<Entry>, Vec<Entry>), wante
         let (before, after) = made(kind, blocks);
         let mut image = image_of(kind, blocks, &before);
         let mut report = vec![0xAA; kind.entries()];
-        assert_eq!(reference::salvage(kind.number(), &mut image, &mut report), 0);
+        assert_eq!(reference::salvage(kind.number(), 0, &mut image, &mut report), 0);
         assert!(image == image_of(kind, blocks, &after), "{kind:?}");
         assert_eq!(report[..wanted.len()], *wanted, "{kind:?}");
         assert!(report[wanted.len()..].iter().all(|byte| *byte == 0));
@@ -137,7 +138,7 @@ fn a_number_of_two_bytes_counts_once() {
     let kind = Kind::Second;
     let mut image = image_of(kind, 300, &[file("A").wide_block(0, 0xFFFF).wide_block(7, 301)]);
     let mut report = vec![9; 128];
-    assert_eq!(reference::salvage(1, &mut image, &mut report), 0);
+    assert_eq!(reference::salvage(1, 0, &mut image, &mut report), 0);
     assert_eq!((report[0], &image[16..32]), (2, &[0; 16][..]));
 }
 
@@ -147,7 +148,7 @@ fn refusals_change_nothing_and_the_length_comes_first() {
         let bad = image_of(kind, blocks, &[file("A").user(99)]);
         let ask = |told: u32, image: &[u8], length: usize| {
             let (mut image_now, mut report) = (image.to_vec(), vec![7; length]);
-            let answer = reference::salvage(told, &mut image_now, &mut report);
+            let answer = reference::salvage(told, 0, &mut image_now, &mut report);
             assert!(image_now == image && report == vec![7; length]);
             answer
         };
@@ -171,6 +172,9 @@ fn refusals_change_nothing_and_the_length_comes_first() {
 
 #[derive(Clone, Copy, Debug, PartialEq, Eq)]
 enum Wrong {
+    RuleNotAsked,
+    RuleCutToAByte,
+    AnyRuleIsOne,
     EmptiedIsAnEarlierOne,
     TwinOfTheEarlierGoes,
     HeadlessFirst,
@@ -202,7 +206,10 @@ enum Wrong {
     AnswersHowMany,
 }
 
-const ALL_WRONG: [Wrong; 29] = [
+const ALL_WRONG: [Wrong; 32] = [
+    Wrong::RuleNotAsked,
+    Wrong::RuleCutToAByte,
+    Wrong::AnyRuleIsOne,
     Wrong::EmptiedIsAnEarlierOne,
     Wrong::TwinOfTheEarlierGoes,
     Wrong::HeadlessFirst,
@@ -244,6 +251,7 @@ impl Wrong {
 /// Salvage on a directory as a list of entries, with one fault or none.
 struct Salvage<'a> {
     kind: Kind,
+    modules: u8,
     blocks: usize,
     entries: Vec<&'a mut [u8]>,
     emptied: Vec<bool>,
@@ -283,7 +291,7 @@ impl Salvage<'_> {
         let legal = |byte: &u8| (32..127).contains(&(byte & 127)) && byte & 127 != b'?';
         let most = if self.has(Wrong::Count128IsBad) { 127 } else { 128 };
         let name = entry[1] & 127 != b' ' && entry[1..12].iter().all(legal);
-        entry[0] < 16 && name && entry[12] < 32 && entry[14] < 64 && entry[15] <= most
+        entry[0] < 16 && name && entry[12] < 32 && entry[14] < self.modules && entry[15] <= most
     }
 
     fn is_twin(&self, one: usize, other: usize) -> bool {
@@ -434,7 +442,8 @@ impl Salvage<'_> {
     }
 }
 
-fn salvage(wrong: Option<Wrong>, kind: u32, image: &mut [u8], report: &mut [u8]) -> u32 {
+fn salvage(wrong: Option<Wrong>, numbers: Told, image: &mut [u8], report: &mut [u8]) -> u32 {
+    let kind = numbers.kind;
     let has = |one: Wrong| wrong == Some(one);
     let told = match kind {
         0 | 1 => Kind::told(kind),
@@ -465,6 +474,12 @@ fn salvage(wrong: Option<Wrong>, kind: u32, image: &mut [u8], report: &mut [u8])
     let emptied = vec![false; entries.len()];
     let done = Salvage {
         kind,
+        modules: match numbers.rule {
+            1 if !has(Wrong::RuleNotAsked) => 16,
+            257 if has(Wrong::RuleCutToAByte) => 16,
+            2.. if has(Wrong::AnyRuleIsOne) => 16,
+            _ => 64,
+        },
         blocks,
         entries,
         emptied,
@@ -486,8 +501,8 @@ fn salvage(wrong: Option<Wrong>, kind: u32, image: &mut [u8], report: &mut [u8])
 
 fn desk(wrong: Option<Wrong>) -> impl Desk {
     Local(
-        move |_: What, kind: u32, buffers: &mut [&mut [u8]]| match buffers {
-            [image, report] => salvage(wrong, kind, image, report),
+        move |_: What, told: Told, buffers: &mut [&mut [u8]]| match buffers {
+            [image, report] => salvage(wrong, told, image, report),
             _ => unreachable!("two buffers"),
         },
     )
@@ -574,7 +589,17 @@ fn books_by_chance_are_sound() {
             assert!(image_faults(kind, &book).is_empty());
             let mut buffers = [book.clone(), vec![9; kind.entries()]];
             let mut lent: Vec<&mut [u8]> = buffers.iter_mut().map(Vec::as_mut_slice).collect();
-            assert_eq!(by_reference(What::Salvage, kind.number(), &mut lent), 0);
+            assert_eq!(
+                by_reference(
+                    What::Salvage,
+                    Told {
+                        kind: kind.number(),
+                        rule: 0
+                    },
+                    &mut lent
+                ),
+                0
+            );
             assert!(buffers == [book, vec![0; kind.entries()]]);
         }
     }

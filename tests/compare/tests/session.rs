@@ -113,7 +113,8 @@ fn s0_to_s13() {
     assert_eq!(item_at(&session.world.list, 0), [0; 20]);
     assert_eq!(item_at(&session.world.list, 1), [0; 20]);
     assert_eq!(session.world.list[19..1299], [0; 1280]);
-    assert_eq!(session.world.list[1299..], [64; 16]);
+    assert_eq!(session.world.list[1299..1315], [64; 16]);
+    assert_eq!(session.world.list[1315], 0);
     image[0] = 0xE5;
     assert_eq!(session.world.image, image);
     assert_eq!(session.call(2, 46, 0, 1), OK);
@@ -123,7 +124,7 @@ fn s0_to_s13() {
 #[test]
 fn s0_to_s6_printed() {
     let mut input = vec![0x4D, 0x53, 3, 2, 2];
-    input.extend([0; 16]);
+    input.extend([0; 17]);
     let calls = [
         (22, 1, 0, 0),
         (15, 2, 0, 0),

@@ -34,8 +34,8 @@ fn reason_of(rule: ImageRule) -> u32 {
 fn assert_broken_in(rule: ImageRule, reason: u32, entry: usize, image: Vec<u8>) {
     assert_eq!(image_faults(Kind::First, &image), BTreeSet::from([rule]));
     let wanted = reason + 256 * entry as u32;
-    assert_eq!(reference::check(0, &image), wanted, "{rule:?}");
-    assert_eq!(reference::look(0, 0, &name("GOOD"), 0, &image), None);
+    assert_eq!(reference::check(0, 0, &image), wanted, "{rule:?}");
+    assert_eq!(reference::look(0, 0, 0, &name("GOOD"), 0, &image), None);
     for function in KNOWN {
         // Drive 9 and an unsound list come later in the order, so neither may be seen.
         let mut world = World::new(image.clone());
@@ -47,7 +47,7 @@ fn assert_broken_in(rule: ImageRule, reason: u32, entry: usize, image: Vec<u8>) 
 
 fn assert_sound(image: Vec<u8>) {
     assert_eq!(image_faults(Kind::First, &image), BTreeSet::new());
-    assert_eq!(reference::check(0, &image), 0);
+    assert_eq!(reference::check(0, 0, &image), 0);
     let mut world = World::new(image);
     assert_eq!(world.ask(0, 46, Fcb([255; 36])).go(), (0, 0));
 }
@@ -77,10 +77,10 @@ fn length() {
 
 #[test]
 fn length_comes_before_the_directory() {
-    assert_eq!(reference::check(0, &vec![0x77; 2048]), 1);
-    assert_eq!(reference::check(0, &vec![0x77; 3072]), 2);
-    assert_eq!(reference::check(1, &vec![0x77; 256 * 2048]), 1);
-    assert_eq!(reference::check(1, &vec![0x77; 257 * 2048]), 2);
+    assert_eq!(reference::check(0, 0, &vec![0x77; 2048]), 1);
+    assert_eq!(reference::check(0, 0, &vec![0x77; 3072]), 2);
+    assert_eq!(reference::check(1, 0, &vec![0x77; 256 * 2048]), 1);
+    assert_eq!(reference::check(1, 0, &vec![0x77; 257 * 2048]), 2);
 }
 
 #[test]

@@ -11,6 +11,7 @@ use compare::engine::{Engine, Reference};
 use compare::faults::{image_faults, vector_faults, vector_of, VectorRule};
 use compare::generate::Generator;
 use compare::stage::Made;
+use compare::step::Told;
 use reference::calls::{Buffers, Numbers};
 use reference::kind::Kind;
 
@@ -33,7 +34,7 @@ fn length(kind: Kind) -> usize {
 
 fn build(kind: Kind, image: &[u8]) -> Vec<u8> {
     let mut vector = vec![0xA5; length(kind)];
-    assert_eq!(reference::vector(kind.number(), image, &mut vector), 0);
+    assert_eq!(reference::vector(kind.number(), 0, image, &mut vector), 0);
     vector
 }
 
@@ -96,23 +97,26 @@ fn building_refuses_a_wrong_length_before_an_unsound_image() {
         for image in [&sound, &unsound, &cut, &Vec::new()] {
             for wrong in [0, 1, length(kind) - 1, length(kind) + 1, length(kind.other())] {
                 let mut vector = vec![0x5A; wrong];
-                let answer = reference::vector(kind.number(), image, &mut vector);
+                let answer = reference::vector(kind.number(), 0, image, &mut vector);
                 assert_eq!((answer, vector), (BAD_CALL, vec![0x5A; wrong]));
             }
             for unknown in [2, 256, 257, u32::MAX] {
                 let mut vector = vec![0x5A; length(kind)];
-                let answer = reference::vector(unknown, image, &mut vector);
+                let answer = reference::vector(unknown, 0, image, &mut vector);
                 assert_eq!((answer, vector), (BAD_CALL, vec![0x5A; length(kind)]));
             }
         }
         for image in [&unsound, &cut, &Vec::new()] {
             let mut vector = vec![0x5A; length(kind)];
-            let answer = reference::vector(kind.number(), image, &mut vector);
+            let answer = reference::vector(kind.number(), 0, image, &mut vector);
             assert_eq!((answer, vector), (BAD_IMAGE, vec![0x5A; length(kind)]));
         }
         let other = kind.other();
         let mut vector = vec![0x5A; length(other)];
-        assert_eq!(reference::vector(other.number(), &sound, &mut vector), BAD_IMAGE);
+        assert_eq!(
+            reference::vector(other.number(), 0, &sound, &mut vector),
+            BAD_IMAGE
+        );
     }
 }
 
@@ -525,26 +529,27 @@ impl WrongVector {
 }
 
 impl Engine for WrongVector {
-    fn start(&mut self, kind: u32, numbers: [u32; 3], users: &mut [u8], list: &mut [u8]) -> u32 {
+    fn start(&mut self, kind: u32, numbers: [u32; 4], users: &mut [u8], list: &mut [u8]) -> u32 {
         Reference::default().start(kind, numbers, users, list)
     }
 
-    fn check(&mut self, kind: u32, image: &mut [u8]) -> u32 {
-        Reference::default().check(kind, image)
+    fn check(&mut self, told: Told, image: &mut [u8]) -> u32 {
+        Reference::default().check(told, image)
     }
 
-    fn look(&mut self, kind: u32, user: u32, name: &mut [u8], record: u32, image: &mut [u8]) -> u32 {
-        Reference::default().look(kind, user, name, record, image)
+    fn look(&mut self, told: Told, user: u32, name: &mut [u8], record: u32, image: &mut [u8]) -> u32 {
+        Reference::default().look(told, user, name, record, image)
     }
 
-    fn vector(&mut self, told: u32, image: &mut [u8], vector: &mut [u8]) -> u32 {
-        let told = match self.0 {
-            Wrong::BuildTakesUnknownKinds if told > 1 => u32::from(vector.len() == 512),
-            Wrong::BuildCutsTheKind => told % 256,
-            _ => told,
+    fn vector(&mut self, told: Told, image: &mut [u8], vector: &mut [u8]) -> u32 {
+        let number = match self.0 {
+            Wrong::BuildTakesUnknownKinds if told.kind > 1 => u32::from(vector.len() == 512),
+            Wrong::BuildCutsTheKind => told.kind % 256,
+            _ => told.kind,
         };
+        let told = Told { kind: number, ..told };
         let before = vector.to_vec();
-        let Some(kind) = Kind::told(told) else {
+        let Some(kind) = Kind::told(number) else {
             return BAD_CALL;
         };
         let part = match self.0 {

@@ -2,9 +2,9 @@
 //! written only after it has succeeded, has done some of its records, or has searched in vain.
 
 use crate::answer::{code, extended, Answer, Refusal};
-use crate::drive::{extent_of, Drive, Fault, RECORD_LIMIT};
+use crate::drive::{extent_of, Drive, Fault};
 use crate::kind::{Kind, RECORD};
-use crate::locks::{Lock, LockList, Mode, Open, LIST_LENGTH, PROCESSES};
+use crate::locks::{rule_of_image, Lock, LockList, Mode, Open, LIST_LENGTH, PROCESSES};
 use crate::name::{File, Name, Pattern, HIGH_BIT};
 use std::ops::Range;
 
@@ -209,11 +209,12 @@ fn scene<'a>(numbers: Numbers, buffers: &'a Buffers) -> Result<Scene<'a>, Refusa
     if buffers.vector.len() != kind.vector() {
         return Err(extended(13, "vector of wrong length"));
     }
-    let drive = Drive::read(kind, buffers.image).map_err(|fault| match fault {
-        Fault::Length => extended(1, "image of wrong length"),
-        Fault::OtherKind => extended(1, "image of the other kind's length"),
-        Fault::Entry(..) => extended(1, "unsound directory"),
-    })?;
+    let drive =
+        Drive::read(kind, rule_of_image(buffers.list), buffers.image).map_err(|fault| match fault {
+            Fault::Length => extended(1, "image of wrong length"),
+            Fault::OtherKind => extended(1, "image of the other kind's length"),
+            Fault::Entry(..) => extended(1, "unsound directory"),
+        })?;
     let list = LockList::read(buffers.list, &drive).ok_or(extended(12, "unsound list"))?;
     if *buffers.vector != drive.vector() {
         return Err(extended(14, "vector that disagrees"));
@@ -303,11 +304,23 @@ impl Scene<'_> {
         first..first + self.count
     }
 
+    /// One past the last record that there can be, by the list's rule.
+    fn record_limit(&self) -> u32 {
+        self.list.rule().record_limit()
+    }
+
+    fn in_range(&self, record: u32) -> Result<(), Refusal> {
+        if record >= self.record_limit() {
+            return Err(code(6, "record too high"));
+        }
+        Ok(())
+    }
+
     /// The records, where none may pass the last one.
     fn run(&self) -> Result<Range<u32>, Refusal> {
         let run = self.records();
-        in_range(run.start)?;
-        if run.end > RECORD_LIMIT {
+        self.in_range(run.start)?;
+        if run.end > self.record_limit() {
             return Err(code(6, "run passes the last record"));
         }
         Ok(run)
@@ -566,7 +579,7 @@ impl Scene<'_> {
         fcb[33..].copy_from_slice(&records.to_le_bytes()[..3]);
         let kind = match (highest, records) {
             (_, 0) => "no records",
-            (_, RECORD_LIMIT) => "as many records as can be",
+            (_, most) if most == self.record_limit() => "as many records as can be",
             (0, _) => "size by extent 0",
             _ => "size by a later extent",
         };
@@ -586,7 +599,7 @@ impl Scene<'_> {
         let (file, _) = self.own_open_or_10()?;
         let mut dma = self.dma;
         let stop = go_along(self.records(), |record, part| {
-            in_range(record)?;
+            self.in_range(record)?;
             let at = self.stored(&file, record)?;
             dma[part].copy_from_slice(&self.image[at..at + RECORD]);
             Ok(())
@@ -610,7 +623,7 @@ impl Scene<'_> {
     }
 
     fn may_write(&self, file: &File, record: u32) -> Result<(), Refusal> {
-        in_range(record)?;
+        self.in_range(record)?;
         if self.list.is_held_by_another(file, record, self.process) {
             return Err(code(8, "held by another"));
         }
@@ -803,13 +816,6 @@ fn kind_of_writing(took_extent: bool, took_block: bool) -> &'static str {
         (false, true) => "written, new block",
         (false, false) => "written in place",
     }
-}
-
-fn in_range(record: u32) -> Result<(), Refusal> {
-    if record >= RECORD_LIMIT {
-        return Err(code(6, "record too high"));
-    }
-    Ok(())
 }
 
 fn file_id(open: Open) -> [u8; 2] {

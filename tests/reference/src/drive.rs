@@ -2,16 +2,15 @@
 
 use crate::kind::{Kind, ENTRY, RECORD, RECORDS_PER_EXTENT};
 use crate::name::{File, Name, Pattern, HIGH_BIT, NAME_LENGTH};
+use crate::rule::Rule;
 use std::collections::{BTreeMap, BTreeSet};
 
 pub const EMPTY: u8 = 0xE5;
-pub const RECORD_LIMIT: u32 = 262_144;
 
 pub const FIRST_DATA_BLOCK: usize = 2;
 const ENTRIES_PER_RECORD: usize = RECORD / ENTRY;
 const HIGHEST_USER: u8 = 15;
 const EX_LIMIT: u8 = 32;
-const MODULE_LIMIT: u8 = 64;
 const UNREAD: usize = 13;
 const READ_ONLY_ATTRIBUTE: usize = 8;
 
@@ -95,8 +94,8 @@ pub fn place_in_extent(record: u32) -> u32 {
     record % RECORDS_PER_EXTENT
 }
 
-/// The file and the extent of an entry that is good but for its map; None of an empty one.
-pub fn file_and_extent(entry: &[u8]) -> Result<Option<(File, u32)>, Reason> {
+/// The file and the extent of an entry that is good by this rule but for its map; None of an empty one.
+pub fn file_and_extent(rule: Rule, entry: &[u8]) -> Result<Option<(File, u32)>, Reason> {
     let user = entry[0];
     if user == EMPTY {
         return Ok(None);
@@ -106,7 +105,7 @@ pub fn file_and_extent(entry: &[u8]) -> Result<Option<(File, u32)>, Reason> {
     }
     let name = Name::read(&entry[1..12]).ok_or(Reason::Name)?;
     let (ex, module, count) = (entry[12], entry[14], entry[15]);
-    if ex >= EX_LIMIT || module >= MODULE_LIMIT || count > 128 {
+    if ex >= EX_LIMIT || module >= rule.module_limit() || count > 128 {
         return Err(Reason::Numbers);
     }
     let extent = u32::from(ex) + u32::from(EX_LIMIT) * u32::from(module);
@@ -126,7 +125,8 @@ fn length_fault(kind: Kind, length: usize) -> Fault {
 }
 
 impl Drive {
-    pub fn read(kind: Kind, image: &[u8]) -> Result<Drive, Fault> {
+    /// Judged by this rule.
+    pub fn read(kind: Kind, rule: Rule, image: &[u8]) -> Result<Drive, Fault> {
         let block_count = kind
             .blocks_of(image.len())
             .ok_or_else(|| length_fault(kind, image.len()))?;
@@ -140,7 +140,7 @@ impl Drive {
         let mut named = vec![false; block_count];
         for (slot, entry) in image[..kind.directory()].chunks_exact(ENTRY).enumerate() {
             drive
-                .take_in(slot, entry, &mut named)
+                .take_in(rule, slot, entry, &mut named)
                 .map_err(|reason| Fault::Entry(slot, reason))?;
         }
         if let Some(slot) = drive.lowest_slot_without_extent_0() {
@@ -151,8 +151,8 @@ impl Drive {
     }
 
     /// Takes an entry in; those before it are good. `named` has the blocks that they name.
-    fn take_in(&mut self, slot: usize, entry: &[u8], named: &mut [bool]) -> Result<(), Reason> {
-        let Some((file, number)) = file_and_extent(entry)? else {
+    fn take_in(&mut self, rule: Rule, slot: usize, entry: &[u8], named: &mut [bool]) -> Result<(), Reason> {
+        let Some((file, number)) = file_and_extent(rule, entry)? else {
             self.empty_slots.insert(slot);
             return Ok(());
         };

@@ -9,6 +9,7 @@ pub mod moved;
 pub mod name;
 pub mod packing;
 pub mod program;
+pub mod rule;
 pub mod salvage;
 pub mod singly;
 
@@ -18,20 +19,23 @@ use answer::Answer;
 use calls::{Buffers, Numbers};
 use drive::{Drive, Fault};
 use kind::Kind;
-use locks::{LockList, LIST_LENGTH};
+use locks::{rule_of_image, LockList, LIST_LENGTH};
 use name::{File, Name};
+use rule::Rule;
 
-/// Each function is told the kind of drive by a number: 0 or 1, and any other is unknown.
+/// Each function is told the kind of drive by a number: 0 or 1, and any other is unknown. Those without a list are told
+/// the rule of where a file ends: 1, and any other is 0.
 pub fn start(
     kind: u32,
     capacity: u32,
     open_limit: u32,
     lock_limit: u32,
+    rule: u32,
     users: &[u8],
     list: &mut [u8],
 ) -> u32 {
-    let fresh =
-        Kind::told(kind).and_then(|kind| LockList::fresh(kind, capacity, open_limit, lock_limit, users));
+    let fresh = Kind::told(kind)
+        .and_then(|kind| LockList::fresh(kind, capacity, open_limit, lock_limit, rule, users));
     let (Some(fresh), LIST_LENGTH) = (fresh, list.len()) else {
         return Answer::extended(13).word();
     };
@@ -41,11 +45,11 @@ pub fn start(
 
 /// 0 sound, 1 wrong length or unknown kind; else why an entry is bad, 2 to 8, plus 256 times the
 /// entry.
-pub fn check(kind: u32, image: &[u8]) -> u32 {
+pub fn check(kind: u32, rule: u32, image: &[u8]) -> u32 {
     let Some(kind) = Kind::told(kind) else {
         return 1;
     };
-    match Drive::read(kind, image) {
+    match Drive::read(kind, Rule::told(rule), image) {
         Ok(_) => 0,
         Err(Fault::Length | Fault::OtherKind) => 1,
         Err(Fault::Entry(slot, reason)) => reason.code() + 256 * slot as u32,
@@ -53,8 +57,8 @@ pub fn check(kind: u32, image: &[u8]) -> u32 {
 }
 
 /// Where the record's 128 bytes begin in the image.
-pub fn look(kind: u32, user: u32, name: &[u8], record: u32, image: &[u8]) -> Option<usize> {
-    let drive = Drive::read(Kind::told(kind)?, image).ok()?;
+pub fn look(kind: u32, rule: u32, user: u32, name: &[u8], record: u32, image: &[u8]) -> Option<usize> {
+    let drive = Drive::read(Kind::told(kind)?, Rule::told(rule), image).ok()?;
     let user = u8::try_from(user).ok().filter(|&user| user <= 15)?;
     let name = Name::read(name)?;
     let block = drive.block(&File { user, name }, record)?;
@@ -62,11 +66,11 @@ pub fn look(kind: u32, user: u32, name: &[u8], record: u32, image: &[u8]) -> Opt
 }
 
 /// Writes the allocation vector of an image. A + 256·H; a refusal leaves the vector as it was.
-pub fn vector(kind: u32, image: &[u8], vector: &mut [u8]) -> u32 {
+pub fn vector(kind: u32, rule: u32, image: &[u8], vector: &mut [u8]) -> u32 {
     let Some(kind) = Kind::told(kind).filter(|kind| vector.len() == kind.vector()) else {
         return Answer::extended(13).word();
     };
-    let Ok(drive) = Drive::read(kind, image) else {
+    let Ok(drive) = Drive::read(kind, Rule::told(rule), image) else {
         return Answer::extended(1).word();
     };
     vector.copy_from_slice(&drive.vector());
@@ -75,7 +79,7 @@ pub fn vector(kind: u32, image: &[u8], vector: &mut [u8]) -> u32 {
 
 /// 0 mended, with what was done to each entry in the report; 1 wrong length or unknown kind, 2 a report of wrong
 /// length, both changing nothing.
-pub fn salvage(kind: u32, image: &mut [u8], report: &mut [u8]) -> u32 {
+pub fn salvage(kind: u32, rule: u32, image: &mut [u8], report: &mut [u8]) -> u32 {
     let length = image.len();
     let Some((kind, blocks)) = Kind::told(kind).and_then(|kind| Some((kind, kind.blocks_of(length)?))) else {
         return 1;
@@ -83,7 +87,8 @@ pub fn salvage(kind: u32, image: &mut [u8], report: &mut [u8]) -> u32 {
     if report.len() != kind.entries() {
         return 2;
     }
-    report.copy_from_slice(&salvage::mend(kind, blocks, &mut image[..kind.directory()]));
+    let mended = salvage::mend(kind, Rule::told(rule), blocks, &mut image[..kind.directory()]);
+    report.copy_from_slice(&mended);
     0
 }
 
@@ -103,7 +108,7 @@ fn packing_of(kind: u32, image: &[u8], list: &[u8], length: usize) -> Result<Vec
     if list.len() != LIST_LENGTH || length != image.len() {
         return Err(Answer::extended(13));
     }
-    let drive = Drive::read(kind, image).map_err(|_| Answer::extended(1))?;
+    let drive = Drive::read(kind, rule_of_image(list), image).map_err(|_| Answer::extended(1))?;
     let list = LockList::read(list, &drive).ok_or(Answer::extended(12))?;
     if list.holds_an_open() {
         return Err(Answer::extended(5));
@@ -111,13 +116,14 @@ fn packing_of(kind: u32, image: &[u8], list: &[u8], length: usize) -> Result<Vec
     Ok(packing::packed(kind, image))
 }
 
-/// 0 the two images hold the same book, 1 the first is unsound or the kind unknown, 2 the second is unsound, 3 they
-/// hold different books.
+/// By the rule of MP/M II: 0 the two images hold the same book, 1 the first is unsound or the kind unknown, 2 the
+/// second is unsound, 3 they hold different books.
 pub fn same(kind: u32, first: &[u8], second: &[u8]) -> u32 {
-    let Some(one) = Kind::told(kind).and_then(|kind| Drive::read(kind, first).ok()) else {
+    let read = |image| Drive::read(Kind::told(kind)?, Rule::MpmII, image).ok();
+    let Some(one) = read(first) else {
         return 1;
     };
-    let Some(other) = Kind::told(kind).and_then(|kind| Drive::read(kind, second).ok()) else {
+    let Some(other) = read(second) else {
         return 2;
     };
     match moved::book(&one, first) == moved::book(&other, second) {

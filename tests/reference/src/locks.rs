@@ -1,18 +1,20 @@
-//! The lock list as two maps: who has what open, and who holds which record. Beside them stands
-//! where each process's search goes on.
+//! The lock list as two maps: who has what open, and who holds which record. Beside them stand
+//! where each process's search goes on, and the rule of where a file ends.
 
-use crate::drive::{Drive, RECORD_LIMIT};
+use crate::drive::Drive;
 use crate::kind::Kind;
 use crate::name::{File, Name, HIGH_BIT};
+use crate::rule::Rule;
 use std::collections::{BTreeMap, BTreeSet};
 
-pub const LIST_LENGTH: usize = POSITIONS + PROCESSES;
+pub const LIST_LENGTH: usize = RULE + 1;
 pub const PROCESSES: usize = 16;
 
 const HEADER: usize = 19;
 const PLACES: usize = 64;
 const PLACE: usize = 20;
 const POSITIONS: usize = HEADER + PLACES * PLACE;
+const RULE: usize = POSITIONS + PROCESSES;
 const OPEN_MARK: [u8; 2] = [0x4F, 0x46];
 const LOCK_MARK: [u8; 2] = [0x4C, 0x52];
 const HIGHEST_USER: u8 = 15;
@@ -71,6 +73,12 @@ pub struct LockList {
     positions: [usize; PROCESSES],
     /// The position of a search that has come to its end.
     end: usize,
+    rule: Rule,
+}
+
+/// The rule by which an image beside this list is judged; the list has its length, and may be unsound.
+pub fn rule_of_image(list: &[u8]) -> Rule {
+    Rule::told(list[RULE].into())
 }
 
 fn limit(number: u32) -> Option<usize> {
@@ -84,6 +92,7 @@ impl LockList {
         capacity: u32,
         open_limit: u32,
         lock_limit: u32,
+        rule: u32,
         users: &[u8],
     ) -> Option<LockList> {
         let users: [u8; PROCESSES] = users.try_into().ok()?;
@@ -99,6 +108,7 @@ impl LockList {
             locks: BTreeMap::new(),
             positions: [kind.entries(); PROCESSES],
             end: kind.entries(),
+            rule: Rule::chosen(rule)?,
         })
     }
 
@@ -108,8 +118,8 @@ impl LockList {
             return None;
         }
         let [capacity, open_limit, lock_limit] = [0, 1, 2].map(|at| u32::from(bytes[at]));
-        let users = &bytes[3..HEADER];
-        let mut list = LockList::fresh(drive.kind(), capacity, open_limit, lock_limit, users)?;
+        let (rule, users) = (u32::from(bytes[RULE]), &bytes[3..HEADER]);
+        let mut list = LockList::fresh(drive.kind(), capacity, open_limit, lock_limit, rule, users)?;
         for (place, item) in bytes[HEADER..POSITIONS].chunks_exact(PLACE).enumerate() {
             list.take_in(place, item)?;
         }
@@ -126,7 +136,7 @@ impl LockList {
         let zero = item[15];
         let record = u32::from_le_bytes([item[16], item[17], item[18], item[19]]);
         let high_bits = name_bytes.iter().any(|byte| byte & HIGH_BIT != 0);
-        if place >= self.capacity || high_bits || zero != 0 || record >= RECORD_LIMIT {
+        if place >= self.capacity || high_bits || zero != 0 || record >= self.rule.record_limit() {
             return None;
         }
         let user = *self.users.get(usize::from(process))?;
@@ -178,6 +188,10 @@ impl LockList {
             let open = self.open(&file, lock.process);
             open.is_some_and(|open| open.mode == Mode::Unlocked) && drive.block(&file, record).is_some()
         })
+    }
+
+    pub fn rule(&self) -> Rule {
+        self.rule
     }
 
     pub fn user(&self, process: u8) -> u8 {
@@ -313,9 +327,10 @@ impl LockList {
             let item = item_bytes(LOCK_MARK, lock.process, file.name, Mode::Unlocked, record);
             put_item(&mut bytes, lock.place, &item);
         }
-        for (byte, position) in bytes[POSITIONS..].iter_mut().zip(self.positions) {
+        for (byte, position) in bytes[POSITIONS..RULE].iter_mut().zip(self.positions) {
             *byte = position as u8;
         }
+        bytes[RULE] = self.rule.number() as u8;
         bytes
     }
 }

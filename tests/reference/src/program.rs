@@ -2,13 +2,14 @@
 
 use crate::calls::{DMA_LENGTH, FCB_LENGTH};
 use crate::kind::Kind;
-use crate::locks::LIST_LENGTH;
+use crate::locks::{rule_of_image, LIST_LENGTH};
 use std::fmt::Write;
 
 pub const IMAGE_LIMIT: usize = 65_536;
 pub const START_MARK: [u8; 2] = [0x4D, 0x53];
 pub const CALL_MARK: [u8; 2] = [0x4D, 0x43];
-pub const START_LENGTH: usize = 21;
+pub const START_LENGTH: usize = 22;
+const RULE: usize = START_LENGTH - 1;
 pub const CALL_LENGTH: usize = 5 + FCB_LENGTH + DMA_LENGTH;
 
 struct BadRecord(usize);
@@ -38,7 +39,7 @@ fn run(image: &mut [u8], input: &[u8], lines: &mut String) -> Result<usize, BadR
     let (mut list, mut rest) = started(input).ok_or(BadRecord(0))?;
     // Where the image is not sound, every call is refused for that, whatever the vector.
     let mut vector = vec![0; Kind::First.vector()];
-    crate::vector(first_kind(), image, &mut vector);
+    crate::vector(first_kind(), rule_of_image(&list).number(), image, &mut vector);
     let mut calls = 0;
     while !rest.is_empty() {
         let record = rest.get(..CALL_LENGTH).ok_or(BadRecord(calls + 1))?;
@@ -68,7 +69,8 @@ fn started(input: &[u8]) -> Option<([u8; LIST_LENGTH], &[u8])> {
         capacity,
         open_limit,
         lock_limit,
-        &record[5..],
+        record[RULE].into(),
+        &record[5..RULE],
         &mut list,
     );
     (answer == 0).then_some((list, &input[START_LENGTH..]))

@@ -4,6 +4,7 @@
 use crate::drive::{file_and_extent, is_data_block, EMPTY};
 use crate::kind::{Kind, ENTRY};
 use crate::name::File;
+use crate::rule::Rule;
 use std::collections::{BTreeMap, BTreeSet};
 
 const UNTOUCHED: u8 = 0;
@@ -13,10 +14,10 @@ const MAP: usize = 16;
 /// Where the extents of each file stand.
 type Kept = BTreeMap<File, BTreeMap<u32, usize>>;
 
-/// Mends the directory of an image of so many blocks. What was done to each entry: 0 nothing, 255 emptied, else
-/// how many of its block numbers were zeroed.
-pub fn mend(kind: Kind, blocks: usize, directory: &mut [u8]) -> Vec<u8> {
-    let stays = slots_that_stay(directory);
+/// Mends the directory of an image of so many blocks, by this rule. What was done to each entry: 0 nothing, 255
+/// emptied, else how many of its block numbers were zeroed.
+pub fn mend(kind: Kind, rule: Rule, blocks: usize, directory: &mut [u8]) -> Vec<u8> {
+    let stays = slots_that_stay(rule, directory);
     let mut named = BTreeSet::new();
     let entries = directory.chunks_exact_mut(ENTRY).enumerate();
     entries
@@ -34,10 +35,10 @@ pub fn mend(kind: Kind, blocks: usize, directory: &mut [u8]) -> Vec<u8> {
 }
 
 /// The entries that are good by themselves, each the first of its file and extent, of files that have an extent 0.
-fn slots_that_stay(directory: &[u8]) -> BTreeSet<usize> {
+fn slots_that_stay(rule: Rule, directory: &[u8]) -> BTreeSet<usize> {
     let mut kept = Kept::new();
     for (slot, entry) in directory.chunks_exact(ENTRY).enumerate() {
-        if let Ok(Some((file, extent))) = file_and_extent(entry) {
+        if let Ok(Some((file, extent))) = file_and_extent(rule, entry) {
             kept.entry(file).or_default().entry(extent).or_insert(slot);
         }
     }

@@ -9,6 +9,8 @@ pub mpm-check-spec : {M : Type 1} → statement M
 mpm-check-spec =
     tie.close
     (tie.spec
+    -- told-rule-requires
+    (λ c κs. search needs)
     -- told-kind-requires
     (λ c κs. search needs)
     -- enum-known-told

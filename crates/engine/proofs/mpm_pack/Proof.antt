@@ -8,6 +8,8 @@ pub mpm-pack-spec : {M : Type 1} → statement M
 mpm-pack-spec =
     tie.close
     (tie.spec
+    -- rule-in-requires
+    (λ c κs. search needs)
     -- told-kind-requires
     (λ c κs. search needs)
     -- enum-known-told

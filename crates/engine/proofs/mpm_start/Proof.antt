@@ -8,11 +8,13 @@ pub mpm-start-spec : {M : Type 1} → statement M
 mpm-start-spec =
     tie.close
     (tie.spec
+    -- told-rule-requires
+    (λ c κs. search needs)
     -- told-kind-requires
     (λ c κs. search needs)
-    -- enum-told
+    -- enum-known-told
     (λ c. search needs)
-    -- enum-told-2
+    -- enum-told
     (λ c. search needs)
     -- returns
     (λ c. search (start-known, start-other))

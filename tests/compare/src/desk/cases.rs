@@ -6,6 +6,9 @@ use super::{packs, pairs, Case, What};
 use crate::random::Random;
 use reference::kind::Kind;
 
+/// Both rules, each by several numbers.
+const RULES: [u32; 6] = [0, 1, 1, 2, 256, 257];
+
 const UNKNOWN_KINDS: [u32; 5] = [2, 3, 255, 256, u32::MAX];
 
 pub struct Cases {
@@ -58,6 +61,7 @@ impl Cases {
         Case {
             what: What::Salvage,
             kind: kind.number(),
+            rule: self.random.pick(&RULES),
             buffers: vec![image, self.random.bytes(kind.entries())],
         }
     }

@@ -3,6 +3,7 @@
 use super::{packs, pairs, Case, Outcome, What};
 use crate::faults::{block_numbers, extent_number, image_faults, is_legal_name};
 use reference::kind::Kind;
+use reference::rule::Rule;
 use std::collections::{BTreeMap, BTreeSet};
 use std::fmt::Write;
 
@@ -79,7 +80,7 @@ fn strings(all: &[&str]) -> Vec<String> {
 
 // ---- Salvage ----
 
-const SALVAGED: [&str; 28] = [
+const SALVAGED: [&str; 29] = [
     "1 for a length of the other kind",
     "1 for a length that no kind has",
     "1 for a length before 2",
@@ -93,6 +94,7 @@ const SALVAGED: [&str; 28] = [
     "emptied for its name",
     "emptied for its ex",
     "emptied for its module",
+    "emptied for its module, by CP/M's rule",
     "emptied for its count",
     "emptied for an earlier extent",
     "emptied for its missing extent 0",
@@ -150,6 +152,7 @@ fn seen_of_salvage(case: &Case, outcome: &Outcome) -> BTreeSet<String> {
 /// The entries of an image before and after salvage.
 struct Salvaged<'a> {
     kind: Kind,
+    rule: Rule,
     blocks: usize,
     before: Vec<&'a [u8]>,
     after: Vec<&'a [u8]>,
@@ -159,6 +162,7 @@ fn seen_of_salvaged(kind: Kind, case: &Case, outcome: &Outcome) -> BTreeSet<Stri
     let (image, after) = (&case.buffers[0], &outcome.buffers[0]);
     let salvaged = Salvaged {
         kind,
+        rule: Rule::told(case.rule),
         blocks: image.len() / kind.block(),
         before: image[..kind.directory()].chunks(32).collect(),
         after: after[..kind.directory()].chunks(32).collect(),
@@ -167,7 +171,7 @@ fn seen_of_salvaged(kind: Kind, case: &Case, outcome: &Outcome) -> BTreeSet<Stri
         .iter()
         .map(|byte| format!("report {byte}"))
         .collect();
-    let sound = image_faults(kind, image).is_empty();
+    let sound = image_faults((kind, Rule::told(case.rule)), image).is_empty();
     seen.insert(
         if sound {
             "0 of a sound image"
@@ -196,12 +200,16 @@ fn is_same_file(one: &[u8], other: &[u8]) -> bool {
     one[0] == other[0] && (1..12).all(|i| (one[i] ^ other[i]) & 127 == 0)
 }
 
-fn why_bad(entry: &[u8]) -> Option<&'static str> {
+fn why_bad(rule: Rule, entry: &[u8]) -> Option<&'static str> {
     let tests = [
         (entry[0] > 15, "emptied for its user"),
         (!is_legal_name(&entry[1..12]), "emptied for its name"),
         (entry[12] > 31, "emptied for its ex"),
         (entry[14] > 63, "emptied for its module"),
+        (
+            rule == Rule::Cpm22 && entry[14] > 15,
+            "emptied for its module, by CP/M's rule",
+        ),
         (entry[15] > 128, "emptied for its count"),
     ];
     tests.iter().find(|(is_so, _)| *is_so).map(|(_, why)| *why)
@@ -252,10 +260,11 @@ impl Salvaged<'_> {
 
     fn why_emptied(&self, slot: usize) -> &'static str {
         let entry = self.before[slot];
-        if let Some(why) = why_bad(entry) {
+        if let Some(why) = why_bad(self.rule, entry) {
             return why;
         }
-        let is_good = |of: &usize| self.before[*of][0] != 0xE5 && why_bad(self.before[*of]).is_none();
+        let is_good =
+            |of: &usize| self.before[*of][0] != 0xE5 && why_bad(self.rule, self.before[*of]).is_none();
         if (0..slot)
             .filter(is_good)
             .any(|of| is_same_extent(self.before[of], entry))

@@ -154,7 +154,7 @@ impl Directory<'_> {
                 self.set(at, &[0, 31, b'?', 127, 128, b'?' | 128, b' '])
             }
             Harm::Ex => self.set(12, &[32, 33, 63, 128, 255]),
-            Harm::Module => self.set(14, &[64, 65, 128, 255]),
+            Harm::Module => self.set(14, &[16, 17, 63, 64, 65, 128, 255]),
             Harm::Count => self.set(15, &[129, 130, 192, 255]),
             Harm::OutOfRange => self.numbers_out_of_range(),
             Harm::NamedBefore => self.numbers_of_others(),

@@ -1,9 +1,17 @@
 //! The desk's functions of an engine linked into this program by its C symbols.
 
 use super::What;
+use crate::step::Told;
 
 extern "C" {
-    fn mpm_salvage(kind: u32, image: *mut u8, image_len: usize, report: *mut u8, report_len: usize) -> u32;
+    fn mpm_salvage(
+        kind: u32,
+        rule: u32,
+        image: *mut u8,
+        image_len: usize,
+        report: *mut u8,
+        report_len: usize,
+    ) -> u32;
 
     fn mpm_pack(
         kind: u32,
@@ -18,13 +26,15 @@ extern "C" {
     fn mpm_same(kind: u32, first: *const u8, first_len: usize, second: *const u8, second_len: usize) -> u32;
 }
 
-pub fn by_linked(what: What, kind: u32, buffers: &mut [&mut [u8]]) -> u32 {
+pub fn by_linked(what: What, told: Told, buffers: &mut [&mut [u8]]) -> u32 {
+    let Told { kind, rule } = told;
     // SAFETY: each pointer comes with the length of the slice it is taken from, and the slices are separate and stay
     // borrowed until the function returns.
     match (what, buffers) {
         (What::Salvage, [image, report]) => unsafe {
             mpm_salvage(
                 kind,
+                rule,
                 image.as_mut_ptr(),
                 image.len(),
                 report.as_mut_ptr(),

@@ -15,6 +15,7 @@ pub mod pipe;
 pub mod watch;
 pub mod wire;
 
+use crate::step::Told;
 use crate::table::Guarded;
 use std::fmt::Write;
 
@@ -54,12 +55,23 @@ impl What {
     }
 }
 
-/// A function with the kind that it is told and the buffers that it is lent.
+/// A function with the kind and the rule that it is told and the buffers that it is lent. Salvage alone is told a rule;
+/// of the others it is 0.
 #[derive(Clone, Debug, PartialEq, Eq)]
 pub struct Case {
     pub what: What,
     pub kind: u32,
+    pub rule: u32,
     pub buffers: Vec<Vec<u8>>,
+}
+
+impl Case {
+    pub fn told(&self) -> Told {
+        Told {
+            kind: self.kind,
+            rule: self.rule,
+        }
+    }
 }
 
 /// What a case has come to.
@@ -79,11 +91,11 @@ pub trait Desk {
 /// A desk of this process: a function on the buffers, which lie between guard bytes.
 pub struct Local<F>(pub F);
 
-impl<F: FnMut(What, u32, &mut [&mut [u8]]) -> u32> Desk for Local<F> {
+impl<F: FnMut(What, Told, &mut [&mut [u8]]) -> u32> Desk for Local<F> {
     fn serve(&mut self, case: &Case) -> Result<Outcome, String> {
         let mut guarded: Vec<Guarded> = case.buffers.iter().map(|bytes| Guarded::new(bytes)).collect();
         let mut lent: Vec<&mut [u8]> = guarded.iter_mut().map(Guarded::data_mut).collect();
-        let answer = (self.0)(case.what, case.kind, &mut lent);
+        let answer = (self.0)(case.what, case.told(), &mut lent);
         let broken = (0..).zip(&guarded).filter(|(_, buffer)| !buffer.guards_hold());
         Ok(Outcome {
             answer,
@@ -94,9 +106,10 @@ impl<F: FnMut(What, u32, &mut [&mut [u8]]) -> u32> Desk for Local<F> {
 }
 
 /// The reference on lent buffers.
-pub fn by_reference(what: What, kind: u32, buffers: &mut [&mut [u8]]) -> u32 {
+pub fn by_reference(what: What, told: Told, buffers: &mut [&mut [u8]]) -> u32 {
+    let Told { kind, rule } = told;
     match (what, buffers) {
-        (What::Salvage, [image, report]) => reference::salvage(kind, image, report),
+        (What::Salvage, [image, report]) => reference::salvage(kind, rule, image, report),
         (What::Pack, [image, list, packed]) => reference::pack(kind, image, list, packed),
         (What::Same, [first, second]) => reference::same(kind, first, second),
         _ => unreachable!("a case has the buffers of its function"),
@@ -116,9 +129,10 @@ pub fn difference(case: &Case, expected: &Outcome, got: &Result<Outcome, String>
         Ok(got) => got,
     };
     let mut text = format!(
-        "{} of kind {}: answer {}, expected {}\n",
+        "{} of kind {}, rule {}: answer {}, expected {}\n",
         case.what.title(),
         case.kind,
+        case.rule,
         got.answer,
         expected.answer
     );

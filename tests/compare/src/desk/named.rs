@@ -4,6 +4,9 @@ use super::{packs, pairs, Case, What};
 use crate::build::{empty_image_of, image_of, put_entry, Entry};
 use reference::kind::Kind;
 
+/// Numbers that tell a rule: 1, and all others the other one.
+const RULES: [u32; 6] = [0, 1, 2, 255, 256, 257];
+
 pub struct Named {
     pub title: String,
     pub case: Case,
@@ -46,6 +49,7 @@ fn salvage(kind: Kind) -> Vec<Named> {
         named: Vec::new(),
     };
     all.sound_ones();
+    all.by_each_rule();
     all.bad_in_themselves();
     all.twins();
     all.headless();
@@ -67,6 +71,7 @@ impl Salvages {
             case: Case {
                 what: What::Salvage,
                 kind,
+                rule: 0,
                 buffers: vec![image, report],
             },
         });
@@ -101,6 +106,25 @@ impl Salvages {
             image[32 * slot + 1..32 * slot + 32].fill(slot as u8);
         }
         self.image("bytes behind an E5h are left as they are", image);
+    }
+
+    /// Modules that are good by one rule alone, by every number that tells a rule.
+    fn by_each_rule(&mut self) {
+        for (module, rule) in [15, 16, 63]
+            .into_iter()
+            .flat_map(|module| RULES.map(|rule| (module, rule)))
+        {
+            let later = self.with(file("A"), &[5, 6]).with(14, module);
+            let image = image_of(
+                self.kind,
+                blocks(self.kind),
+                &[file("A"), later, self.with(file("B"), &[6])],
+            );
+            self.image(&format!("module {module} by rule {rule}"), image);
+            if let Some(last) = self.named.last_mut() {
+                last.case.rule = rule;
+            }
+        }
     }
 
     /// The block that the bad entry names is then free for the next one.

@@ -5,10 +5,10 @@ use super::books::some_book;
 use super::damaged::damage;
 use super::named::{blocks, Named};
 use super::{on_reference, Case, Outcome, What};
-use crate::build::{image_of, lock_item, open_item, put_entry, put_item, Entry, LIST, POSITIONS};
+use crate::build::{image_of, lock_item, open_item, put_entry, put_item, Entry, LIST, POSITIONS, RULE};
 use crate::damage::break_list;
 use crate::faults::{
-    block_numbers, extent_number, image_faults, items, list_faults, used_entries, Item, ListRule,
+    block_numbers, extent_number, image_faults, items, list_faults, rule_beside, used_entries, Item, ListRule,
 };
 use crate::random::Random;
 use reference::drive::EMPTY;
@@ -24,13 +24,14 @@ fn case(kind: u32, image: Vec<u8>, list: Vec<u8>, packed: Vec<u8>) -> Case {
     Case {
         what: What::Pack,
         kind,
+        rule: 0,
         buffers: vec![image, list, packed],
     }
 }
 
 pub fn fresh_list(kind: Kind, capacity: u32, users: [u8; 16]) -> Vec<u8> {
     let mut list = vec![0xAA; LIST];
-    let answer = reference::start(kind.number(), capacity, 64, 64, &users, &mut list);
+    let answer = reference::start(kind.number(), capacity, 64, 64, 0, &users, &mut list);
     assert_eq!(answer, 0, "a fresh list");
     list
 }
@@ -45,6 +46,9 @@ pub fn some_case(kind: Kind, random: &mut Random) -> Case {
     let mut list = some_list(kind, &image, random);
     if random.chance(6) {
         damage(kind, &mut image, random);
+    }
+    if random.chance(12) {
+        list[RULE] = 1;
     }
     if random.chance(2) {
         list = random.bytes(LIST);
@@ -437,7 +441,7 @@ fn seen_of_refusal(kind: Kind, case: &Case, answer: u32) -> Vec<&'static str> {
     let [image, list, packed] = &case.buffers[..] else {
         return Vec::new();
     };
-    let sound = image_faults(kind, image).is_empty();
+    let sound = image_faults((kind, rule_beside(list)), image).is_empty();
     let opens = list.len() >= 19
         && items(list)
             .iter()
@@ -626,7 +630,7 @@ pub fn fault(case: &Case, outcome: &Outcome) -> Option<&'static str> {
     let (image, packed) = (&case.buffers[0], &outcome.buffers[2]);
     let tests = [
         (
-            !image_faults(kind, packed).is_empty(),
+            !image_faults((kind, rule_beside(&case.buffers[1])), packed).is_empty(),
             "the packed book is not sound",
         ),
         (!entries_are_packed(kind, image, packed), "the entries are others"),

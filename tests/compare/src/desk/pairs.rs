@@ -22,6 +22,7 @@ fn case(kind: u32, first: Vec<u8>, second: Vec<u8>) -> Case {
     Case {
         what: What::Same,
         kind,
+        rule: 0,
         buffers: vec![first, second],
     }
 }

@@ -3,6 +3,7 @@
 use super::{on_reference, packs, pairs, Case, Outcome, What};
 use crate::faults::{block_numbers, image_faults};
 use reference::kind::Kind;
+use reference::rule::Rule;
 
 /// What is wrong with the outcome; None if nothing is.
 pub fn fault(case: &Case, outcome: &Outcome) -> Option<String> {
@@ -19,15 +20,16 @@ fn salvage_fault(case: &Case, outcome: &Outcome) -> Option<&'static str> {
         return (case.buffers != outcome.buffers).then_some("a refusal has changed something");
     }
     let kind = Kind::told(case.kind)?;
+    let judged_as = (kind, Rule::told(case.rule));
     let (before, after, report) = (&case.buffers[0], &outcome.buffers[0], &outcome.buffers[1]);
-    if !image_faults(kind, after).is_empty() {
+    if !image_faults(judged_as, after).is_empty() {
         return Some("the result is not sound");
     }
     let directory = kind.directory();
     if before[directory..] != after[directory..] {
         return Some("a block has changed");
     }
-    if image_faults(kind, before).is_empty() && before != after {
+    if image_faults(judged_as, before).is_empty() && before != after {
         return Some("a sound image has changed");
     }
     let entries = before[..directory].chunks(32).zip(after.chunks(32));

@@ -1,7 +1,7 @@
 //! Cases and outcomes as bytes: for the pipe, and for a case kept in a file. Numbers are little-endian and have four
 //! bytes.
 //!
-//! Case:    the function ('R' salvage, 'P' pack, 'M' same), kind, and for each of its buffers:
+//! Case:    the function ('R' salvage, 'P' pack, 'M' same), kind, rule, and for each of its buffers:
 //!          length, fill byte, runs
 //! Outcome: 'A', broken guards(1), answer, and for each buffer runs: what differs from the buffer as it was lent
 //! Runs:    as often as there are any: length (not 0), place, bytes; then a length of 0
@@ -61,6 +61,7 @@ fn put_runs(bytes: &[u8], fill: u8, out: &mut Vec<u8>) {
 pub fn put_case(case: &Case, out: &mut Vec<u8>) {
     out.push(tag(case.what));
     out.extend(case.kind.to_le_bytes());
+    out.extend(case.rule.to_le_bytes());
     for buffer in &case.buffers {
         let fill = buffer.last().copied().unwrap_or(0);
         put_number(buffer.len(), out);
@@ -107,7 +108,7 @@ pub fn get_case(from: &mut impl Read) -> io::Result<Case> {
     let first = get_byte(from)?;
     let what = What::ALL.into_iter().find(|what| tag(*what) == first);
     let what = what.ok_or(malformed("no such function"))?;
-    let kind = get_word(from)?;
+    let (kind, rule) = (get_word(from)?, get_word(from)?);
     let mut buffers = Vec::new();
     for _ in what.buffers() {
         let length = get_number(from)?;
@@ -118,7 +119,12 @@ pub fn get_case(from: &mut impl Read) -> io::Result<Case> {
         get_runs(&mut buffer, from)?;
         buffers.push(buffer);
     }
-    Ok(Case { what, kind, buffers })
+    Ok(Case {
+        what,
+        kind,
+        rule,
+        buffers,
+    })
 }
 
 /// The outcome of this case.

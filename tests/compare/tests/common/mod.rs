@@ -69,7 +69,7 @@ impl World {
 
     pub fn of_kind(kind: u32, image: Vec<u8>, numbers: [u32; 3], users: [u8; 16]) -> World {
         let mut list = vec![0xAA; LIST];
-        let answer = reference::start(kind, numbers[0], numbers[1], numbers[2], &users, &mut list);
+        let answer = reference::start(kind, numbers[0], numbers[1], numbers[2], 0, &users, &mut list);
         assert_eq!(answer, 0);
         World {
             kind,

@@ -379,6 +379,7 @@ fn position_0_is_unsound(done: &mut Done) {
 fn takes_the_old_list(done: &mut Done) {
     if done.before.list.len() == POSITIONS.start && done.answer == 255 + 256 * 13 {
         done.before.list.resize(POSITIONS.end, END as u8);
+        done.before.list.push(0);
         done.again_with(done.numbers);
         done.after.list.truncate(POSITIONS.start);
     }

@@ -94,6 +94,7 @@ pub unsafe extern "C" fn mpm_start(
     capacity: u32,
     open_limit: u32,
     lock_limit: u32,
+    rule: u32,
     users: *const u8,
     users_len: usize,
     list: *mut u8,
@@ -104,6 +105,7 @@ pub unsafe extern "C" fn mpm_start(
         capacity,
         open_limit,
         lock_limit,
+        rule,
         lent(users, users_len),
         lent_mut(list, list_len),
     )
@@ -114,19 +116,20 @@ pub unsafe extern "C" fn mpm_start(
 #[no_mangle]
 pub unsafe extern "C" fn mpm_vector(
     kind: u32,
+    rule: u32,
     image: *const u8,
     image_len: usize,
     vector: *mut u8,
     vector_len: usize,
 ) -> u32 {
-    reference::vector(kind, lent(image, image_len), lent_mut(vector, vector_len))
+    reference::vector(kind, rule, lent(image, image_len), lent_mut(vector, vector_len))
 }
 
 /// # Safety
 /// The image must be good for its length.
 #[no_mangle]
-pub unsafe extern "C" fn mpm_check(kind: u32, image: *const u8, image_len: usize) -> u32 {
-    reference::check(kind, lent(image, image_len))
+pub unsafe extern "C" fn mpm_check(kind: u32, rule: u32, image: *const u8, image_len: usize) -> u32 {
+    reference::check(kind, rule, lent(image, image_len))
 }
 
 /// # Safety
@@ -134,6 +137,7 @@ pub unsafe extern "C" fn mpm_check(kind: u32, image: *const u8, image_len: usize
 #[no_mangle]
 pub unsafe extern "C" fn mpm_look(
     kind: u32,
+    rule: u32,
     user: u32,
     name: *const u8,
     name_len: usize,
@@ -141,7 +145,14 @@ pub unsafe extern "C" fn mpm_look(
     image: *const u8,
     image_len: usize,
 ) -> u32 {
-    let found = reference::look(kind, user, lent(name, name_len), record, lent(image, image_len));
+    let found = reference::look(
+        kind,
+        rule,
+        user,
+        lent(name, name_len),
+        record,
+        lent(image, image_len),
+    );
     found.map_or(0, |at| at as u32)
 }
 
@@ -150,12 +161,18 @@ pub unsafe extern "C" fn mpm_look(
 #[no_mangle]
 pub unsafe extern "C" fn mpm_salvage(
     kind: u32,
+    rule: u32,
     image: *mut u8,
     image_len: usize,
     report: *mut u8,
     report_len: usize,
 ) -> u32 {
-    reference::salvage(kind, lent_mut(image, image_len), lent_mut(report, report_len))
+    reference::salvage(
+        kind,
+        rule,
+        lent_mut(image, image_len),
+        lent_mut(report, report_len),
+    )
 }
 
 /// # Safety

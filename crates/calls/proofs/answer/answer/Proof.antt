@@ -50,7 +50,11 @@ answer-spec =
     -- returns-3
     (λ c. search ends-refused)
     -- cast-serve-by
-    (λ c. omega (arith, few-processes _ _ _ _ _ _ _ _ _ (c .before .before .before .before .before .before .before .before .before .bad-lengths .ensures) (c .before .before .before .before .before .before .before .before .if1 .left)))
+    (λ c. omega (
+      arith,
+      few-processes _ _ _ _ _ _ _ _ _ (c .before .before .before .before .before .before .before .before .before .bad-lengths .ensures)
+          (c .before .before .before .before .before .before .before .before .if1 .left),
+    ))
     -- serve-by-requires
     (λ c κs.
     let e = c .before .before .before .before .before .before .before .before .before .before .before .before .before .before .bad-lengths .ensures in
@@ -78,12 +82,21 @@ answer-spec =
     (λ c. search needs)
     -- returns-4
     (λ c.
-    let e = c .before .before .before .before .before .before .before .before .before .before .before .before .before .before .before .before .before .before .before .before .before .before .before .before .before .bad-lengths .ensures in
-    let t = c .before .before .before .before .before .before .before .before .before .before .before .before .before .before .before .before .before .before .before .before .before .before .before .before .if1 .left in
-    let h = c .before .before .before .before .before .before .before .before .before .before .before .before .before .before .before .before .before .refusal .ensures in
+    let e = c .before .before .before .before .before .before .before .before .before .before .before .before .before .before .before .before .before
+    .before .before .before .before .before .before .before .before .bad-lengths .ensures in
+    let t = c .before .before .before .before .before .before .before .before .before .before .before .before .before .before .before .before .before
+    .before .before .before .before .before .before .before .if1 .left in
+    let h = c .before .before .before .before .before .before .before .before .before .before .before .before .before .before .before .before .before
+    .refusal .ensures in
     let y = c .before .before .before .before .before .before .before .before .before .before .before .before .before .before .before .before .if2 .left in
-    let q = c .before .before .before .before .before .before .before .before .before .before .before .before .before .before .before .before .before .before .before .before .before .before .before .before .before .before .before .before .before .before .before .before .before .routine-of .ensures in
-    let m = c .before .before .before .before .before .before .before .before .before .before .before .before .before .before .before .before .before .before .before .before .before .before .before .before .before .before .before .before .before .before .before .before .match in
-    let k = c .before .before .before .before .before .before .before .before .before .before .before .before .before .before .before .before .before .before .before .before .before .before .before .before .before .before .before .before .before .before .known-told .given in
-    let g = c .before .before .before .before .before .before .before .before .before .before .before .before .before .before .before .before .before .before .before .before .before .before .before .before .before .before .before .before .before .before .before .chosen .given in
-    ends-served _ _ _ _ _ _ _ _ e t _ h y _ _ _ _ (is-call _ _ _ q (search (m, k, g))) (c .before .before .before .before .before .before .before .before .before .before .serve-by .ensures)))
+    let q = c .before .before .before .before .before .before .before .before .before .before .before .before .before .before .before .before .before
+    .before .before .before .before .before .before .before .before .before .before .before .before .before .before .before .before .routine-of
+    .ensures in
+    let m = c .before .before .before .before .before .before .before .before .before .before .before .before .before .before .before .before .before
+    .before .before .before .before .before .before .before .before .before .before .before .before .before .before .before .match in
+    let k = c .before .before .before .before .before .before .before .before .before .before .before .before .before .before .before .before .before
+    .before .before .before .before .before .before .before .before .before .before .before .before .before .known-told .given in
+    let g = c .before .before .before .before .before .before .before .before .before .before .before .before .before .before .before .before .before
+    .before .before .before .before .before .before .before .before .before .before .before .before .before .before .chosen .given in
+    ends-served _ _ _ _ _ _ _ _ e t _ h y _ _ _ _ (is-call _ _ _ q (search (m, k, g))) (c .before .before .before .before .before .before .before .before
+    .before .before .serve-by .ensures)))

@@ -1,7 +1,5 @@
 -- `directory::entry::large_number` meets its contract.
 use borrow.Author.Needs.{needs}
-use mathlib.Core.Path.{refl}
-use Rattle.directory.proofs.Arms.{large-is}
 use Rattle.directory.proofs.entry.large_number.Statement.{statement}
 use Rattle.directory.proofs.entry.large_number.Tie as tie
 
@@ -17,4 +15,4 @@ large-number-spec =
     (λ c. search needs)
     (λ c. search needs)
     (λ c κs. search needs)
-    (λ c. (large-is _ _ _ _ _ refl (c .two-bytes .ensures .0), search needs)))
+    (λ c. search needs))

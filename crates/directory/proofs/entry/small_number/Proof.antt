@@ -1,6 +1,5 @@
 -- `directory::entry::small_number` meets its contract.
 use borrow.Author.Needs.{needs}
-use Rattle.directory.proofs.Arms.{small-is}
 use Rattle.directory.proofs.entry.small_number.Statement.{statement}
 use Rattle.directory.proofs.entry.small_number.Tie as tie
 
@@ -13,4 +12,4 @@ small-number-spec =
     (λ c. search needs)
     (λ c. search needs)
     (λ c κs. search needs)
-    (λ c. search (needs, small-is) depth 6))
+    (λ c. search needs))

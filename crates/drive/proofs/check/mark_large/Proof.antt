@@ -12,10 +12,11 @@ use Rattle.drive.proofs.check.mark_large.Statement.{statement}
 use Rattle.drive.proofs.check.mark_large.Tie as tie
 
 abbrev Inv-loop : tie.InvT-loop
-Inv-loop image e seen₀ m k₀ seen k = (k ≤ m) × (length seen ≡ length seen₀) × (all (isFirst Large image e) k ≡ true) × Marks Large 1 image e k seen
+Inv-loop rule image e seen₀ m k₀ seen k =
+    (k ≤ m) × (length seen ≡ length seen₀) × (all (isFirst (Large rule) image e) k ≡ true) × Marks (Large rule) 1 image e k seen
 
 abbrev μ-loop : tie.MeasureT-loop
-μ-loop image e seen₀ m k₀ seen k = m - k
+μ-loop rule image e seen₀ m k₀ seen k = m - k
 
 pub mark-large-spec : {M : Type 1} → statement M
 mark-large-spec =

@@ -10,10 +10,10 @@ use Rattle.drive.proofs.check.small_in_range.Statement.{statement}
 use Rattle.drive.proofs.check.small_in_range.Tie as tie
 
 abbrev Inv-loop : tie.InvT-loop
-Inv-loop image e n m k₀ k = (k ≤ m) × (all (inRange Small image e) k ≡ true)
+Inv-loop rule image e n m k₀ k = (k ≤ m) × (all (inRange (Small rule) image e) k ≡ true)
 
 abbrev μ-loop : tie.MeasureT-loop
-μ-loop image e n m k₀ k = m - k
+μ-loop rule image e n m k₀ k = m - k
 
 pub small-in-range-spec : {M : Type 1} → statement M
 small-in-range-spec =

@@ -33,7 +33,7 @@ sound-list-spec =
     (λ c κs. search needs)
     -- returns-6
     (λ c. search (sound-after, and-first, and-then, answers))
-    -- all-positions-requires
+    -- good-tail-requires
     (λ c κs. search needs)
     -- returns-7
     (λ c. search (sound-after, and-first, and-then, answers)))

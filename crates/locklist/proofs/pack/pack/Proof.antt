@@ -9,6 +9,8 @@ pack-spec =
     (tie.spec
     -- pack-places-requires
     (λ c κs. search packs)
+    -- tail-bytes-requires
+    (λ c κs. search packs)
     -- slice-aggregate-put-bytes
     (λ c. search packs)
     -- put-bytes-requires

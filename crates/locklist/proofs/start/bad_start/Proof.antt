@@ -22,7 +22,7 @@ bad-start-spec =
     (λ c κs. search needs)
     -- returns-3
     (λ c. search bads depth 10 fits 20000)
-    -- bad-buffers-requires
+    -- bad-rule-requires
     (λ c κs. search needs)
     -- returns-4
     (λ c. search bads depth 10 fits 20000))

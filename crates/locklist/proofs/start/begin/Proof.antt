@@ -21,6 +21,8 @@ begin-spec =
     (λ c. search needs)
     -- cast-t10
     (λ c. search needs)
+    -- cast-rule
+    (λ c. search needs)
     -- pack-requires
     (λ c κs. search needs)
     -- same-length

@@ -24,6 +24,8 @@ unpack-spec =
     (λ c. search placing)
     -- shared-slice-read-t12
     (λ c. search placing)
+    -- shared-slice-read-rule
+    (λ c. search placing)
     -- loop-holds
     (λ c. search placing)
     -- mul-at

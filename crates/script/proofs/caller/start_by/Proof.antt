@@ -20,6 +20,10 @@ start-by-spec =
     (λ c κs. search needs)
     -- cast-locks
     (λ c. search needs)
+    -- rule-number-requires
+    (λ c κs. search needs)
+    -- cast-rule
+    (λ c. search needs)
     -- users-in-requires
     (λ c κs. search needs)
     -- mpm-start-requires

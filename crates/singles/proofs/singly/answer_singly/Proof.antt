@@ -42,7 +42,8 @@ answer-singly-spec =
     -- call-each-requires
     (λ c κs.
     let e = c .before .before .before .before .before .before .before .before .before .before .before .before .before .serves-run .ensures in
-    let g = goes-each _ _ _ _ _ _ _ e (c .before .before .before .before .before .before .before .before .before .before .before .before .if1 .left) _ (c .before .before .before .before .before .before .general-refusal .ensures)
+    let g = goes-each _ _ _ _ _ _ _ e (c .before .before .before .before .before .before .before .before .before .before .before .before .if1 .left) _ (c
+    .before .before .before .before .before .before .general-refusal .ensures)
     (c .before .before .before .before .before .if2 .left) in
     (search not-yes, g .0 .ready .fcb-long, g .0 .ready .dma-long, g .0 .run-fits, g .1))
     -- same-length-11

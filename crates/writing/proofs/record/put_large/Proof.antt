@@ -1,5 +1,4 @@
 -- `writing::record::put_large` meets its contract.
-use Rattle.writing.proofs.Entries.{large-put}
 use borrow.Author.Needs.{needs}
 use Rattle.writing.proofs.record.put_large.Statement.{statement}
 use Rattle.writing.proofs.record.put_large.Tie as tie
@@ -27,4 +26,4 @@ put-large-spec =
     -- same-length
     (λ c. search needs)
     -- returns
-    (λ c. search large-put))
+    (λ c. search needs))

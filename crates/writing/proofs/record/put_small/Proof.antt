@@ -1,6 +1,5 @@
 -- `writing::record::put_small` meets its contract.
 use borrow.Author.Needs.{needs}
-use Rattle.writing.proofs.Entries.{small-put}
 use Rattle.writing.proofs.record.put_small.Statement.{statement}
 use Rattle.writing.proofs.record.put_small.Tie as tie
 
@@ -15,4 +14,4 @@ put-small-spec =
     (λ c. search needs)
     (λ c κs. search needs)
     (λ c. search needs)
-    (λ c. search small-put))
+    (λ c. search needs))
