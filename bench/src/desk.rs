@@ -24,7 +24,14 @@ const PACK_COPIES: f64 = 3.0;
 const SAME_COMPARISONS: f64 = 3.0;
 
 extern "C" {
-    fn plain_salvage(kind: u32, image: *mut u8, image_len: usize, report: *mut u8, report_len: usize) -> u32;
+    fn plain_salvage(
+        kind: u32,
+        rule: u32,
+        image: *mut u8,
+        image_len: usize,
+        report: *mut u8,
+        report_len: usize,
+    ) -> u32;
 
     fn plain_pack(
         kind: u32,
@@ -171,23 +178,22 @@ fn salvages(kind: Kind, rounds: usize) -> Vec<Row> {
         let image = image_of(kind, drive.blocks, &entries);
         let ready = || vec![(image.clone(), vec![0; kind.entries()]); BOOKS];
         let engine = quickest(rounds, ready, |(image, report): &mut (Vec<u8>, Vec<u8>)| {
-            std::hint::black_box(by_linked(
-                What::Salvage,
-                told(kind.number()),
-                &mut [image, report],
-            ));
+            let answer = by_linked(What::Salvage, told(kind.number()), &mut [image, report]);
+            assert_eq!(std::hint::black_box(answer), 0, "salvage is done");
         });
         let plain = quickest(rounds, ready, |(image, report): &mut (Vec<u8>, Vec<u8>)| {
             // SAFETY: each pointer comes with the length of the slice it is taken from, and the slices are separate.
-            std::hint::black_box(unsafe {
+            let answer = unsafe {
                 plain_salvage(
                     kind.number(),
+                    0,
                     image.as_mut_ptr(),
                     image.len(),
                     report.as_mut_ptr(),
                     report.len(),
                 )
-            });
+            };
+            assert_eq!(std::hint::black_box(answer), 0, "salvage is done");
         });
         Row {
             what: format!("{}: {what}", kind_title(kind)),
@@ -267,7 +273,7 @@ fn packs(filling: Filling, drive: Drive, rounds: usize) -> Row {
         || books.clone(),
         |image| {
             // SAFETY: each pointer comes with the length of the slice it is taken from, and the slices are separate.
-            std::hint::black_box(unsafe {
+            let answer = unsafe {
                 plain_pack(
                     kind,
                     image.as_mut_ptr(),
@@ -277,7 +283,8 @@ fn packs(filling: Filling, drive: Drive, rounds: usize) -> Row {
                     packed.as_mut_ptr(),
                     packed.len(),
                 )
-            });
+            };
+            assert_eq!(std::hint::black_box(answer), 0, "a sound book");
         },
     );
     Row {
@@ -335,9 +342,9 @@ fn pairs(filling: Filling, drive: Drive, rounds: usize) -> Row {
     });
     let plain = quickest(rounds, ready, |(one, other)| {
         // SAFETY: each pointer comes with the length of the slice it is taken from, and the slices are separate.
-        std::hint::black_box(unsafe {
-            plain_same(kind, one.as_mut_ptr(), one.len(), other.as_mut_ptr(), other.len())
-        });
+        let answer =
+            unsafe { plain_same(kind, one.as_mut_ptr(), one.len(), other.as_mut_ptr(), other.len()) };
+        assert_eq!(std::hint::black_box(answer), 0, "one book");
     });
     Row {
         what: title(filling, drive),
