@@ -36,11 +36,16 @@ build() { # CARGO'S WORDS..
         cargo build --quiet --release --offline -j2 --manifest-path "$here/Cargo.toml" --target-dir "$work/cargo" "$@"
 }
 
-# The version in the header that lies beside an archive. Those from before it was left there are of version 2.
+# The version in the header that lies beside an archive. Those from before it was left there are of version 2; a header
+# that does not tell is of version 1.
 version_of() { # ARCHIVE
     local header=${1%.a}.h
     if [ ! -f "$header" ]; then
         echo 2
+        return
+    fi
+    if ! grep -q '^#define MPM_VERSION ' "$header"; then
+        echo 1
         return
     fi
     sed -n 's/^#define MPM_VERSION \([0-9]*\)u$/\1/p' "$header"

@@ -115,12 +115,14 @@ fn pairs(filling: Filling, drive: Drive, rounds: usize) -> Vec<Pair> {
 /// The check, the calls of each function, and where a file has sixteen records each run of so many.
 fn works(shelf: &Shelf) -> Vec<Work> {
     let mut works = vec![Work::Check];
-    let of_functions = FUNCTIONS.map(|(function, _)| shelf.calls(function)).into_iter();
-    let known = of_functions.filter(|calls| is_known(&mut Trial::new(&shelf.books[0]), &calls[0]));
-    works.extend(known.map(Work::Calls));
+    let mut calls: Vec<Vec<Call>> = FUNCTIONS.map(|(function, _)| shelf.calls(function)).into();
     if shelf.filling.has_sixteen(shelf.drive) {
-        works.extend(BY_RECORDS.map(|function| Work::Calls(shelf.runs((function, 0, MOST)))));
+        calls.extend(BY_RECORDS.map(|function| shelf.runs((function, 0, MOST))));
     }
+    let known = calls
+        .into_iter()
+        .filter(|calls| is_known(&mut Trial::new(&shelf.books[0]), &calls[0]));
+    works.extend(known.map(Work::Calls));
     works
 }
 

@@ -2,6 +2,7 @@
 
 use compare::build::{lock_item, open_item, put_entry, put_item, Entry, Fcb, LIST, POSITIONS};
 use compare::faults::vector_of;
+use compare::hints::{most_of_one_slot, names_in, SLOTS};
 use compare::random::Random;
 use reference::calls::DMA_LENGTH;
 use reference::kind::{Kind, ENTRY};
@@ -11,6 +12,8 @@ const LOCKED_FILE: usize = 0;
 const SECOND_FILE: usize = 1;
 const CALLER: u8 = 1;
 const STRANGER: u8 = 9;
+/// The user of all processes and files.
+const USER: u8 = 0;
 
 /// How a book is filled.
 #[derive(Clone, Copy, PartialEq, Eq)]
@@ -20,14 +23,18 @@ pub enum Filling {
     FullDirectory,
     FullList,
     BothFull,
+    /// As both full, with names by chance that fall into one slot of the engine's: its hints save it nothing, and most
+    /// names differ in their first byte, which is best for an engine without hints that stops at a difference.
+    OneSlot,
 }
 
-pub const FILLINGS: [Filling; 5] = [
+pub const FILLINGS: [Filling; 6] = [
     Filling::Empty,
     Filling::Typical,
     Filling::FullDirectory,
     Filling::FullList,
     Filling::BothFull,
+    Filling::OneSlot,
 ];
 
 #[derive(Clone, Copy, PartialEq, Eq)]
@@ -110,6 +117,7 @@ impl Filling {
             Filling::FullDirectory => "full directory",
             Filling::FullList => "full list",
             Filling::BothFull => "both full",
+            Filling::OneSlot => "one slot",
         }
     }
 
@@ -121,6 +129,9 @@ impl Filling {
             Filling::FullDirectory => format!("{files} files of {used} blocks, 6 opens, 10 locks"),
             Filling::FullList => format!("{files} files of five blocks, 24 opens, 40 locks"),
             Filling::BothFull => format!("{files} files of {used} blocks, 24 opens, 40 locks"),
+            Filling::OneSlot => {
+                format!("{files} files of {used} blocks, 24 opens, 40 locks, all names in one slot")
+            }
         }
     }
 
@@ -128,16 +139,19 @@ impl Filling {
         match self {
             Filling::Empty => 0,
             Filling::Typical | Filling::FullList => 12,
-            Filling::FullDirectory | Filling::BothFull => kind.entries(),
+            Filling::FullDirectory | Filling::BothFull | Filling::OneSlot => kind.entries(),
         }
     }
 
     fn is_directory_full(self) -> bool {
-        matches!(self, Filling::FullDirectory | Filling::BothFull)
+        matches!(
+            self,
+            Filling::FullDirectory | Filling::BothFull | Filling::OneSlot
+        )
     }
 
     fn is_list_full(self) -> bool {
-        matches!(self, Filling::FullList | Filling::BothFull)
+        matches!(self, Filling::FullList | Filling::BothFull | Filling::OneSlot)
     }
 
     /// The file with the locks has sixteen records there.
@@ -162,9 +176,9 @@ impl Book {
         0..self.kind.directory()
     }
 
-    /// Where the blocks of a file of user 0 lie, as the directory tells now.
+    /// Where the blocks of a file lie, as the directory tells now.
     pub fn blocks_of(&self, name: &[u8]) -> Vec<Range<usize>> {
-        let is_of = |entry: &&[u8]| entry[0] == 0 && &entry[1..12] == name;
+        let is_of = |entry: &&[u8]| entry[0] == USER && &entry[1..12] == name;
         let entries = self.image[self.directory()].chunks_exact(ENTRY).filter(is_of);
         let numbers = entries.flat_map(|entry| self.kind.numbers(&entry[16..]));
         let block = self.kind.block();
@@ -188,11 +202,22 @@ pub struct Call {
 }
 
 pub fn book(filling: Filling, drive: Drive, random: &mut Random) -> Book {
-    let names = names(filling.files(drive.kind), random);
+    let files = filling.files(drive.kind);
+    let names = match filling {
+        Filling::OneSlot => names_in(random.below(SLOTS), (USER, 0), b"", files, random),
+        _ => names(files, random),
+    };
     let owners = owners(filling, drive);
     let order = order(filling, drive, owners.len(), random);
     let records = records(drive.kind, &owners);
     let image = image(drive, &names, &owners, &order, random);
+    if filling == Filling::OneSlot {
+        assert_eq!(
+            most_of_one_slot(drive.kind, &image),
+            files,
+            "all entries in one slot"
+        );
+    }
     Book {
         kind: drive.kind,
         list: list(filling, drive.kind, &names, records),
@@ -250,7 +275,7 @@ fn image(drive: Drive, names: &[[u8; 11]], owners: &[usize], order: &[u16], rand
     let mut image = vec![0xE5; kind.block() * drive.blocks];
     let data = image.len() - kind.directory();
     image[kind.directory()..].copy_from_slice(&random.bytes(data));
-    let mut entries: Vec<Entry> = names.iter().map(|&name| Entry::of(0, name, 0)).collect();
+    let mut entries: Vec<Entry> = names.iter().map(|&name| Entry::of(USER, name, 0)).collect();
     let mut used = vec![0; names.len()];
     for (&file, &block) in owners.iter().zip(order) {
         entries[file] = entries[file].block_of(kind, used[file], block);

@@ -2,9 +2,7 @@
    compiled to call these for the engine's functions, the plain side too, so that only the reference
    can tell. */
 
-typedef unsigned char u8;
-typedef unsigned int u32;
-typedef __SIZE_TYPE__ size;
+#include "wrong_call.h"
 
 #define TAKES_AN_UNKNOWN_KIND_AS_1 1
 #define TAKES_THE_KIND_FROM_THE_LENGTH 2
@@ -25,20 +23,6 @@ typedef __SIZE_TYPE__ size;
 
 enum { SEARCH_FIRST = 17, SEARCH_NEXT = 18, NO_MATCH = 255, POSITIONS = 1299 };
 enum { WRITE_ZEROS = 40, FREE_SPACE = 46, BLOCK = 2048, RECORD = 128, LEAST = 257, MOST = 4096 };
-
-typedef u32 call(u32 kind, u32 function, u32 process, u32 count, u8 *fcb, size fcb_len, u8 *dma,
-                 size dma_len, u8 *list, size list_len, u8 *image, size image_len, u8 *vector,
-                 size vector_len);
-typedef u32 start(u32 kind, u32 capacity, u32 open_limit, u32 lock_limit, u32 rule,
-                  const u8 *users, size users_len, u8 *list, size list_len);
-typedef u32 check(u32 kind, u32 rule, const u8 *image, size image_len);
-typedef u32 look(u32 kind, u32 rule, u32 user, const u8 *name, size name_len, u32 record,
-                 const u8 *image, size image_len);
-
-call mpm_call, mpm_singly, wrong_call, wrong_singly;
-start mpm_start, wrong_start;
-check mpm_check, wrong_check;
-look mpm_look, wrong_look;
 
 /* The kind and the length that the engine takes for those told. */
 static u32 taken_kind(u32 kind, size image_len) {
@@ -106,20 +90,6 @@ static u32 make(call *real, u32 kind, u32 function, u32 process, u32 count, u8 *
     end_search_at_64(kind, function, process, answer, list);
 #endif
     return answer;
-}
-
-u32 wrong_call(u32 kind, u32 function, u32 process, u32 count, u8 *fcb, size fcb_len, u8 *dma,
-               size dma_len, u8 *list, size list_len, u8 *image, size image_len, u8 *vector,
-               size vector_len) {
-    return make(mpm_call, kind, function, process, count, fcb, fcb_len, dma, dma_len, list,
-                list_len, image, image_len, vector, vector_len);
-}
-
-u32 wrong_singly(u32 kind, u32 function, u32 process, u32 count, u8 *fcb, size fcb_len, u8 *dma,
-                 size dma_len, u8 *list, size list_len, u8 *image, size image_len, u8 *vector,
-               size vector_len) {
-    return make(mpm_singly, kind, function, process, count, fcb, fcb_len, dma, dma_len, list,
-                list_len, image, image_len, vector, vector_len);
 }
 
 u32 wrong_start(u32 kind, u32 capacity, u32 open_limit, u32 lock_limit, u32 rule,

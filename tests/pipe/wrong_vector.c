@@ -2,9 +2,7 @@
    are compiled to call wrong_call for mpm_call, wrong_singly for mpm_singly and wrong_vector for mpm_vector. The plain
    side has the same fault, so that only what the engine is compared with can tell. */
 
-typedef unsigned char u8;
-typedef unsigned int u32;
-typedef __SIZE_TYPE__ size;
+#include "wrong_call.h"
 
 #define LOW_BIT_FIRST 1
 #define SETS_BITS_FROM_N_ON 2
@@ -33,13 +31,6 @@ enum { DELETE = 19, WRITE = 34, WRITE_ZEROS = 40, FREE_SPACE = 46, TERMINATE = 1
 enum { BAD_IMAGE = 255 + 256, BAD_DRIVE = 255 + 256 * 4, BAD_LIST = 255 + 256 * 12 };
 enum { BAD_CALL = 255 + 256 * 13, BAD_VECTOR = 255 + 256 * 14 };
 enum { SMALL = 32, LARGE = 512, LIST = 1316, RULE = 1315 };
-
-typedef u32 call(u32 kind, u32 function, u32 process, u32 count, u8 *fcb, size fcb_len, u8 *dma, size dma_len, u8 *list,
-                 size list_len, u8 *image, size image_len, u8 *vector, size vector_len);
-typedef u32 build(u32 kind, u32 rule, const u8 *image, size image_len, u8 *vector, size vector_len);
-
-call mpm_call, mpm_singly, wrong_call, wrong_singly;
-build mpm_vector, wrong_vector;
 
 /* What a call was lent, and the vector as it was. */
 struct lent {
@@ -181,18 +172,6 @@ static u32 make(call *real, u32 kind, u32 function, u32 process, u32 count, u8 *
     answer = answered(&c, answer);
     leave(&c, answer);
     return answer;
-}
-
-u32 wrong_call(u32 kind, u32 function, u32 process, u32 count, u8 *fcb, size fcb_len, u8 *dma, size dma_len, u8 *list,
-               size list_len, u8 *image, size image_len, u8 *vector, size vector_len) {
-    return make(mpm_call, kind, function, process, count, fcb, fcb_len, dma, dma_len, list, list_len, image, image_len,
-                vector, vector_len);
-}
-
-u32 wrong_singly(u32 kind, u32 function, u32 process, u32 count, u8 *fcb, size fcb_len, u8 *dma, size dma_len,
-                 u8 *list, size list_len, u8 *image, size image_len, u8 *vector, size vector_len) {
-    return make(mpm_singly, kind, function, process, count, fcb, fcb_len, dma, dma_len, list, list_len, image,
-                image_len, vector, vector_len);
 }
 
 u32 wrong_vector(u32 kind, u32 rule, const u8 *image, size image_len, u8 *vector, size vector_len) {

@@ -12,7 +12,8 @@ use Rattle.words.specs.Tests.{_and_, _or_, _if_else_}
 use Rattle.words.specs.Tables.{firstOf}
 use Rattle.words.proofs.Tests.{either, or-fst, or-snd}
 use Rattle.rules.specs.declared.routine.Routine.{Routine}
-use Rattle.rules.specs.declared.routine.Routine.the-variants.{Open, Close, SearchFirst, SearchNext, Delete, Make, Rename, Read, Write, Size, WriteZeros, TestWrite, Lock, Unlock, FreeSpace, Terminate}
+use Rattle.rules.specs.declared.routine.Routine.the-variants.{Open, Close, SearchFirst, SearchNext, Delete, Make, Rename, Read, Write, Size, WriteZeros}
+use Rattle.rules.specs.declared.routine.Routine.the-variants.{TestWrite, Lock, Unlock, FreeSpace, Terminate}
 use Rattle.rules.specs.declared.routine.Chosen.{Chosen}
 use Rattle.rules.specs.declared.routine.Chosen.the-variants.{Call, Unknown}
 use Rattle.rules.specs.Serves.{Buffers, outcome, functionOf, chosen, isUnknown}

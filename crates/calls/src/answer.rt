@@ -45,11 +45,11 @@ pub fn answer(
     ) {
         return BAD_CALL;
     }
-    let l = unpack(&*list);
-    let code = refusal(kind, function, routine, l, &*fcb, &*list, &*image, &*vector);
+    let code = refusal(kind, function, routine, &*fcb, &*list, &*image, &*vector);
     if code != 0 {
         return code;
     }
+    let l = unpack(&*list);
     serve_by(
         kind,
         several,
@@ -97,14 +97,5 @@ pub fn general_refusal(
     ) {
         return BAD_CALL;
     }
-    refusal(
-        kind,
-        function,
-        routine,
-        unpack(list),
-        fcb,
-        list,
-        image,
-        vector,
-    )
+    refusal(kind, function, routine, fcb, list, image, vector)
 }

@@ -6,8 +6,10 @@ use rules::code::BAD_LIST;
 use rules::code::BAD_VECTOR;
 use rules::kind::Kind;
 use rules::kind::vector_size;
-use rules::list::LockList;
 use rules::routine::Routine;
+use rules::size::DMA_SIZE;
+use rules::size::FCB_SIZE;
+use rules::size::LIST_SIZE;
 use words::compare::same;
 ghost use mathlib.Core.Path.{_≡_};
 ghost use mathlib.Core.Bool.{true, false};
@@ -15,7 +17,6 @@ ghost use lib.ListN.{length, replicate};
 ghost use Rattle.words.specs.Tables.{firstOf};
 ghost use Rattle.rules.specs.Serves.{chosen};
 ghost use Rattle.rules.specs.declared.routine.Chosen.the-variants.{Call};
-ghost use Rattle.rules.specs.Locks.{unpack};
 ghost use Rattle.rules.specs.Kinds.{vectorSize};
 ghost use Rattle.rules.specs.Codes.{badNumbers, badDrive};
 ghost use Rattle.calls.specs.Drives.{readsDrive};
@@ -43,13 +44,13 @@ pub fn bad_numbers(
     if 16 < count {
         return true;
     }
-    if fcb.len() != 36 {
+    if fcb.len() != FCB_SIZE {
         return true;
     }
-    if dma.len() != 2048 {
+    if dma.len() != DMA_SIZE {
         return true;
     }
-    list.len() != 1316
+    list.len() != LIST_SIZE
 }
 
 // The same, or a vector of wrong length.
@@ -108,27 +109,26 @@ fn bad_drive(function: u32, routine: Routine, fcb: &[u8]) -> bool
     reads_drive(routine)
 }
 
-// The code of the first refusal that all calls share once the numbers are good, or 0; `l` is the list, unpacked; the vector of the
-// image is built in `seen`, all zeros before.
+// The code of the first refusal that all calls share once the numbers are good, or 0; the vector of the image is built in `seen`,
+// all zeros before.
 fn refusal_in(
     kind: Kind,
     function: u32,
     routine: Routine,
-    l: LockList,
     fcb: &[u8],
     list: &[u8],
     image: &[u8],
     vector: &[u8],
     seen: &mut [u8],
 ) -> u32
-    requires { ⌜ (chosen function ≡ Call routine) × (l ≡ unpack (now list)) × (length (now fcb) ≡ 36) × (length (now list) ≡ 1316) × (length (now vector) ≡ vectorSize kind) × (now seen ≡ replicate (vectorSize kind) 0) ⌝ }
+    requires { ⌜ (chosen function ≡ Call routine) × (length (now fcb) ≡ 36) × (length (now list) ≡ 1316) × (length (now vector) ≡ vectorSize kind) × (now seen ≡ replicate (vectorSize kind) 0) ⌝ }
     ensures { λ c. ⌜ c ≡ firstOf (rowsWithin kind function (now (fcb .entry)) (now (list .entry)) (now (image .entry)) (now (vector .entry))) ⌝ }
 {
     let mut hints = [255u8; 256];
     if !sound_vector(kind, image, &mut *seen, &mut hints) {
         return BAD_IMAGE;
     }
-    if !sound_list(kind, l, list, image, &hints) {
+    if !sound_list(kind, list, image, &hints) {
         return BAD_LIST;
     }
     if !same(vector, &*seen) {
@@ -145,13 +145,12 @@ pub fn refusal(
     kind: Kind,
     function: u32,
     routine: Routine,
-    l: LockList,
     fcb: &[u8],
     list: &[u8],
     image: &[u8],
     vector: &[u8],
 ) -> u32
-    requires { ⌜ (chosen function ≡ Call routine) × (l ≡ unpack (now list)) × (length (now fcb) ≡ 36) × (length (now list) ≡ 1316) × (length (now vector) ≡ vectorSize kind) ⌝ }
+    requires { ⌜ (chosen function ≡ Call routine) × (length (now fcb) ≡ 36) × (length (now list) ≡ 1316) × (length (now vector) ≡ vectorSize kind) ⌝ }
     ensures { λ c. ⌜ c ≡ firstOf (rowsWithin kind function (now (fcb .entry)) (now (list .entry)) (now (image .entry)) (now (vector .entry))) ⌝ }
 {
     let mut seen = [0u8; 512];
@@ -160,7 +159,6 @@ pub fn refusal(
         kind,
         function,
         routine,
-        l,
         fcb,
         list,
         image,

@@ -64,13 +64,15 @@ use Rattle.history.specs.Demands.{NoTrace, Demand1, Demand2}
 use Rattle.claims.specs.Five.{FiveEngine, OfRule, fiveOf, four}
 use Rattle.claims.proofs.Five.{four-serves, vector-claims}
 use Rattle.claims.proofs.Rules.{sound-zero, packed-rule, rule-claims}
-use Rattle.claims.specs.Claims.{BuildClaims, Claims, KeepsContract, Refuses, ToldClaims, TheSession, LookClaims, CheckClaims, SizeClaims, SalvageClaims, PackClaims, SameClaims, AllClaims}
+use Rattle.claims.specs.Claims.{BuildClaims, Claims, KeepsContract, Refuses, ToldClaims, TheSession, LookClaims, CheckClaims, SizeClaims, SalvageClaims}
+use Rattle.claims.specs.Claims.{PackClaims, SameClaims, AllClaims}
 use Rattle.history.proofs.First.{leaves-no-trace, counted-possible, fewer-possible}
 use Rattle.history.proofs.Alike.{meets-third}
 use Rattle.history.proofs.Unlocks.{unlock-order}
 use Rattle.history.proofs.Sizing.{nobody-turned-away}
 use Rattle.history.proofs.Sized.{size-most, size-told, run-kept}
-use Rattle.claims.proofs.Wrong.{refusing-differs, accepting-differs, idle-differs, not-idle, not-pretending, made-up-differs, not-made-up, not-unbitted, not-lavish, not-promoting}
+use Rattle.claims.proofs.Wrong.{refusing-differs, accepting-differs, idle-differs, not-idle, not-pretending, made-up-differs, not-made-up, not-unbitted}
+use Rattle.claims.proofs.Wrong.{not-lavish, not-promoting}
 
 -- ---- of an engine that serves as the rules do
 

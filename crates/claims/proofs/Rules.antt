@@ -17,7 +17,8 @@ use Rattle.rules.specs.declared.kind.Kind.{Kind}
 use Rattle.rules.specs.declared.kind.Kind.the-variants.{Small, Large}
 use Rattle.rules.specs.declared.file.File.{File}
 use Rattle.rules.specs.Kinds.{toldRule, ruleOf, withRule, highest, moduleOf, top, lastModule, blockSize, fewest, most, entries, numbers, width}
-use Rattle.rules.specs.Drive.{blocks, goodLength, isEmpty, entryByte, extentAt, isOf, isEntry, entryOf, blockIn, blockOf, mapNumber, isNumbered, holdsNumber, namesBlock, inRange, namedBefore, isFirst, isRepeat, goodNumbers, goodFields, goodEntry, hasFirst, soundDirectory, soundImage}
+use Rattle.rules.specs.Drive.{blocks, goodLength, isEmpty, entryByte, extentAt, isOf, isEntry, entryOf, blockIn, blockOf, mapNumber, isNumbered, holdsNumber}
+use Rattle.rules.specs.Drive.{namesBlock, inRange, namedBefore, isFirst, isRepeat, goodNumbers, goodFields, goodEntry, hasFirst, soundDirectory, soundImage}
 use Rattle.packing.specs.Packed.{usedEntries, walk, newNumber, newMap, movedEntry, movedBlock, packedDirectory, packedBlocks, packed}
 use Rattle.rules.specs.Locks.{ruleAt, unpack, isRule, soundList}
 use Rattle.rules.specs.Asks.{recordOf}

@@ -25,7 +25,8 @@ use Rattle.history.specs.Deeds.{tells, deed}
 use Rattle.history.specs.Held.{sameItem}
 use Rattle.history.specs.Groups.{Group, groupsBelow, groupsOf, countedAfter}
 use Rattle.history.specs.Demands.{Demand2, Demand3, itemsOf, groupsBy, isItemAt, figureIn}
-use Rattle.claims.specs.Wrong.{refusing, accepting, unstored, idle, pretending, butAfter, figured, madeUp, unbitted, unlimited, lavish, promoted, isWriting, promoting}
+use Rattle.claims.specs.Wrong.{refusing, accepting, unstored, idle, pretending, butAfter, figured, madeUp, unbitted, unlimited, lavish, promoted}
+use Rattle.claims.specs.Wrong.{isWriting, promoting}
 use Rattle.history.proofs.Opened.{history, listed}
 
 -- ---- the session's beginning, and calls of it

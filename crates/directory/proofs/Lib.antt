@@ -2,3 +2,4 @@
 pub mod Arms
 pub mod Places
 pub mod Looking
+pub mod Runs

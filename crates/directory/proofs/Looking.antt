@@ -10,7 +10,8 @@ use borrow.Author.Needs.{needs}
 use borrow.Author.Tests.{ltb-true, ltb-false, lt-ltb, le-ltb, leb-true, leb-false, eqb-true, eqb-false, not-true, not-false}
 use Rattle.words.specs.Tests.{_and_, _if_else_, greatest, lowestOr}
 use Rattle.words.proofs.Tests.{either, and-fst, and-snd, and-rest}
-use Rattle.words.proofs.Greatest.{or-skip, or-kept, or-any, or-found, or-within, or-ends, greatest-skip, greatest-kept, greatest-new, is-not, is-other, is-so, first-skip, first-kept, first-more, greatest-first, first-first}
+use Rattle.words.proofs.Greatest.{or-skip, or-kept, or-any, or-found, or-within, or-ends, greatest-skip, greatest-kept, greatest-new, is-not, is-other, is-so}
+use Rattle.words.proofs.Greatest.{first-skip, first-kept, first-more, greatest-first, first-first}
 use Rattle.rules.specs.declared.kind.Kind.{Kind}
 use Rattle.rules.specs.declared.file.File.{File}
 use Rattle.rules.specs.declared.file.Found.{Found}

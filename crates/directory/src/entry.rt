@@ -1,8 +1,8 @@
-use crate::byte::wide;
 use crate::name::file_from;
 use crate::name::is_named;
 use rules::file::File;
 use rules::kind::Kind;
+use words::byte::wide;
 ghost use mathlib.Core.Path.{_≡_};
 ghost use Prim.Native.Nat.{_+_, _*_, _<_, _≤_};
 ghost use lib.ListN.{length};

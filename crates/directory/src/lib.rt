@@ -1,6 +1,6 @@
 // The directory: names, entries, finding, and where blocks and records lie. Nothing here changes it.
-pub mod byte;
 pub mod entry;
 pub mod find;
 pub mod name;
 pub mod place;
+pub mod run;

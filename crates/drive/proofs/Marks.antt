@@ -14,7 +14,8 @@ use Rattle.words.specs.Tests.{_and_, _or_, _if_else_, all, any, lowest, count}
 use Rattle.words.specs.Tables.{_when_, firstOf, noneZero}
 use Rattle.words.specs.Bits.{isSet, isClear, withBit}
 use Rattle.words.proofs.Tests.{equal?, and-snd, or-so, all-none, all-more, all-at, any-none, any-skip, any-here}
-use Rattle.words.proofs.Sets.{all-stops, all-ends, all-stops-as, all-ends-as, any-goes, if-yes, if-no, row-yes, row-no, row-none, part-first, part-then, answers}
+use Rattle.words.proofs.Sets.{all-stops, all-ends, all-stops-as, all-ends-as, any-goes, if-yes, if-no, row-yes, row-no, row-none, part-first, part-then}
+use Rattle.words.proofs.Sets.{answers}
 use Rattle.words.proofs.AreBytes.{bytes-replicate}
 use Rattle.words.proofs.Bitwise.{length-bit, set-here, set-there, set-none, bytes-bit}
 use Rattle.words.specs.Hints.{Hints}
@@ -24,7 +25,8 @@ use Rattle.rules.specs.declared.kind.Kind.the-variants.{Small, Large}
 use Rattle.rules.specs.declared.answer.ImageAnswer.{ImageAnswer}
 use Rattle.rules.specs.declared.answer.ImageAnswer.the-variants.{Sound}
 use Rattle.rules.specs.Kinds.{most, entries, numbers}
-use Rattle.rules.specs.Drive.{blocks, nameAt, legalName, goodUser, goodNumbers, goodFields, inRange, isEmpty, mapNumber, holdsNumber, namesBlock, namedBefore, isFirst, goodEntry, freeBlock, freeBlocks, isRepeat, reasons, reason, badFor, isBad, judged, isSound, directoryAnswer}
+use Rattle.rules.specs.Drive.{blocks, nameAt, legalName, goodUser, goodNumbers, goodFields, inRange, isEmpty, mapNumber, holdsNumber, namesBlock, namedBefore}
+use Rattle.rules.specs.Drive.{isFirst, goodEntry, freeBlock, freeBlocks, isRepeat, reasons, reason, badFor, isBad, judged, isSound, directoryAnswer}
 use Rattle.rules.specs.Vector.{vectorOf}
 use Rattle.rules.proofs.Sizes.{vector-bits}
 use Rattle.rules.proofs.Vector.{vector-long, lowest-free, count-free}

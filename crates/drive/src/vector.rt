@@ -1,10 +1,10 @@
 use crate::check::sound_marked;
-use rules::bytes::put_bytes;
 use rules::code::BAD_CALL;
 use rules::code::BAD_IMAGE;
 use rules::kind::Kind;
 use rules::kind::vector_size;
 use words::bits::set;
+use words::byte::put_bytes;
 ghost use mathlib.Core.Path.{_≡_};
 ghost use lib.ListN.{replicate};
 ghost use Rattle.words.specs.Hints.{Hints};

@@ -26,14 +26,6 @@ use Rattle.rules.specs.Effects.{fcbMapped, fcbOpened, opened, closed, does15, d
 use Rattle.files.specs.By.{by15}
 use Rattle.rules.specs.declared.kind.Kind.{Kind}
 
--- the FCB's two steps
-pub fcb-mapped : (s : List ℕ) (e : ℕ) (fcb mid out : List ℕ) → mid ≡ put 12 (0 ∷ 0 ∷ 0 ∷ []) fcb
-    → out ≡ put 15 (take (32 * e + 15 + 17 - (32 * e + 15)) (drop (32 * e + 15) s)) mid → out ≡ fcbMapped s e fcb
-unfolding fcbMapped
-fcb-mapped s e fcb mid out h k =
-    let n : 32 * e + 15 + 17 - (32 * e + 15) ≡ 17 = omega arith in
-    k ∙ ap (λ (m : ℕ). put 15 (take m (drop (32 * e + 15) s)) mid) n ∙ ap (λ (m : List ℕ). put 15 (part (32 * e + 15) 17 s) m) h
-
 -- a place is the number of a byte
 pub place-fits : (l : LockList) (at : ℕ) → at ≡ freePlace l → l .capacity < 256 → at < 256
 unfolding freePlace

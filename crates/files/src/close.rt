@@ -1,4 +1,4 @@
-use locklist::ask::caller_file;
+use locklist::fcb::caller_file;
 use locklist::pack::pack;
 use rules::code::CLOSE_NOT_OPEN;
 use rules::kind::Kind;

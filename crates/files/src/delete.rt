@@ -2,7 +2,7 @@ use directory::find::is_missing;
 use directory::find::look_up;
 use directory::find::read_only;
 use directory::name::legal_name;
-use locklist::ask::caller_file;
+use locklist::fcb::caller_file;
 use locklist::pack::pack;
 use rules::code::BAD_NAME;
 use rules::code::IN_USE;

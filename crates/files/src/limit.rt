@@ -1,5 +1,5 @@
-use directory::byte::wide;
 use rules::list::LockList;
+use words::byte::wide;
 ghost use mathlib.Core.Path.{_≡_};
 ghost use lib.Dec.{leb};
 ghost use Rattle.rules.specs.Locks.{opensBy, freePlace};

@@ -1,12 +1,12 @@
-use crate::fcb::set_fcb;
 use crate::limit::at_open_limit;
 use crate::limit::no_place;
 use directory::find::free_entry;
 use directory::find::is_missing;
 use directory::find::look_up;
 use directory::name::legal_name;
-use locklist::ask::caller_file;
-use locklist::ask::make_mode;
+use locklist::fcb::caller_file;
+use locklist::fcb::make_mode;
+use locklist::fcb::set_fcb;
 use locklist::pack::pack;
 use rules::code::BAD_NAME;
 use rules::code::EXISTS;

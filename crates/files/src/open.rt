@@ -1,11 +1,11 @@
-use crate::fcb::set_fcb;
 use crate::limit::at_open_limit;
 use crate::limit::no_place;
 use directory::find::is_missing;
 use directory::find::look_up;
 use directory::name::legal_name;
-use locklist::ask::caller_file;
-use locklist::ask::open_mode;
+use locklist::fcb::caller_file;
+use locklist::fcb::open_mode;
+use locklist::fcb::set_fcb;
 use locklist::pack::pack;
 use rules::code::BAD_NAME;
 use rules::code::IN_USE;

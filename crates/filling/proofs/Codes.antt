@@ -22,7 +22,8 @@ use Rattle.rules.specs.Serves.{Outcome, buffers, chosen, isUnknown}
 use Rattle.rules.specs.Drive.{lookUp, missing}
 use Rattle.rules.specs.Locks.{freshLock, itemAt, unpack, pack, openOf, isOpened, lockedByOther, held, opensBy, locksBy, freePlace, freePlaces}
 use Rattle.rules.specs.Asks.{callerFile, recordOf, lastOf, openMode}
-use Rattle.rules.specs.Codes.{badDrive, rowsInside, rowsAll, standsAgainstAt, rowsNew, rows15, isFileId, rowsRun, lacks, firstLacking, rowsLacking, isOthers, isNew, rowsTake, rows42}
+use Rattle.rules.specs.Codes.{badDrive, rowsInside, rowsAll, standsAgainstAt, rowsNew, rows15, isFileId, rowsRun, lacks, firstLacking, rowsLacking, isOthers}
+use Rattle.rules.specs.Codes.{isNew, rowsTake, rows42}
 use Rattle.rules.specs.Effects.{placed, opened, lockedAt, lockedRun, does15, does42}
 use Rattle.rules.specs.Call.{asked, askedBy, rowsOf, effectOf}
 use Rattle.rules.specs.Several.{servesRun, callRun}

@@ -1,3 +1,4 @@
+-- The proofs of `filling`.
 pub mod Book
 pub mod Codes
 pub mod Placed

@@ -16,7 +16,8 @@ use Rattle.rules.specs.declared.kind.Kind.the-variants.{Small}
 use Rattle.rules.specs.declared.kind.Rule.the-variants.{Mpm}
 use Rattle.rules.specs.declared.item.Item.{Item}
 use Rattle.rules.specs.declared.list.LockList.{LockList}
-use Rattle.rules.specs.Locks.{itemAt, withItems, freshOpen, freshLock, opensName, opensNameAt, openOf, opensFile, opensFileAt, locksRecord, locksRecordAt, isOthersLock, lockedByOther, isOwnLock, held, isKindBy, isKindByAt, opensBy, locksBy, isEmptyAt, freePlace, freePlaces, isLimit}
+use Rattle.rules.specs.Locks.{itemAt, withItems, freshOpen, freshLock, opensName, opensNameAt, openOf, opensFile, opensFileAt, locksRecord, locksRecordAt}
+use Rattle.rules.specs.Locks.{isOthersLock, lockedByOther, isOwnLock, held, isKindBy, isKindByAt, opensBy, locksBy, isEmptyAt, freePlace, freePlaces, isLimit}
 use Rattle.rules.specs.Codes.{standsAgainst, standsAgainstAt}
 use Rattle.rules.specs.Effects.{placed}
 use Rattle.rules.proofs.Items.{open-is, open-so, name-refl}

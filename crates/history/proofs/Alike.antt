@@ -8,7 +8,8 @@ use Rattle.words.proofs.Sets.{and-both}
 use Rattle.rules.specs.declared.kind.Kind.{Kind}
 use Rattle.rules.specs.Serves.{Outcome}
 use Rattle.rules.specs.Several.{callRun}
-use Rattle.history.specs.History.{Ask, State, Engine, Event, Begun, isPossible, arePossible, isKept, forgetful, outcomeOf, kept, stateAfter, event, eventsOf, firstState, after, historyOf, outcomeAfter}
+use Rattle.history.specs.History.{Ask, State, Engine, Event, Begun, isPossible, arePossible, isKept, forgetful, outcomeOf, kept, stateAfter, event}
+use Rattle.history.specs.History.{eventsOf, firstState, after, historyOf, outcomeAfter}
 use Rattle.history.specs.Demands.{Demand2, Demand3}
 use Rattle.history.proofs.Start.{begun-bytes, begun-sound}
 use Rattle.history.proofs.Lendable.{lendable-so, next-kept}

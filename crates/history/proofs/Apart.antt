@@ -42,8 +42,11 @@ use Rattle.history.proofs.Seen.{Seen, seen-all, seen-written}
 -- ---- what a change by user v leaves of the others' files
 
 pub record Others (kind : Kind) (s t : List ℕ) (v : ℕ) : Type 0 where
+  -- each entry is the same, or is under v before and after, where it is in use
   pub entry : (e : ℕ) → e < entries kind → Same s e t e ⊎ ((isEmpty s e ≡ false → userByte s e ≡ v) × (isEmpty t e ≡ false → userByte t e ≡ v))
+  -- a record of a file under another user keeps its block and its bytes
   pub forth : (f : File) (r b : ℕ) → length (f .name) ≡ 11 → (f .user ≡ v → ⊥) → At kind s f r b → Seen kind s t f r b
+  -- a block that such a record has after it had before
   pub back : (f : File) (r b : ℕ) → (f .user ≡ v → ⊥) → At kind t f r b → At kind s f r b
 
 others-same : (kind : Kind) (s : List ℕ) (v : ℕ) → Others kind s s v

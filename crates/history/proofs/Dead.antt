@@ -13,7 +13,8 @@ use Rattle.words.specs.Lists.{tally}
 use Rattle.rules.specs.declared.kind.Kind.{Kind}
 use Rattle.rules.specs.declared.item.Item.{Item}
 use Rattle.rules.specs.Locks.{freshOpen, isKindBy}
-use Rattle.history.specs.History.{Engine, Ask, State, Begun, Event, event, outcomeOf, kept, stateAfter, eventsOf, firstState, after, historyOf, outcomeAfter}
+use Rattle.history.specs.History.{Engine, Ask, State, Begun, Event, event, outcomeOf, kept, stateAfter, eventsOf, firstState, after, historyOf}
+use Rattle.history.specs.History.{outcomeAfter}
 use Rattle.history.specs.Deeds.{Deed, nothing, opens, closes, locks, unlocks, ends, touches, drops, carries, tells, deed}
 use Rattle.history.specs.Held.{sameItem, isAmong, grantingRun, isBy, holding, heldAfter, isGrant, anyOpenBy}
 use Rattle.history.specs.Demands.{itemsOf}

@@ -25,10 +25,15 @@ use Rattle.soundness.proofs.Leaves.{listOf, fileBy, newBy}
 
 -- limits, users and rule are the same
 pub record Framed (l k : LockList) : Type 0 where
+  -- the capacities are the same, ..
   pub capacities : k .capacity ≡ l .capacity
+  -- .. the open limits, ..
   pub openlimits : k .openlimit ≡ l .openlimit
+  -- .. the lock limits, ..
   pub locklimits : k .locklimit ≡ l .locklimit
+  -- .. the users, ..
   pub users : k .users ≡ l .users
+  -- .. and the rules
   pub rules : k .rule ≡ l .rule
 
 -- a list with other items and positions has the same, ..

@@ -24,7 +24,9 @@ use Rattle.soundness.proofs.Written.{Old, New}
 use Rattle.soundness.proofs.Taken.{caller-long}
 use Rattle.soundness.proofs.Ends.{image-of, made-of, renamed-file, written-of}
 use Rattle.rules.proofs.Passed.{Passed}
-use Rattle.soundness.proofs.Leaves.{Leaf, MayMake, MayWrite, imageWritten, refused, reopened, newlyOpened, newlyMade, nowClosed, nowErased, nowDropped, nowRenamed, nowRead, nowSized, nowWritten, nowRewritten, nowLocked, lockIdle, nowUnlocked, unlockIdle, nowTold, nowEnded, nowSearched}
+use Rattle.soundness.proofs.Leaves.{Leaf, MayMake, MayWrite, imageWritten, refused, reopened, newlyOpened, newlyMade, nowClosed, nowErased, nowDropped}
+use Rattle.soundness.proofs.Leaves.{nowRenamed, nowRead, nowSized, nowWritten, nowRewritten, nowLocked, lockIdle, nowUnlocked, unlockIdle, nowTold, nowEnded}
+use Rattle.soundness.proofs.Leaves.{nowSearched}
 use Rattle.history.specs.History.{Ask, State, event, lent}
 use Rattle.history.specs.Deeds.{deedBy, deed}
 use Rattle.history.specs.Groups.{Group, group, touching, touchingAt, touchingRun, counting}

@@ -19,10 +19,15 @@ use Rattle.words.proofs.Tallies.{tally-less, tally-without}
 
 -- what two items that are the same have in common
 pub record Alike (a b : Item) : Type 0 where
+  -- they are of one kind, ..
   pub kinds : a .kind ≡ b .kind
+  -- .. by one process, ..
   pub processes : a .process ≡ b .process
+  -- .. of one name, ..
   pub names : sameName (a .name) (b .name) ≡ true
+  -- .. in one mode, ..
   pub modes : a .mode ≡ b .mode
+  -- .. with one record number
   pub numbers : a .number ≡ b .number
 
 -- items that are the same have all of it in common, ..
@@ -115,6 +120,7 @@ granting-new x g h = rw h refl
 -- ---- none held passes a test
 
 pub record NonePass (test : Item → Bool) (g : List Item) : Type 0 where
+  -- of the items held none passes
   pub none : tally test g ≡ 0
 
 module _ (test : Item → Bool) where
@@ -145,6 +151,7 @@ module _ (test : Item → Bool) where
 
 -- nothing is held twice
 pub record Once (g : List Item) : Type 0 where
+  -- each item is held at most once
   pub once : (x : Item) → tally (sameItem x) g ≤ 1
 
 once-granting : (y : Item) (g : List Item) → Once g → Once (granting y g)

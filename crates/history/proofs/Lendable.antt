@@ -60,7 +60,9 @@ module _ (kind : Kind) (n p c : ℕ) (b : Buffers) (w : InBytes b) where
 -- ---- list and image stay as long as they were
 
 pub record AsLong (b a : Buffers) : Type 0 where
+  -- the list left is as long as the one lent, ..
   pub list-long : length (a .list) ≡ length (b .list)
+  -- .. and so is the image
   pub image-long : length (a .image) ≡ length (b .image)
 
 list-as-long : (kind : Kind) (p c : ℕ) (b : Buffers) (t list : List ℕ) → ListLeft kind p c b t list → length list ≡ length (b .list)

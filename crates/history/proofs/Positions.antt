@@ -27,7 +27,9 @@ use Rattle.history.specs.Groups.{Group, group, sameGroup, isCounted, has
 
 -- what two groups that are the same have in common
 pub record Likewise (x y : Group) : Type 0 where
+  -- their numbers are the same, ..
   pub number-same : x .number ≡ y .number
+  -- .. and so are their files
   pub files : sameFile (x .file) (y .file) ≡ true
 
 -- groups that are the same have both in common, ..
@@ -46,6 +48,7 @@ holdsGroup kind test s i = isNumbered kind s i and test (groupAt kind s i)
 
 -- as many groups on the image pass a test as in the list
 pub record Counted (kind : Kind) (s : List ℕ) (g : List Group) : Type 0 where
+  -- the places of all the maps with a number whose group passes are as many as the groups in the list that pass
   pub as-many : (test : Group → Bool) → count (holdsGroup kind test s) (allNumbers kind) ≡ tally test g
 
 below-many : (kind : Kind) (s : List ℕ) (test : Group → Bool) (n : ℕ) → count (holdsGroup kind test s) n ≡ tally test (groupsBelow kind s n)

@@ -35,16 +35,27 @@ use Rattle.history.proofs.Frame.{list-framed, image-framed}
 
 -- what holds between calls
 pub record Inv (kind : Kind) (g : Begun kind) (s : State) (items : List Item) (groups : List Group) : Type 0 where
+  -- the list and the image are sound
   pub both : SoundBoth kind (s .list) (s .image)
+  -- the list has the users of the beginning, ..
   pub users : usersIn s ≡ g .users
+  -- .. its capacity, ..
   pub capacity : unpack (s .list) .capacity ≡ g .capacity
+  -- .. its open limit, ..
   pub openlimit : unpack (s .list) .openlimit ≡ g .openlimit
+  -- .. its lock limit, ..
   pub locklimit : unpack (s .list) .locklimit ≡ g .locklimit
+  -- .. and its rule
   pub rule : unpack (s .list) .rule ≡ g .rule
+  -- the image is as long as at the beginning
   pub long : length (s .image) ≡ length (g .image)
+  -- as many in the list as of the items held pass any test that no empty place passes
   pub tallied : Tally (unpack (s .list)) items
+  -- nothing is held twice
   pub once : Once items
+  -- no empty place is held
   pub solid : Solid items
+  -- as many groups on the image as of those counted pass any test
   pub counted : Counted kind (s .image) groups
 
 module _ (kind : Kind) (g : Begun kind) where

@@ -25,7 +25,9 @@ use Rattle.soundness.proofs.Stored.{free-unnamed}
 
 -- the record has its block still, and its bytes
 pub record Seen (kind : Kind) (s t : List ℕ) (f : File) (r b : ℕ) : Type 0 where
+  -- the record's block is b on the image left too
   pub there : At kind t f r b
+  -- its 128 bytes there are the same
   pub bytes : part (recordAt kind b r) 128 t ≡ part (recordAt kind b r) 128 s
 
 -- a block of a record lies past the directory and in the image

@@ -48,6 +48,7 @@ chosen-on : (n : ℕ) → servesRun n ≡ true → serves (chosen n) ≡ true
 unfolding chosen serves functionOf servesRun _or_ _if_else_
 chosen-on n h = of-three (λ (m : ℕ). serves (chosen m) ≡ true) refl refl refl n h
 
+-- a function takes a run just where the function number of the call that it chooses does
 pub served-as : (n : ℕ) (k : Routine) → chosen n ≡ Call k → servesRun n ≡ servesRun (functionOf k)
 unfolding serves
 served-as n k e = same-test _ _ (chosen-on n) forth ∙ ap serves e

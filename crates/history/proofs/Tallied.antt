@@ -23,6 +23,7 @@ use Rattle.history.proofs.Items.{among-so, among-not, among-tally}
 
 -- a test that no empty place passes
 pub record OfItems (test : Item → Bool) : Type 0 where
+  -- an item of the empty kind does not pass
   pub not-empty : (it : Item) → it .kind ≡ 0 → test it ≡ false
 
 -- the item at place i passes
@@ -31,6 +32,7 @@ passesAt test l i = test (itemAt l i)
 
 -- as many in the list pass as of those held
 pub record Tally (l : LockList) (g : List Item) : Type 0 where
+  -- the places whose item passes are as many as the items held that pass, for each such test
   pub as-many : (test : Item → Bool) → OfItems test → count (passesAt test l) 64 ≡ tally test g
 
 -- a list with other positions has the same items

@@ -13,7 +13,8 @@ use Rattle.rules.specs.Drive.{blocks, blocksInUse, freeBlocks, fileFrom, soundI
 use Rattle.rules.specs.Locks.{unpack, itemAt, freePlaces, freshOpen, freshLock, soundList}
 use Rattle.rules.specs.Look.{look}
 use Rattle.session.specs.Open.{rules}
-use Rattle.session.specs.Session.{Step, Line, session, orders, fcbWith, dmaWith, firstImage, list0, list3, list11, list12, list13, image0, image2, image5, image13}
+use Rattle.session.specs.Session.{Step, Line, session, orders, fcbWith, dmaWith, firstImage, list0, list3, list11, list12, list13, image0, image2, image5}
+use Rattle.session.specs.Session.{image13}
 use Rattle.history.specs.History.{Ask, Event, event}
 use Rattle.history.specs.Held.{sameItem, isBy, heldAfter}
 use Rattle.history.specs.Groups.{Group, group, isCounted, hasBlock, groupsOf, countedAfter}

@@ -17,7 +17,9 @@ use Rattle.rules.proofs.Several.{all-done, no-trace, refusal, fewer-done, told-
 
 -- the plain call is refused with that code, which tells of no record done
 pub record Refuses (kind : Kind) (n p c : ℕ) (b : Buffers) (code : ℕ) : Type 0 where
+  -- the code is not 0, ..
   pub some : code ≡ 0 → ⊥
+  -- .. and is the plain call's answer
   pub answers : call kind n p c b .answer ≡ code
 
 -- the answer of a plain call tells of no record done, ..
@@ -30,8 +32,11 @@ refuses-low kind n p c b code w = rw (w .answers) at (answer-low kind n p c b)
 
 -- the general table lets a run of c records pass, and i of them are done
 pub record Ran (kind : Kind) (n p c : ℕ) (b : Buffers) (i : ℕ) (left : Buffers) : Type 0 where
+  -- the function takes a run of records
   pub serves : servesRun n ≡ true
+  -- no row of the general table refuses the call of c records
   pub passes : firstOf (rowsAll kind n p c b) ≡ 0
+  -- the first i records, one after the other, are all done and leave those buffers
   pub is : several kind n p i b ≡ run 0 i left
 
 -- it takes no run: the plain call; barred by the general table; all records done; i done and the next refused

@@ -1,5 +1,5 @@
-use directory::byte::wide;
 use rules::file::File;
+use words::byte::wide;
 ghost use mathlib.Core.Path.{_≡_};
 ghost use Prim.Native.Nat.{_<_};
 ghost use Rattle.index.specs.Slots.{mix, slotOf};

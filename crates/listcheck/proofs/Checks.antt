@@ -10,18 +10,23 @@ use lib.Dec.{leb, ltb, eqb}
 use borrow.Author.Needs.{needs}
 use borrow.Author.Tests.{lt-ltb, le-ltb, le-leb, lt-leb, ltb-true, ltb-false, leb-true, leb-false, eq-eqb, ne-eqb, eqb-true}
 use Rattle.words.specs.Tests.{_and_, _if_else_, all, any, lowest}
-use Rattle.words.specs.Bytes.{byte, part}
+use Rattle.words.specs.Lists.{tab}
+use Rattle.words.specs.Bytes.{byte, byteFrom, isZero, part}
 use Rattle.words.proofs.Bytes.{part-byte}
-use Rattle.words.proofs.Tests.{either, all-none, all-more, any-none, any-found, any-never}
-use Rattle.words.proofs.Sets.{alls, answers, choices, and-first, and-then, and-left, or-none, not-of-false, not-of-true, not-yes, not-no, any-goes, all-stops, all-ends, lowest-stops, lowest-ends}
+use Rattle.words.proofs.Tests.{either, all-none, all-more, all-up, any-none, any-found, any-never}
+use Rattle.words.proofs.Sets.{answers, choices, and-first, and-then, and-left, or-none, not-of-false, not-of-true, not-yes, not-no, any-goes, all-stops}
+use Rattle.words.proofs.Sets.{lowest-stops, lowest-ends}
 use Rattle.rules.specs.declared.file.File.{File}
 use Rattle.rules.specs.declared.item.Item.{Item}
 use Rattle.rules.specs.declared.list.LockList.{LockList}
 use Rattle.rules.specs.Kinds.{entries}
 use Rattle.rules.specs.Drive.{entryOf, lookUp, missing, blockOf}
-use Rattle.rules.specs.Locks.{unpack, placeAt, itemAt, isLow, sameFile, opensNameAt, openOf, isOpened, opensUnlocked, clash, clashAt, isApart, goodOpen, goodLock, goodItem, goodPlace, keepsLimits, isPosition, isRule, zeroAt, soundLocks, soundList}
-use Rattle.listcheck.specs.Check.{openAlone, lockAlone, itemAlone, placeAlone, placeAloneAt, lockOpened, lockOpenedAt, goodHead}
+use Rattle.rules.specs.Locks.{unpack, placeAt, emptyPlace, itemAt, isLow, sameFile, opensName, opensNameAt, openOf, isOpened, opensUnlocked, clash, clashAt}
+use Rattle.rules.specs.Locks.{isApart, goodEmpty, goodOpen, goodLock, goodItem, goodPlace, keepsLimits, isUser, isPosition, zeroAt, soundLocks, soundList}
+use Rattle.listcheck.specs.Check.{fileBy, openAlone, lockAlone, itemAlone, placeAlone, placeAloneAt, lockOpened, lockOpenedAt, goodHead, goodTail}
 use Rattle.rules.specs.declared.kind.Kind.{Kind}
+use Rattle.locklist.specs.Places.{Unused}
+use Rattle.locklist.proofs.Places.{unused-item, unused-zero}
 
 -- ---- what was found of a file on the image
 
@@ -50,13 +55,66 @@ pub zero-no : (s : List ℕ) (i : ℕ) → (getD s (19 + 20 * i + 15) 0 ≡ 0 �
 unfolding zeroAt
 zero-no s i h = ne-eqb _ 0 (λ q. h (sym (zero-byte s i) ∙ q))
 
-pub ruleset zeros = (alls, zero-yes, zero-no)
+-- a place below the end of those that may be used fails
+pub all-stops-below : (f : ℕ → Bool) (n m i : ℕ) → i < m → m ≤ n → f i ≡ false → false ≡ all f n
+all-stops-below f n m i l g e = all-stops f n i (omega arith) e
+
+-- ---- places that are not used: what holds of each empty place and was found of those before i holds of all
+
+module _ (s : List ℕ) (n i : ℕ) (u : Unused s n) (g : n ≤ i) where
+  pub empty-up : (f : ℕ → Bool) → ((k : ℕ) → itemAt (unpack s) k ≡ emptyPlace → f k ≡ true) → all f i ≡ true → true ≡ all f 64
+  empty-up f e h = sym (all-up f i 64 h (λ k m l. e k (unused-item s n k u (omega arith) l)))
+
+  pub zero-up : all (zeroAt s) i ≡ true → true ≡ all (zeroAt s) 64
+  zero-up h = sym (all-up (zeroAt s) i 64 h (λ k m l. unused-zero s n k u (omega arith) l))
+
+pub ruleset zeros = (needs, all-none, all-more, all-stops-below, zero-yes, zero-no, zero-up)
+
+-- ---- a place by itself, as it was read
+
+empty-alone : (kind : Kind) (s users : List ℕ) (capacity i : ℕ) → placeAlone kind s users capacity i emptyPlace ≡ true
+unfolding placeAlone goodEmpty isZero all _and_ _if_else_
+empty-alone kind s users capacity i = refl
+
+module _ (kind : Kind) (s list : List ℕ) where
+  module _ (users : List ℕ) (i : ℕ) (it : Item) (r : Bool) (d : users ≡ tab (byteFrom list 3) 16) (e : it ≡ itemAt (unpack list) i)
+      (h : r ≡ placeAlone kind s users (byte list 0) i it) where
+    alone-as : r ≡ placeAloneAt kind s (unpack list) i
+    unfolding placeAloneAt unpack
+    alone-as = h ∙ rw (d, e)
+
+    pub alone-yes : not r ≡ false → placeAloneAt kind s (unpack list) i ≡ true
+    alone-yes y = not-yes r _ alone-as y
+
+    pub alone-no : not r ≡ true → placeAloneAt kind s (unpack list) i ≡ false
+    alone-no n = not-no r _ alone-as n
+
+  pub alone-up : (n i : ℕ) → Unused list n → n ≤ i → all (placeAloneAt kind s (unpack list)) i ≡ true
+      → true ≡ all (placeAloneAt kind s (unpack list)) 64
+  unfolding placeAloneAt
+  alone-up n i u g h = empty-up list n i u g (placeAloneAt kind s (unpack list)) (λ k e. rw e (empty-alone kind s _ _ k)) h
+
+pub ruleset alones = (needs, all-none, all-more, all-stops-below, alone-yes, alone-no, alone-up)
 
 -- ---- a lock's open
 
-pub opened-skip : (l : LockList) (i : ℕ) → (itemAt l i .kind ≡ 2 → ⊥) → lockOpenedAt l i ≡ true
-unfolding lockOpenedAt lockOpened _if_else_
-opened-skip l i h = rw (ne-eqb _ _ h)
+module _ (l : LockList) (i : ℕ) (it : Item) (d : it ≡ itemAt l i) where
+  pub opened-skip : (it .kind ≡ 2 → ⊥) → lockOpenedAt l i ≡ true
+  unfolding lockOpenedAt lockOpened _if_else_
+  opened-skip h = rw (← d, ne-eqb _ _ h)
+
+  pub is-lock : it .kind ≡ 2 → itemAt l i .kind ≡ 2
+  is-lock h = ap (λ (x : Item). x .kind) (sym d) ∙ h
+
+  pub its-process : it .process ≡ itemAt l i .process
+  its-process = ap (λ (x : Item). x .process) d
+
+  pub its-name : it .name ≡ itemAt l i .name
+  its-name = ap (λ (x : Item). x .name) d
+
+pub opened-up : (s : List ℕ) (n i : ℕ) → Unused s n → n ≤ i → all (lockOpenedAt (unpack s)) i ≡ true → true ≡ all (lockOpenedAt (unpack s)) 64
+opened-up s n i u g h =
+    empty-up s n i u g (lockOpenedAt (unpack s)) (λ k e. opened-skip (unpack s) k emptyPlace (sym e) (λ q. absurd (omega arith))) h
 
 -- o: how far its open was looked for
 module _ (l : LockList) (i o p : ℕ) (name : List ℕ) (k : itemAt l i .kind ≡ 2) (w : p ≡ itemAt l i .process) (v : name ≡ itemAt l i .name)
@@ -65,19 +123,20 @@ module _ (l : LockList) (i o p : ℕ) (name : List ℕ) (k : itemAt l i .kind �
   unfolding lockOpenedAt lockOpened openOf _if_else_
   opened-is t e = rw (eq-eqb _ _ k, ← w, ← v) e
 
-  module _ (r : Bool) (m : o < 64) (e : r ≡ opensNameAt l p name o) (y : r ≡ true) where
+  module _ (it : Item) (r : Bool) (m : o < 64) (d : it ≡ itemAt l o) (e : r ≡ opensName p name it) (y : r ≡ true) where
     found-here : o ≡ lowest (opensNameAt l p name) 64
-    found-here = lowest-stops (opensNameAt l p name) 64 o m h (sym e ∙ y)
+    unfolding opensNameAt
+    found-here = lowest-stops (opensNameAt l p name) 64 o m h (rw (← d) (sym e ∙ y))
 
     here-is : eqb (itemAt l o .mode) 1 ≡ lockOpenedAt l i
     unfolding opensUnlocked isOpened
     here-is = opened-is _ (rw (← found-here) (and-then _ _ _ (lt-ltb _ _ m) refl))
 
-    pub opened-yes : itemAt l o .mode ≡ 1 → lockOpenedAt l i ≡ true
-    opened-yes q = sym here-is ∙ eq-eqb _ _ q
+    pub opened-yes : it .mode ≡ 1 → lockOpenedAt l i ≡ true
+    opened-yes q = sym here-is ∙ eq-eqb _ _ (ap (λ (x : Item). x .mode) (sym d) ∙ q)
 
-    pub opened-no : (itemAt l o .mode ≡ 1 → ⊥) → lockOpenedAt l i ≡ false
-    opened-no q = sym here-is ∙ ne-eqb _ _ q
+    pub opened-no : (it .mode ≡ 1 → ⊥) → lockOpenedAt l i ≡ false
+    opened-no q = sym here-is ∙ ne-eqb _ _ (λ z. q (ap (λ (x : Item). x .mode) d ∙ z))
 
   pub opened-none : 64 ≤ o → o ≤ 64 → lockOpenedAt l i ≡ false
   unfolding opensUnlocked isOpened
@@ -85,7 +144,30 @@ module _ (l : LockList) (i o p : ℕ) (name : List ℕ) (k : itemAt l i .kind �
       let q : o ≡ lowest (opensNameAt l p name) 64 = lowest-ends (opensNameAt l p name) 64 o h g m in
       sym (opened-is false (rw (← q) (and-first _ _ (le-ltb _ _ g))))
 
-pub ruleset opens = (needs, answers, all-none, all-more, all-stops, all-ends, any-none, any-goes, opened-skip, opened-yes, opened-no, opened-none)
+-- no open here
+pub opens-not : (l : LockList) (o p : ℕ) (name : List ℕ) (it : Item) (r : Bool) → it ≡ itemAt l o → r ≡ opensName p name it → r ≡ false
+    → opensNameAt l p name o ≡ false
+unfolding opensNameAt
+opens-not l o p name it r d e h = rw (← d) (sym e ∙ h)
+
+pub ruleset opens = (
+  needs,
+  answers,
+  all-none,
+  all-more,
+  all-stops-below,
+  any-none,
+  any-goes,
+  is-lock,
+  its-process,
+  its-name,
+  opens-not,
+  opened-skip,
+  opened-yes,
+  opened-no,
+  opened-none,
+  opened-up,
+)
 
 -- ---- a good place is good by itself, and a lock has its open
 
@@ -158,38 +240,45 @@ join-two true true x = refl
 join-two true false x = refl
 join-two false b x = refl
 
--- the list check in the order of its parts
-pub sound-as : (kind : Kind) (s list : List ℕ) (l : LockList) (r : Bool) → l ≡ unpack list
-    → r ≡ (all (zeroAt list) 64 and goodHead (l .capacity) (l .openlimit) (l .locklimit) (l .users) and all (placeAloneAt kind s l) 64 and all
-    (lockOpenedAt l) 64 and all (isApart l) 64 and all (keepsLimits l) 16 and all (isPosition kind (l .positions)) 16
-    and isRule (l .rule)) → r ≡ soundList kind list s
-unfolding soundList soundLocks goodHead
-sound-as kind s list l r e h =
-    let g = all-both (goodPlace kind s l) (placeAloneAt kind s l) (lockOpenedAt l) 64 (place-split kind s l) in
-    let rest = join-two _ _ _ ∙ ap (λ (x : Bool). x and all (isApart l) 64 and all (keepsLimits l) 16 and all (isPosition kind (l .positions)) 16
-    and isRule (l .rule)) (sym g) in
-    h ∙ ap (λ (x : Bool). all (zeroAt list) 64 and x) (ap (λ (x : Bool). goodHead (l .capacity) (l .openlimit) (l .locklimit) (l .users) and x) rest
-    ∙ sym (join-four _ _ _ _ _))
-    ∙ ap (λ (m : LockList). all (zeroAt list) 64 and soundLocks kind m s) e
+module _ (kind : Kind) (s list : List ℕ) where
+  abbrev l : LockList
+  l = unpack list
 
--- its first four parts were found good
-pub sound-after : (kind : Kind) (s list : List ℕ) (l : LockList) (a b c d r : Bool) → l ≡ unpack list → a ≡ all (zeroAt list) 64 → not a ≡ false
-    → b ≡ goodHead (l .capacity) (l .openlimit) (l .locklimit) (l .users) → not b ≡ false → c ≡ all (placeAloneAt kind s l) 64 → not c ≡ false
-    → d ≡ all (lockOpenedAt l) 64 → not d ≡ false
-    → r ≡ (all (isApart l) 64 and all (keepsLimits l) 16 and all (isPosition kind (l .positions)) 16 and isRule (l .rule)) → r ≡ soundList kind list s
-sound-after kind s list l a b c d r e ea ha eb hb ec hc ed hd h =
-    sound-as kind s list l r e (and-then r _ _ (not-yes a _ ea ha)
-    (and-then r _ _ (not-yes b _ eb hb) (and-then r _ _ (not-yes c _ ec hc) (and-then r _ _ (not-yes d _ ed hd) h))))
+  -- the list check in the order of its parts
+  pub sound-as : (r : Bool) → r ≡ (all (zeroAt list) 64 and goodHead l and all (placeAloneAt kind s l) 64 and all (lockOpenedAt l) 64 and all (isApart l) 64
+      and all (keepsLimits l) 16 and goodTail kind l) → r ≡ soundList kind list s
+  unfolding soundList soundLocks goodHead goodTail
+  sound-as r h =
+      let g = all-both (goodPlace kind s l) (placeAloneAt kind s l) (lockOpenedAt l) 64 (place-split kind s l) in
+      let rest = join-two _ _ _ ∙ ap (λ (x : Bool). x and all (isApart l) 64 and all (keepsLimits l) 16 and goodTail kind l) (sym g) in
+      h ∙ ap (λ (x : Bool). all (zeroAt list) 64 and x) (ap (λ (x : Bool). goodHead l and x) rest ∙ sym (join-four _ _ _ _ _))
 
--- its first three were, the fourth was not
-pub sound-fourth : (kind : Kind) (s list : List ℕ) (l : LockList) (a b c d : Bool) → l ≡ unpack list → a ≡ all (zeroAt list) 64 → not a ≡ false
-    → b ≡ goodHead (l .capacity) (l .openlimit) (l .locklimit) (l .users) → not b ≡ false → c ≡ all (placeAloneAt kind s l) 64 → not c ≡ false
-    → d ≡ all (lockOpenedAt l) 64 → not d ≡ true → false ≡ soundList kind list s
-sound-fourth kind s list l a b c d e ea ha eb hb ec hc ed hd =
-    sound-as kind s list l false e (and-then false _ _ (not-yes a _ ea ha)
-    (and-then false _ _ (not-yes b _ eb hb) (and-then false _ _ (not-yes c _ ec hc) (and-first _ _ (not-no d _ ed hd)))))
+  module _ (a b c d : Bool) (ea : a ≡ all (zeroAt list) 64) (ha : not a ≡ false) (eb : b ≡ goodHead l) (hb : not b ≡ false)
+      (ec : c ≡ all (placeAloneAt kind s l) 64) (hc : not c ≡ false) (ed : d ≡ all (lockOpenedAt l) 64) where
+    -- its first three parts were found good
+    after : (r : Bool) → r ≡ (all (lockOpenedAt l) 64 and all (isApart l) 64 and all (keepsLimits l) 16 and goodTail kind l) → r ≡ soundList kind list s
+    after r h = sound-as r (and-then r _ _ (not-yes a _ ea ha) (and-then r _ _ (not-yes b _ eb hb) (and-then r _ _ (not-yes c _ ec hc) h)))
+
+    -- .. the fourth was
+    pub sound-after : (r : Bool) → not d ≡ false → r ≡ (all (isApart l) 64 and all (keepsLimits l) 16 and goodTail kind l) → r ≡ soundList kind list s
+    sound-after r hd h = after r (and-then r _ _ (not-yes d _ ed hd) h)
+
+    -- .. the fourth was not
+    pub sound-fourth : not d ≡ true → false ≡ soundList kind list s
+    sound-fourth hd = after false (and-first _ _ (not-no d _ ed hd))
 
 pub ruleset sounds = (and-first, and-then, answers, sound-as)
+
+-- its head and its tail, as they were read
+pub users-as : (list users : List ℕ) (r : Bool) → users ≡ tab (byteFrom list 3) 16 → r ≡ all (isUser users) 16
+    → r ≡ all (isUser (tab (byteFrom list 3) 16)) 16
+users-as list users r u h = rw (← u) h
+
+pub positions-as : (kind : Kind) (list positions : List ℕ) (r : Bool) → positions ≡ tab (byteFrom list 1299) 16 → r ≡ all (isPosition kind positions) 16
+    → r ≡ all (isPosition kind (tab (byteFrom list 1299) 16)) 16
+positions-as kind list positions r u h = rw (← u) h
+
+pub ruleset ends = (and-first, and-then, answers, users-as, positions-as)
 
 -- ---- clashes
 
@@ -205,9 +294,14 @@ unfolding clash
 clash-empty a b h =
     or-none _ _ (and-left _ _ (ne-eqb (a .kind) 1 (λ q. absurd (omega arith)))) (and-left _ _ (ne-eqb (a .kind) 2 (λ q. absurd (omega arith))))
 
-pub apart-empty : (l : LockList) (i : ℕ) → itemAt l i .kind ≡ 0 → isApart l i ≡ true
+pub apart-empty : (l : LockList) (i : ℕ) (it : Item) → it ≡ itemAt l i → it .kind ≡ 0 → isApart l i ≡ true
 unfolding isApart clashAt
-apart-empty l i h = not-of-false _ (any-never (clashAt l i) i (λ j m. and-left _ _ (clash-empty (itemAt l i) (itemAt l j) h)))
+apart-empty l i it d h =
+    let k = ap (λ (x : Item). x .kind) (sym d) ∙ h in
+    not-of-false _ (any-never (clashAt l i) i (λ j m. and-left _ _ (clash-empty (itemAt l i) (itemAt l j) k)))
+
+pub apart-up : (s : List ℕ) (n i : ℕ) → Unused s n → n ≤ i → all (isApart (unpack s)) i ≡ true → true ≡ all (isApart (unpack s)) 64
+apart-up s n i u g h = empty-up s n i u g (isApart (unpack s)) (λ k e. apart-empty (unpack s) k emptyPlace (sym e) refl) h
 
 -- two tests for different kinds
 kinds-apart : (m n k : ℕ) → (n ≡ m → ⊥) → (eqb m k and eqb n k) ≡ false
@@ -231,13 +325,27 @@ clash-not l i j h =
     let n = itemAt l j .kind in
     and-left _ _ (or-none _ _ (join-three _ _ _ (kinds-apart m n 1 h)) (join-three _ _ _ (kinds-apart m n 2 h)))
 
-module _ (l : LockList) (i j : ℕ) where
-  pub apart-yes : any (clashAt l i) j ≡ false → i ≤ j → j ≤ i → isApart l i ≡ true
-  unfolding isApart
-  apart-yes h g k = let q : j ≡ i = omega arith in not-of-false _ (rw q at h)
+-- it and other: the items of places i and j, as they were read
+module _ (list : List ℕ) (i j : ℕ) (it other : Item) (d : it ≡ itemAt (unpack list) i) (e : other ≡ itemAt (unpack list) j) where
+  pub kinds-go : any (clashAt (unpack list) i) j ≡ false → (other .kind ≡ it .kind → ⊥) → any (clashAt (unpack list) i) (j + 1) ≡ false
+  kinds-go g h =
+      any-goes _ _ g (clash-not (unpack list) i j (λ q. h (ap (λ (x : Item). x .kind) e ∙ q ∙ ap (λ (x : Item). x .kind) (sym d))))
 
-  pub apart-no : j < i → clashAt l i j ≡ true → isApart l i ≡ false
-  unfolding isApart
-  apart-no k h = not-of-true _ (any-found (clashAt l i) i j k h)
+  module _ (users : List ℕ) (r : Bool) (u : users ≡ tab (byteFrom list 3) 16)
+      (h : r ≡ (clash it other and sameFile (fileBy users it) (fileBy users other))) where
+    clash-as : r ≡ clashAt (unpack list) i j
+    unfolding clashAt unpack
+    clash-as = h ∙ rw (u, d, e)
 
-pub ruleset aparts = (needs, answers, all-none, all-more, all-stops, all-ends, any-none, any-goes, clash-not, apart-empty, apart-yes, apart-no)
+    pub files-go : any (clashAt (unpack list) i) j ≡ false → r ≡ false → any (clashAt (unpack list) i) (j + 1) ≡ false
+    files-go g n = any-goes _ _ g (sym clash-as ∙ n)
+
+    pub apart-no : j < i → r ≡ true → isApart (unpack list) i ≡ false
+    unfolding isApart
+    apart-no k y = not-of-true _ (any-found (clashAt (unpack list) i) i j k (sym clash-as ∙ y))
+
+pub apart-yes : (l : LockList) (i j : ℕ) → any (clashAt l i) j ≡ false → i ≤ j → j ≤ i → isApart l i ≡ true
+unfolding isApart
+apart-yes l i j h g k = let q : j ≡ i = omega arith in not-of-false _ (rw q at h)
+
+pub ruleset aparts = (needs, all-none, all-more, all-stops-below, any-none, kinds-go, files-go, apart-empty, apart-yes, apart-no, apart-up)

@@ -11,7 +11,7 @@ use Rattle.rules.specs.declared.file.File.{File}
 use Rattle.rules.specs.declared.item.Item.{Item}
 use Rattle.rules.specs.declared.list.LockList.{LockList}
 use Rattle.rules.specs.Drive.{legalName, lookUp, missing, blockOf}
-use Rattle.rules.specs.Locks.{anEmpty, anOpen, aLock, modeUnlocked, itemAt, fileOf, isLow, goodEmpty, openOf, opensUnlocked, isKindByAt, isLimit, isUser}
+use Rattle.rules.specs.Locks.{anEmpty, anOpen, aLock, modeUnlocked, itemAt, fileOf, isLow, goodEmpty, openOf, opensUnlocked, isKindByAt, isLimit, isUser, isPosition, isRule}
 use Rattle.rules.specs.declared.kind.Kind.{Kind}
 use Rattle.rules.specs.Kinds.{top}
 use Rattle.index.specs.Slots.{slotOf}
@@ -50,8 +50,12 @@ unfoldable pub lockOpenedAt : LockList → ℕ → Bool
 lockOpenedAt l i = lockOpened l (itemAt l i)
 
 -- the three limits and each process's user
-unfoldable pub goodHead : ℕ → ℕ → ℕ → List ℕ → Bool
-goodHead capacity openlimit locklimit users = isLimit capacity and isLimit openlimit and isLimit locklimit and all (isUser users) 16
+unfoldable pub goodHead : LockList → Bool
+goodHead l = isLimit (l .capacity) and isLimit (l .openlimit) and isLimit (l .locklimit) and all (isUser (l .users)) 16
+
+-- the positions and the rule
+unfoldable pub goodTail : Kind → LockList → Bool
+goodTail kind l = all (isPosition kind (l .positions)) 16 and isRule (l .rule)
 
 -- the record of a lock, 0 for an open
 unfoldable pub lockNumber : Item → ℕ

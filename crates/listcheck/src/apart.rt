@@ -1,17 +1,20 @@
 use crate::place::file_by;
 use index::slot::slot_of;
+use locklist::place::item_at;
+use locklist::unpack::sixteen_from;
 use rules::file::File;
 use rules::item::Item;
-use rules::list::LockList;
 use rules::tests::same_name;
 use words::hint::hint;
 use words::hint::note;
 ghost use mathlib.Core.Path.{_≡_};
 ghost use Prim.Native.Nat.{_<_};
 ghost use mathlib.Core.Bool.{not};
+ghost use lib.ListN.{length};
 ghost use lib.Dec.{eqb};
 ghost use Rattle.words.specs.Tests.{_and_, all};
-ghost use Rattle.rules.specs.Locks.{sameFile, standBeside, clash, isApart};
+ghost use Rattle.rules.specs.Locks.{unpack, sameFile, standBeside, clash, isApart};
+ghost use Rattle.locklist.specs.Places.{Unused};
 ghost use Rattle.listcheck.specs.Check.{fileBy, lockNumber, itemSlot};
 
 // Two files are the same.
@@ -106,14 +109,15 @@ fn item_slot(users: [u8; 16], it: Item) -> usize
 }
 
 // No item clashes with one before it.
-pub fn all_apart(l: LockList) -> bool
-    ensures { λ r. ⌜ r ≡ all (isApart l) 64 ⌝ }
+pub fn all_apart(list: &[u8], end: usize) -> bool
+    requires { ⌜ (length (now list) ≡ 1316) × Unused (now list) end ⌝ }
+    ensures { λ r. ⌜ r ≡ all (isApart (unpack (now (list .entry)))) 64 ⌝ }
 {
-    let users = l.users;
+    let users = sixteen_from(list, 3);
     let mut hints = [255u8; 256];
     let mut i: usize = 0;
-    while i < 64 {
-        let it = l.items[i];
+    while i < end {
+        let it = item_at(list, i);
         if it.kind == 0 {
             i += 1;
             continue;
@@ -122,11 +126,11 @@ pub fn all_apart(l: LockList) -> bool
         let mut j = hint(&hints, h, i);
         note(&mut hints, h, i as u8);
         while j < i {
-            if l.items[j].kind != it.kind {
+            let other = item_at(list, j);
+            if other.kind != it.kind {
                 j += 1;
                 continue;
             }
-            let other = l.items[j];
             if file_clash(it, other, users) {
                 return false;
             }

@@ -1,12 +1,16 @@
 use crate::apart::all_apart;
 use crate::limits::all_keep;
 use crate::place::place_alone;
-use locklist::start::all_users;
-use locklist::start::is_limit;
-use locklist::start::is_rule;
+use locklist::limit::all_users;
+use locklist::limit::is_limit_byte;
+use locklist::limit::is_rule_byte;
+use locklist::place::item_at;
+use locklist::place::used_places;
+use locklist::unpack::sixteen_from;
 use rules::kind::Kind;
 use rules::kind::entries;
-use rules::list::LockList;
+use rules::size::POSITIONS_AT;
+use rules::size::RULE_AT;
 ghost use mathlib.Core.Path.{_≡_};
 ghost use mathlib.Core.Bool.{true};
 ghost use lib.ListN.{length};
@@ -15,17 +19,18 @@ ghost use Rattle.words.specs.Tests.{_and_, all};
 ghost use Rattle.words.specs.Hints.{Hints};
 ghost use Rattle.rules.specs.Kinds.{entries};
 ghost use Rattle.rules.specs.Drive.{soundImage};
-ghost use Rattle.rules.specs.Locks.{unpack, zeroAt, isPosition, isRule, soundList};
+ghost use Rattle.rules.specs.Locks.{unpack, zeroAt, isPosition, soundList};
+ghost use Rattle.locklist.specs.Places.{Unused};
 ghost use Rattle.index.specs.Slots.{slotAt, inUse};
-ghost use Rattle.listcheck.specs.Check.{placeAloneAt, lockOpenedAt, goodHead};
+ghost use Rattle.listcheck.specs.Check.{placeAloneAt, lockOpenedAt, goodHead, goodTail};
 
 // The zero in each place.
-fn all_zero(list: &[u8]) -> bool
-    requires { ⌜ length (now list) ≡ 1316 ⌝ }
+fn all_zero(list: &[u8], end: usize) -> bool
+    requires { ⌜ (length (now list) ≡ 1316) × Unused (now list) end ⌝ }
     ensures { λ r. ⌜ r ≡ all (zeroAt (now (list .entry))) 64 ⌝ }
 {
     let mut i: usize = 0;
-    while i < 64 {
+    while i < end {
         if list[19 + 20 * i + 15] != 0 {
             return false;
         }
@@ -35,15 +40,15 @@ fn all_zero(list: &[u8]) -> bool
 }
 
 // Each place, by itself.
-fn places_alone(kind: Kind, l: LockList, image: &[u8], hints: &[u8; 256]) -> bool
-    requires { ⌜ (soundImage kind (now image) ≡ true) × Hints (slotAt (now image)) (inUse (now image)) (entries kind) (now hints) ⌝ }
-    ensures { λ r. ⌜ r ≡ all (placeAloneAt kind (now (image .entry)) l) 64 ⌝ }
+fn places_alone(kind: Kind, list: &[u8], end: usize, image: &[u8], hints: &[u8; 256]) -> bool
+    requires { ⌜ (length (now list) ≡ 1316) × Unused (now list) end × (soundImage kind (now image) ≡ true) × Hints (slotAt (now image)) (inUse (now image)) (entries kind) (now hints) ⌝ }
+    ensures { λ r. ⌜ r ≡ all (placeAloneAt kind (now (image .entry)) (unpack (now (list .entry)))) 64 ⌝ }
 {
-    let users = l.users;
-    let capacity = l.capacity;
+    let users = sixteen_from(list, 3);
+    let capacity = list[0];
     let mut i: usize = 0;
-    while i < 64 {
-        let it = l.items[i];
+    while i < end {
+        let it = item_at(list, i);
         if !place_alone(kind, image, hints, users, capacity, i, it) {
             return false;
         }
@@ -53,12 +58,13 @@ fn places_alone(kind: Kind, l: LockList, image: &[u8], hints: &[u8; 256]) -> boo
 }
 
 // Each lock's process has that file open unlocked.
-fn locks_opened(l: LockList) -> bool
-    ensures { λ r. ⌜ r ≡ all (lockOpenedAt l) 64 ⌝ }
+fn locks_opened(list: &[u8], end: usize) -> bool
+    requires { ⌜ (length (now list) ≡ 1316) × Unused (now list) end ⌝ }
+    ensures { λ r. ⌜ r ≡ all (lockOpenedAt (unpack (now (list .entry)))) 64 ⌝ }
 {
     let mut i: usize = 0;
-    'locks: while i < 64 {
-        let it = l.items[i];
+    'locks: while i < end {
+        let it = item_at(list, i);
         if it.kind != 2 {
             i += 1;
             continue;
@@ -67,7 +73,7 @@ fn locks_opened(l: LockList) -> bool
         let name = it.name;
         let mut o: usize = 0;
         while o < 64 {
-            let open = l.items[o];
+            let open = item_at(list, o);
             if open.opens_name(p, name) {
                 if open.mode != 1 {
                     return false;
@@ -83,18 +89,20 @@ fn locks_opened(l: LockList) -> bool
 }
 
 // Capacity, open limit and lock limit are 1 to 64, each user is 0 to 15.
-fn good_head(capacity: u8, openlimit: u8, locklimit: u8, users: [u8; 16]) -> bool
-    ensures { λ r. ⌜ r ≡ goodHead capacity openlimit locklimit users ⌝ }
+fn good_head(list: &[u8]) -> bool
+    requires { ⌜ length (now list) ≡ 1316 ⌝ }
+    ensures { λ r. ⌜ r ≡ goodHead (unpack (now (list .entry))) ⌝ }
 {
-    if !is_limit(capacity as u32) {
+    if !is_limit_byte(list[0]) {
         return false;
     }
-    if !is_limit(openlimit as u32) {
+    if !is_limit_byte(list[1]) {
         return false;
     }
-    if !is_limit(locklimit as u32) {
+    if !is_limit_byte(list[2]) {
         return false;
     }
+    let users = sixteen_from(list, 3);
     all_users(&users)
 }
 
@@ -120,39 +128,40 @@ fn all_positions(kind: Kind, positions: [u8; 16]) -> bool
 }
 
 // Each position is one, and the list's rule is.
-fn good_tail(kind: Kind, positions: [u8; 16], rule: u8) -> bool
-    ensures { λ r. ⌜ r ≡ (all (isPosition kind positions) 16 and isRule rule) ⌝ }
+fn good_tail(kind: Kind, list: &[u8]) -> bool
+    requires { ⌜ length (now list) ≡ 1316 ⌝ }
+    ensures { λ r. ⌜ r ≡ goodTail kind (unpack (now (list .entry))) ⌝ }
 {
+    let positions = sixteen_from(list, POSITIONS_AT);
     if !all_positions(kind, positions) {
         return false;
     }
-    is_rule(rule as u32)
+    is_rule_byte(list[RULE_AT])
 }
 
-// The list check: the list, unpacked and as it stands in its bytes, is sound against a sound image, whose entries the hints know.
-pub fn sound_list(kind: Kind, l: LockList, list: &[u8], image: &[u8], hints: &[u8; 256]) -> bool
-    requires { ⌜ (l ≡ unpack (now list)) × (length (now list) ≡ 1316) × (soundImage kind (now image) ≡ true) × Hints (slotAt (now image)) (inUse (now image)) (entries kind) (now hints) ⌝ }
+// The list check: the list, as it stands in its bytes, is sound against a sound image, whose entries the hints know.
+pub fn sound_list(kind: Kind, list: &[u8], image: &[u8], hints: &[u8; 256]) -> bool
+    requires { ⌜ (length (now list) ≡ 1316) × (soundImage kind (now image) ≡ true) × Hints (slotAt (now image)) (inUse (now image)) (entries kind) (now hints) ⌝ }
     ensures { λ r. ⌜ r ≡ soundList kind (now (list .entry)) (now (image .entry)) ⌝ }
 {
-    if !all_zero(list) {
+    let end = used_places(list);
+    if !all_zero(list, end) {
         return false;
     }
-    let users = l.users;
-    if !good_head(l.capacity, l.openlimit, l.locklimit, users) {
+    if !good_head(list) {
         return false;
     }
-    if !places_alone(kind, l, image, hints) {
+    if !places_alone(kind, list, end, image, hints) {
         return false;
     }
-    if !locks_opened(l) {
+    if !locks_opened(list, end) {
         return false;
     }
-    if !all_apart(l) {
+    if !all_apart(list, end) {
         return false;
     }
-    if !all_keep(l) {
+    if !all_keep(list, end) {
         return false;
     }
-    let positions = l.positions;
-    good_tail(kind, positions, l.rule)
+    good_tail(kind, list)
 }

@@ -1,7 +1,9 @@
-use rules::list::LockList;
+use locklist::place::item_at;
 ghost use mathlib.Core.Path.{_≡_};
+ghost use lib.ListN.{length};
 ghost use Rattle.words.specs.Tests.{all};
-ghost use Rattle.rules.specs.Locks.{keepsLimits};
+ghost use Rattle.rules.specs.Locks.{unpack, keepsLimits};
+ghost use Rattle.locklist.specs.Places.{Unused};
 ghost use Rattle.listcheck.specs.Check.{atMost};
 
 // No count is above that.
@@ -19,14 +21,15 @@ fn all_at_most(counts: [u8; 16], most: u8) -> bool
 }
 
 // Each process keeps both limits: its opens and its locks are counted in one pass.
-pub fn all_keep(l: LockList) -> bool
-    ensures { λ r. ⌜ r ≡ all (keepsLimits l) 16 ⌝ }
+pub fn all_keep(list: &[u8], end: usize) -> bool
+    requires { ⌜ (length (now list) ≡ 1316) × Unused (now list) end ⌝ }
+    ensures { λ r. ⌜ r ≡ all (keepsLimits (unpack (now (list .entry)))) 16 ⌝ }
 {
     let mut opens = [0u8; 16];
     let mut locks = [0u8; 16];
     let mut i: usize = 0;
-    while i < 64 {
-        let it = l.items[i];
+    while i < end {
+        let it = item_at(list, i);
         let p = it.process as usize;
         i += 1;
         if 16 <= p {
@@ -40,8 +43,8 @@ pub fn all_keep(l: LockList) -> bool
             locks[p] += 1;
         }
     }
-    if !all_at_most(opens, l.openlimit) {
+    if !all_at_most(opens, list[1]) {
         return false;
     }
-    all_at_most(locks, l.locklimit)
+    all_at_most(locks, list[2])
 }

@@ -12,10 +12,11 @@ ghost use lib.ListN.{length};
 ghost use lib.Dec.{eqb};
 ghost use mathlib.Core.Bool.{true};
 ghost use Rattle.words.specs.Tests.{_if_else_, all};
+ghost use Rattle.words.specs.Bytes.{isZero};
 ghost use Rattle.words.specs.Hints.{Hints};
 ghost use Rattle.rules.specs.Kinds.{entries};
 ghost use Rattle.rules.specs.Drive.{soundImage};
-ghost use Rattle.rules.specs.Locks.{isZero, goodEmpty};
+ghost use Rattle.rules.specs.Locks.{goodEmpty};
 ghost use Rattle.index.specs.Slots.{slotAt, inUse};
 ghost use Rattle.listcheck.specs.Check.{fileBy, openAlone, lockAlone, itemAlone, placeAlone};
 

@@ -1,34 +1,46 @@
 -- 42, 43 and 143: the outcome at each end of their routines. Assumes nothing.
-use Prim.Native.Nat.{ℕ, _≤_}
+use Prim.Native.Nat.{ℕ, _+_, _/_, _≤_}
 use mathlib.Core.Path.{_≡_, refl, sym, ap, _∙_}
 use mathlib.Core.Bool.{Bool, true, false, not}
-use mathlib.Core.List.{List, []}
+use mathlib.Core.List.{List, [], _++_}
 use native.Mathlib.Omega.{arith}
 use lib.Dec.{eqb}
 use borrow.Author.Tests.{leb-true, not-true, not-false}
 use Rattle.words.specs.Tests.{_if_else_, all}
-use Rattle.words.specs.Tables.{firstOf, noneZero}
+use Rattle.words.specs.Tables.{Row, firstOf, noneZero}
 use Rattle.words.proofs.Tests.{and-fst, and-snd}
 use Rattle.words.proofs.Tables.{nonzeros}
-use Rattle.words.proofs.Sets.{row-none}
+use Rattle.words.proofs.Sets.{row-none, part-then}
 use Rattle.rules.specs.declared.file.File.{File}
 use Rattle.rules.specs.declared.list.LockList.{LockList}
 use Rattle.rules.specs.declared.routine.Chosen.the-variants.{Call}
 use Rattle.rules.specs.declared.routine.Routine.the-variants.{Lock, Unlock, Terminate}
 use Rattle.rules.specs.Serves.{Buffers, Did, withList}
 use Rattle.rules.specs.Kinds.{entries}
+use Rattle.rules.specs.Drive.{entryOf, blockIn, blockOf}
 use Rattle.rules.specs.Locks.{movedTo, unpack, pack, openOf, itemAt, isLimit, zeroAt, soundLocks, soundList}
 use Rattle.rules.specs.Asks.{callerFile, recordOf}
-use Rattle.rules.specs.Codes.{rowsLacking, rows42, rows43}
+use Rattle.rules.specs.Codes.{lacks, rowsLacking, rows42, rows43}
 use Rattle.rules.specs.Effects.{lockedRun, unlockedRun, withoutBy, terminated, does42, does43, does143}
 use Rattle.rules.specs.Call.{askedBy, asked, rowsOf, effectOf, served}
 use Rattle.rules.proofs.Ends.{did-as, did-none, did-refuse, did-pass, served-as, did-left}
 use Rattle.locking.specs.By.{by42, by43}
 use Rattle.rules.specs.declared.kind.Kind.{Kind}
 
+-- record r + k lacks its extent or block where its block b, in the entry e of its extent, is 0
+pub lacks-by : (kind : Kind) (s : List ℕ) (f : File) (r k e b : ℕ) → e ≡ entryOf kind s f ((r + k) / 128) → b ≡ blockIn kind s e (r + k)
+    → eqb b 0 ≡ lacks kind s f r k
+unfolding lacks blockOf
+lacks-by kind s f r k e b h g = rw (g, h) refl
+
 pub nonzero-lacking : (kind : Kind) (s : List ℕ) (f : File) (r n k : ℕ) → noneZero (rowsLacking kind s f r n k) ≡ true
 unfolding rowsLacking
 nonzero-lacking kind s f r n k = search nonzeros depth 20 fits 20000
+
+-- no record of the run lacks anything
+pub none-lacking : (kind : Kind) (s : List ℕ) (f : File) (r n k a c : ℕ) (rest : List Row) → a ≡ firstOf (rowsLacking kind s f r n k) → a ≡ 0
+    → c ≡ firstOf rest → c ≡ firstOf (rowsLacking kind s f r n k ++ rest)
+none-lacking kind s f r n k a c rest h z e = part-then _ _ _ _ h z (nonzero-lacking kind s f r n k) e
 
 -- the capacity of a sound list
 pub capacity-fits : (kind : Kind) (l : LockList) (list s : List ℕ) → l ≡ unpack list → soundList kind list s ≡ true → l .capacity ≤ 64

@@ -2,8 +2,8 @@ use crate::run::is_file_id;
 use crate::run::is_unlocked;
 use crate::run::lacking;
 use crate::run::not_to_take;
-use locklist::ask::caller_file;
-use locklist::ask::record_of;
+use locklist::fcb::caller_file;
+use locklist::fcb::record_of;
 use locklist::pack::pack;
 use rules::code::BAD_FILE_ID;
 use rules::code::NOT_OPEN;
@@ -22,21 +22,8 @@ ghost use Rattle.rules.specs.Call.{Ready, served};
 ghost use Rattle.rules.specs.declared.routine.Chosen.the-variants.{Call};
 ghost use Prim.Native.Nat.{_*_, _≤_, _<_};
 ghost use Rattle.rules.specs.declared.routine.Routine.the-variants.{Lock};
-ghost use Rattle.rules.specs.Codes.{rowsLacking, firstLacking, rowsTake, rows42};
-ghost use mathlib.Core.List.{_++_};
+ghost use Rattle.rules.specs.Codes.{rows42};
 ghost use Rattle.locking.specs.By.{by42};
-
-// The code of the first refusal for the records of the run, or 0.
-fn run_refusal(kind: Kind, p: u8, l: LockList, f: File, r: u32, n: u32, image: &[u8]) -> u32
-    requires { ⌜ (l .capacity ≤ 64) × (n ≤ 16) × (r < 16777216) × (32 * entries kind ≤ length (now image)) ⌝ }
-    ensures { λ c. ⌜ c ≡ firstOf (rowsLacking kind (now (image .entry)) f r n (firstLacking kind (now (image .entry)) f r n) ++ rowsTake p l f r n) ⌝ }
-{
-    let code = lacking(kind, image, f, r as usize, n as usize);
-    if code != 0 {
-        return code;
-    }
-    not_to_take(p, l, f, r, n)
-}
 
 // The code of the first refusal of 42, or 0. The caller's open is at place `o` (64: none); modes 0 and 2 pass.
 fn lock_refusal(
@@ -65,7 +52,11 @@ fn lock_refusal(
     if is_past(kind, (r + n - 1) as usize) {
         return PAST_END;
     }
-    run_refusal(kind, p, l, f, r, n, image)
+    let code = lacking(kind, image, f, r as usize, n as usize);
+    if code != 0 {
+        return code;
+    }
+    not_to_take(p, l, f, r, n)
 }
 
 // 42 on what was found: decide first, then lock the whole run.

@@ -1,6 +1,6 @@
-use directory::byte::wide;
-use directory::find::block_of;
+use directory::find::block_in;
 use directory::find::entry_of;
+use directory::run::entry_at;
 use rules::code::LOCK_LIMIT;
 use rules::code::LOCK_LIST_FULL;
 use rules::code::LOCKED;
@@ -10,6 +10,7 @@ use rules::file::File;
 use rules::kind::Kind;
 use rules::kind::entries;
 use rules::list::LockList;
+use words::byte::wide;
 ghost use mathlib.Core.Path.{_≡_};
 ghost use Prim.Native.Nat.{_+_, _*_, _≤_, _<_};
 ghost use lib.ListN.{length};
@@ -18,7 +19,7 @@ ghost use Rattle.words.specs.Tests.{any, count};
 ghost use Rattle.words.specs.Tables.{firstOf};
 ghost use Rattle.rules.specs.Kinds.{entries};
 ghost use Rattle.rules.specs.Locks.{itemAt, locksBy, freePlaces};
-ghost use Rattle.rules.specs.Codes.{isFileId, noExtent, lacks, firstLacking, rowsLacking, isOthers, isNew, rowsTake};
+ghost use Rattle.rules.specs.Codes.{isFileId, noExtent, firstLacking, rowsLacking, isOthers, isNew, rowsTake};
 
 // The open at place `o` is unlocked.
 pub fn is_unlocked(l: LockList, o: usize) -> bool
@@ -53,22 +54,16 @@ fn no_extent(kind: Kind, image: &[u8], f: File, r: usize, k: usize) -> bool
     entries(kind) <= entry_of(kind, image, f, (r + k) / 128)
 }
 
-// Record `r + k` lacks its extent or block.
-fn lacks_block(kind: Kind, image: &[u8], f: File, r: usize, k: usize) -> bool
-    requires { ⌜ (r + k < 4294967296) × (32 * entries kind ≤ length (now image)) ⌝ }
-    ensures { λ t. ⌜ t ≡ lacks kind (now (image .entry)) f r k ⌝ }
-{
-    block_of(kind, image, f, r + k) == 0
-}
-
 // How far into the run the first record is that lacks its extent or block, `n` where none does.
 fn first_lacking(kind: Kind, image: &[u8], f: File, r: usize, n: usize) -> usize
-    requires { ⌜ (r + n < 4294967296) × (32 * entries kind ≤ length (now image)) ⌝ }
+    requires { ⌜ (n ≤ 16) × (r < 16777216) × (32 * entries kind ≤ length (now image)) ⌝ }
     ensures { λ k. ⌜ (k ≡ firstLacking kind (now (image .entry)) f r n) × (k ≤ n) ⌝ }
 {
+    let mut e = 0;
     let mut k = 0;
     while k < n {
-        if lacks_block(kind, image, f, r, k) {
+        e = entry_at(kind, image, f, r, k, e);
+        if block_in(kind, image, e, r + k) == 0 {
             return k;
         }
         k += 1;
@@ -92,7 +87,7 @@ fn lacking_code(kind: Kind, image: &[u8], f: File, r: usize, n: usize, k: usize)
 
 // The code for a run of which a record is not there, or 0.
 pub fn lacking(kind: Kind, image: &[u8], f: File, r: usize, n: usize) -> u32
-    requires { ⌜ (r + n < 4294967296) × (32 * entries kind ≤ length (now image)) ⌝ }
+    requires { ⌜ (n ≤ 16) × (r < 16777216) × (32 * entries kind ≤ length (now image)) ⌝ }
     ensures { λ c. ⌜ c ≡ firstOf (rowsLacking kind (now (image .entry)) f r n (firstLacking kind (now (image .entry)) f r n)) ⌝ }
 {
     let k = first_lacking(kind, image, f, r, n);

@@ -1,7 +1,7 @@
 use crate::run::is_file_id;
 use crate::run::is_unlocked;
-use locklist::ask::caller_file;
-use locklist::ask::record_of;
+use locklist::fcb::caller_file;
+use locklist::fcb::record_of;
 use locklist::pack::pack;
 use rules::code::BAD_FILE_ID;
 use rules::code::NOT_OPEN;

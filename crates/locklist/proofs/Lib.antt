@@ -1,3 +1,5 @@
 -- The proofs of `locklist`.
+pub mod Fcbs
 pub mod Packs
+pub mod Places
 pub mod Starts

@@ -3,12 +3,12 @@ use Prim.Native.Nat.{ℕ, _+_, _-_, _*_, _≤_, _<_}
 use mathlib.Core.Path.{_≡_, refl, sym, ap, subst, _∙_}
 use mathlib.Core.List.{List, [], _++_, append-nil, append-assoc}
 use native.Mathlib.Omega.{arith}
-use lib.ListN.{length, take, drop, set, drop-of-length-le, List·getD-eq-default}
+use lib.ListN.{length, take, set, replicate, length-replicate, drop-of-length-le, List·getD-eq-default}
 use lib.Seq.{take-all}
 use borrow.Author.Needs.{needs}
 use Rattle.words.specs.Lists.{tab, flat}
 use Rattle.words.specs.Bytes.{byte, byteFrom, put}
-use Rattle.words.proofs.Lists.{length-mapped, filled, filled-turn, filled-all, tab-getD}
+use Rattle.words.proofs.Lists.{length-mapped, filled, filled-turn, filled-up, tab-getD}
 use Rattle.words.proofs.Bytes.{length-put}
 use Rattle.words.proofs.Items.{take-put, flat-more}
 use Rattle.rules.specs.declared.kind.Rule.{Rule}
@@ -17,9 +17,11 @@ use Rattle.rules.specs.Kinds.{toldRule}
 use Rattle.words.specs.Tests.{_if_else_}
 use Rattle.rules.specs.declared.item.Item.{Item}
 use Rattle.rules.specs.declared.list.LockList.{LockList}
-use Rattle.rules.specs.Locks.{blank, itemAt, withItems, itemFrom, itemIn, packItem, pack, unpack, ruleIn}
+use Rattle.rules.specs.Locks.{blank, emptyPlace, itemAt, withItems, itemIn, packItem, pack, unpack, ruleIn}
 use Rattle.rules.proofs.Packing.{packed-long}
 use Rattle.locklist.specs.Heads.{heads, tails, Packed}
+use Rattle.locklist.specs.Places.{Unused}
+use Rattle.locklist.proofs.Places.{item-in, unused-in}
 
 heads-long : (l : LockList) → length (heads l) ≡ 19
 unfolding heads tab
@@ -86,11 +88,6 @@ packed-whole l s t v m e g h =
 
 pub ruleset packs = (needs, length-mapped, packed-none, packed-more, packed-ends, tails-fit, packed-whole)
 
--- the item that a place's part of the list says
-pub place-as : (s : List ℕ) (i : ℕ) (r : Item) → r ≡ itemFrom (take (19 + 20 * i + 20 - (19 + 20 * i)) (drop (19 + 20 * i) s)) → r ≡ itemIn s i
-unfolding itemIn
-place-as s i r h = let q : 19 + 20 * i + 20 - (19 + 20 * i) ≡ 20 = omega arith in rw q at h
-
 -- the rule that a list's last byte chooses; a list that has none is of rule 0
 pub rule-none : (list : List ℕ) → length list ≤ 1315 → Mpm ≡ ruleIn list
 unfolding ruleIn toldRule _if_else_
@@ -113,26 +110,35 @@ module _ (s : List ℕ) (l₀ : LockList) where
   placed-none h = record { long = h; so = refl }
 
   module _ (l : LockList) (i : ℕ) (p : Placed s l₀ l i) where
-    pub placed-more : (x : Item) → i < 64 → x ≡ itemIn s i → Placed s l₀ (withItems l (set (l .items) i x)) (i + 1)
+    pub placed-more : (x : Item) → i < 64 → x ≡ itemAt (unpack s) i → Placed s l₀ (withItems l (set (l .items) i x)) (i + 1)
     placed-more x h e =
         let k : i < length (l₀ .items) = omega (arith, p .long) in
         record {
           long = p .long;
           so =
               ap (λ (m : LockList). withItems m (set (m .items) i x)) (p .so)
-              ∙ ap (withItems l₀) (filled-turn (itemIn s) i (l₀ .items) _ x k refl e);
+              ∙ ap (withItems l₀) (filled-turn (itemIn s) i (l₀ .items) _ x k refl (e ∙ item-in s i h));
         }
 
--- it began with the limits, the users, the positions and the rule
-pub placed-ends : (s users positions : List ℕ) (items : List Item) (l : LockList) (i : ℕ) → users ≡ tab (byteFrom s 3) 16
+-- it began with the limits, the users, the positions and the rule, and empty places; from n on no place is used
+pub placed-ends : (s users positions : List ℕ) (l : LockList) (n i : ℕ) → users ≡ tab (byteFrom s 3) 16
     → positions ≡ tab (byteFrom s 1299) 16
     → Placed s
-    (record { capacity = byte s 0; openlimit = byte s 1; locklimit = byte s 2; users = users; items = items; positions = positions; rule = byte s 1315 }) l i
-    → 64 ≤ i → i ≤ 64 → l ≡ unpack s
+    (record {
+      capacity = byte s 0;
+      openlimit = byte s 1;
+      locklimit = byte s 2;
+      users = users;
+      items = replicate 64 emptyPlace;
+      positions = positions;
+      rule = byte s 1315;
+    }) l i
+    → Unused s n → n ≤ i → i ≤ n → l ≡ unpack s
 unfolding unpack
-placed-ends s users positions items l i u v p g h =
-    let q : i ≡ 64 = omega arith in
-    let e : filled (itemIn s) i items ≡ tab (itemIn s) 64 = ap (λ (n : ℕ). filled (itemIn s) n items) q ∙ filled-all (itemIn s) 64 items (p .long) in
+placed-ends s users positions l n i u v p w g h =
+    let within : i ≤ 64 = omega (arith, w .within) in
+    let e : filled (itemIn s) i (replicate 64 emptyPlace) ≡ tab (itemIn s) 64 =
+    filled-up (itemIn s) i 64 emptyPlace within (λ k m l. unused-in s n k w (omega arith) l) in
     p .so ∙ rw (e, u, v)
 
-pub ruleset placing = (needs, place-as, placed-none, placed-more, placed-ends)
+pub ruleset placing = (needs, length-replicate, placed-none, placed-more, placed-ends)

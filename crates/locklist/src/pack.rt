@@ -1,8 +1,9 @@
 use crate::mark::first_mark;
 use crate::mark::second_mark;
-use rules::bytes::put_bytes;
 use rules::item::Item;
 use rules::list::LockList;
+use rules::size::POSITIONS_AT;
+use words::byte::put_bytes;
 ghost use mathlib.Core.Path.{_≡_};
 ghost use lib.ListN.{length};
 ghost use Rattle.rules.specs.Locks.{packItem, pack};
@@ -117,5 +118,5 @@ pub fn pack(l: LockList, list: &mut [u8])
 {
     pack_places(l, &mut *list);
     let tail = tail_bytes(l);
-    put_bytes(list, 1299, &tail);
+    put_bytes(list, POSITIONS_AT, &tail);
 }

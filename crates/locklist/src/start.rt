@@ -1,3 +1,6 @@
+use crate::limit::all_users;
+use crate::limit::is_limit;
+use crate::limit::is_rule;
 use crate::pack::pack;
 use crate::unpack::sixteen_from;
 use rules::code::BAD_CALL;
@@ -5,6 +8,7 @@ use rules::item::Item;
 use rules::kind::Kind;
 use rules::kind::entries;
 use rules::list::LockList;
+use rules::size::LIST_SIZE;
 ghost use mathlib.Core.Path.{_≡_};
 ghost use lib.ListN.{length};
 ghost use mathlib.Core.Bool.{not};
@@ -12,38 +16,6 @@ ghost use lib.Dec.{eqb};
 ghost use Rattle.words.specs.Tests.{_or_, all};
 ghost use Rattle.rules.specs.Locks.{isLimit, isRule, isUser, badStart, freshList, start};
 ghost use Rattle.locklist.specs.Start.{DidStart, MayStart};
-
-// A limit is 1 to 64.
-pub fn is_limit(n: u32) -> bool
-    ensures { λ r. ⌜ r ≡ isLimit n ⌝ }
-{
-    if n < 1 {
-        return false;
-    }
-    n <= 64
-}
-
-// A rule is 0 or 1.
-pub fn is_rule(n: u32) -> bool
-    ensures { λ r. ⌜ r ≡ isRule n ⌝ }
-{
-    n <= 1
-}
-
-// Each of the sixteen users is 0 to 15.
-pub fn all_users(users: &[u8]) -> bool
-    requires { ⌜ length (now users) ≡ 16 ⌝ }
-    ensures { λ r. ⌜ r ≡ all (isUser (now (users .entry))) 16 ⌝ }
-{
-    let mut p = 0;
-    while p < 16 {
-        if 15 < users[p] {
-            return false;
-        }
-        p += 1;
-    }
-    true
-}
 
 // A buffer's length is wrong, or a user out of range.
 fn bad_buffers(users: &[u8], list: &[u8]) -> bool
@@ -55,7 +27,7 @@ fn bad_buffers(users: &[u8], list: &[u8]) -> bool
     if !all_users(users) {
         return true;
     }
-    list.len() != 1316
+    list.len() != LIST_SIZE
 }
 
 // .. or the rule is neither 0 nor 1

@@ -1,20 +1,18 @@
-use crate::mark::kind_of;
-use directory::name::eleven_from;
+use crate::place::item_at;
+use crate::place::used_places;
 use rules::item::Item;
+use rules::kind::Rule;
+use rules::kind::told_rule;
 use rules::list::LockList;
+use rules::size::POSITIONS_AT;
+use rules::size::RULE_AT;
 ghost use mathlib.Core.Path.{_≡_};
-ghost use Prim.Native.Nat.{_+_, _*_, _≤_, _<_};
+ghost use Prim.Native.Nat.{_+_, _≤_};
 ghost use lib.ListN.{length};
 ghost use Rattle.words.specs.Lists.{tab};
-ghost use Rattle.words.specs.Bytes.{byteFrom, word};
-ghost use Rattle.rules.specs.Locks.{itemFrom, unpack};
-
-// The number that four bytes say, low byte first.
-fn word_of(a: u8, b: u8, c: u8, d: u8) -> u32
-    ensures { λ r. ⌜ r ≡ word a b c d ⌝ }
-{
-    (a as u32) + 256 * ((b as u32) + 256 * ((c as u32) + 256 * (d as u32)))
-}
+ghost use Rattle.words.specs.Bytes.{byteFrom};
+ghost use Rattle.rules.specs.Kinds.{toldRule};
+ghost use Rattle.rules.specs.Locks.{unpack, ruleIn};
 
 // Sixteen bytes from a place on: each process's user, or its next entry.
 pub fn sixteen_from(s: &[u8], at: usize) -> [u8; 16]
@@ -30,30 +28,13 @@ pub fn sixteen_from(s: &[u8], at: usize) -> [u8; 16]
     bytes
 }
 
-// The item that twenty bytes say.
-pub fn item_from(b: &[u8]) -> Item
-    requires { ⌜ length (now b) ≡ 20 ⌝ }
-    ensures { λ r. ⌜ r ≡ itemFrom (now (b .entry)) ⌝ }
-{
-    let kind = kind_of(b[0], b[1]);
-    let name = eleven_from(b, 3);
-    let number = word_of(b[16], b[17], b[18], b[19]);
-    Item {
-        kind: kind,
-        process: b[2],
-        name: name,
-        mode: b[14],
-        number: number,
-    }
-}
-
-// The list that 1,316 bytes say: its limits, users, positions and rule, then its places one by one.
+// The list that 1,316 bytes say: its limits, users, positions and rule, then the places that may be used, one by one.
 pub fn unpack(list: &[u8]) -> LockList
     requires { ⌜ length (now list) ≡ 1316 ⌝ }
     ensures { λ r. ⌜ r ≡ unpack (now (list .entry)) ⌝ }
 {
     let users = sixteen_from(list, 3);
-    let positions = sixteen_from(list, 1299);
+    let positions = sixteen_from(list, POSITIONS_AT);
     let mut l = LockList {
         capacity: list[0],
         openlimit: list[1],
@@ -61,14 +42,30 @@ pub fn unpack(list: &[u8]) -> LockList
         users: users,
         items: [Item::EMPTY; 64],
         positions: positions,
-        rule: list[1315],
+        rule: list[RULE_AT],
     };
+    let end = used_places(list);
     let mut i: usize = 0;
-    while i < 64 {
-        let at = 19 + 20 * i;
-        let end = at + 20;
-        l.items[i] = item_from(&list[at..end]);
+    while i < end {
+        l.items[i] = item_at(list, i);
         i += 1;
     }
     l
+}
+
+// The rule that a byte tells.
+fn byte_rule(number: u8) -> Rule
+    ensures { λ r. ⌜ r ≡ toldRule number ⌝ }
+{
+    told_rule(number as u32)
+}
+
+// The rule that a list chooses, whatever its length and whatever stands in it.
+pub fn rule_in(list: &[u8]) -> Rule
+    ensures { λ r. ⌜ r ≡ ruleIn (now (list .entry)) ⌝ }
+{
+    if list.len() <= RULE_AT {
+        return Rule::Mpm;
+    }
+    byte_rule(list[RULE_AT])
 }

@@ -8,6 +8,7 @@ use rules::code::BAD_LIST;
 use rules::code::IN_USE;
 use rules::kind::Kind;
 use rules::list::LockList;
+use rules::size::LIST_SIZE;
 ghost use mathlib.Core.Path.{_≡_};
 ghost use mathlib.Core.Bool.{not};
 ghost use lib.ListN.{length};
@@ -35,7 +36,7 @@ fn holds_open(l: LockList) -> bool
 fn bad_lengths(image: &[u8], list: &[u8], out: &[u8]) -> bool
     ensures { λ r. ⌜ r ≡ (not (eqb (length (now (list .entry))) 1316) or not (eqb (length (now (out .entry))) (length (now (image .entry))))) ⌝ }
 {
-    if list.len() != 1316 {
+    if list.len() != LIST_SIZE {
         return true;
     }
     out.len() != image.len()
@@ -52,11 +53,10 @@ fn refusal(kind: Kind, image: &[u8], list: &[u8], out: &[u8]) -> u32
     if !sound_index(kind, image, &mut hints) {
         return BAD_IMAGE;
     }
-    let l = unpack(list);
-    if !sound_list(kind, l, list, image, &hints) {
+    if !sound_list(kind, list, image, &hints) {
         return BAD_LIST;
     }
-    if holds_open(l) {
+    if holds_open(unpack(list)) {
         return IN_USE;
     }
     0

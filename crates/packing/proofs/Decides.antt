@@ -18,14 +18,16 @@ use Rattle.words.proofs.Lists.{tab-ext, tab-at}
 use Rattle.rules.specs.declared.kind.Kind.{Kind}
 use Rattle.rules.specs.Kinds.{blockSize, entries, numbers}
 use Rattle.rules.specs.declared.file.File.{File}
-use Rattle.rules.specs.Drive.{isEmpty, userByte, nameAt, extentAt, mapNumber, mapPlace, noEntry, fileFrom, fileAt, entryOf, lookUp, missing, blockIn, blockOf, recordAt, soundImage, goodFields, goodUser}
+use Rattle.rules.specs.Drive.{isEmpty, userByte, nameAt, extentAt, mapNumber, mapPlace, noEntry, fileFrom, fileAt, entryOf, lookUp, missing, blockIn, blockOf}
+use Rattle.rules.specs.Drive.{recordAt, soundImage, goodFields, goodUser}
 use Rattle.rules.specs.Look.{mayLook}
 use Rattle.rules.proofs.Sizes.{directory-size, entries-some, place-fits, recordOver, over-extent, over-place, over-byte}
 use Rattle.rules.proofs.Sound.{Is, sound-of, found-is, file-long, from-long}
 use Rattle.soundness.proofs.Blocks.{only, found-below}
 use Rattle.soundness.proofs.Taken.{name-legal}
 use Rattle.soundness.proofs.Entered.{low-low}
-use Rattle.packing.specs.Same.{highFrom, attributes, SameBook, numberIn, sameByte, sameBlock, sameHeld, samePlace, sameHigh, sameMarks, sameAt, sameEntry, sameBook}
+use Rattle.packing.specs.Same.{highFrom, attributes, SameBook, numberIn, sameByte, sameBlock, sameHeld, samePlace, sameHigh, sameMarks, sameAt, sameEntry}
+use Rattle.packing.specs.Same.{sameBook}
 use Rattle.packing.proofs.Moved.{Held, Shown, block-at, block-none, held-shown}
 use Rattle.packing.proofs.Looks.{shown-look, look-shown}
 

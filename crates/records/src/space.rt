@@ -1,8 +1,8 @@
 use drive::free::free_blocks;
-use rules::bytes::put_bytes;
-use rules::bytes::three_bytes;
 use rules::kind::Kind;
 use rules::kind::block_records;
+use words::byte::put_bytes;
+use words::byte::three_bytes;
 ghost use mathlib.Core.Path.{_≡_};
 ghost use Prim.Native.Nat.{_*_, _≤_};
 ghost use Rattle.rules.specs.Kinds.{blockRecords, most};

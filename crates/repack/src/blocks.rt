@@ -1,11 +1,11 @@
 use directory::entry::is_empty;
 use directory::entry::map_number;
 use directory::place::block_at;
-use rules::bytes::put_bytes;
 use rules::kind::Kind;
 use rules::kind::block_size;
 use rules::kind::entries;
 use rules::kind::numbers;
+use words::byte::put_bytes;
 ghost use mathlib.Core.Path.{_≡_};
 ghost use mathlib.Core.Bool.{true, false};
 ghost use Prim.Native.Nat.{_+_, _*_, _<_, _≤_};

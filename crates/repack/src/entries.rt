@@ -1,10 +1,10 @@
 use directory::entry::is_empty;
 use directory::entry::map_number;
-use rules::bytes::put_bytes;
 use rules::kind::Kind;
 use rules::kind::entries;
 use rules::kind::numbers;
 use rules::tests::one_if;
+use words::byte::put_bytes;
 use writing::record::put_number;
 ghost use mathlib.Core.Path.{_≡_};
 ghost use mathlib.Core.Bool.{false, not};

@@ -3,7 +3,7 @@ use crate::entries::lay_entries;
 use directory::place::block_at;
 use rules::kind::Kind;
 use rules::kind::entries;
-use writing::bytes::fill;
+use words::byte::fill;
 ghost use mathlib.Core.Path.{_≡_};
 ghost use mathlib.Core.Bool.{true};
 ghost use Prim.Native.Nat.{_-_, _*_, _≤_};

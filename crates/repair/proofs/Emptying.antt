@@ -17,7 +17,8 @@ use Rattle.rules.specs.Drive.{isEmpty, fileAt, extentAt, isEntry, goodFields, i
 use Rattle.rules.proofs.Sound.{Is, Entries, entry-so, entry-is, file-long}
 use Rattle.rules.proofs.Frames.{head-of, fields-same, is-same}
 use Rattle.repair.specs.Salvage.{emptied, mustGo, weededAt, weeded, begunAt, begun, kept}
-use Rattle.repair.proofs.Changes.{Empties, empties-then, emptied-there, emptied-other, emptied-empties, turns-weeded, turns-begun, still, still-used, still-file, still-extent, still-is}
+use Rattle.repair.proofs.Changes.{Empties, empties-then, emptied-there, emptied-other, emptied-empties, turns-weeded, turns-begun, still, still-used}
+use Rattle.repair.proofs.Changes.{still-file, still-extent, still-is}
 
 -- used entries below m have good fields, and none repeats an earlier one
 record Weeds (kind : Kind) (m : ℕ) (s : List ℕ) : Type 0 where

@@ -13,7 +13,8 @@ use Rattle.words.proofs.AreBytes.{bytes-set, bytes-put, bytes-le, bytes-turns, 
 use Rattle.rules.specs.declared.kind.Kind.{Kind}
 use Rattle.rules.specs.Kinds.{numbers, entries, width}
 use Rattle.rules.specs.Drive.{isEmpty, hasFirst, mapAt}
-use Rattle.repair.specs.Salvage.{emptied, mustGo, weededAt, weeded, begunAt, begun, mustZero, zeroedAt, zeroedTo, cleanedAt, cleanedTo, kept, repaired, isZeroed, emptiedTold, toldOf, toldAt, reportOf}
+use Rattle.repair.specs.Salvage.{emptied, mustGo, weededAt, weeded, begunAt, begun, mustZero, zeroedAt, zeroedTo, cleanedAt, cleanedTo, kept, repaired}
+use Rattle.repair.specs.Salvage.{isZeroed, emptiedTold, toldOf, toldAt, reportOf}
 use Rattle.repair.proofs.Zeros.{numbers-few}
 
 emptied-bytes : (e : ℕ) (s : List ℕ) → areBytes s ≡ true → areBytes (emptied e s) ≡ true

@@ -20,7 +20,8 @@ use Rattle.rules.specs.Kinds.{entries, numbers}
 use Rattle.rules.specs.Drive.{goodLength, blocks, isEmpty, mapNumber, holdsNumber, namesBlock, namedBefore, inRange, isFirst}
 use Rattle.rules.proofs.Frames.{map-same}
 use Rattle.soundness.proofs.Numbers.{numbered}
-use Rattle.repair.specs.Salvage.{mustZero, zeroedAt, zeroedTo, cleanedAt, cleanedTo, kept, repaired, isZeroed, emptiedTold, toldOf, toldAt, reportOf, numberChanged, compared}
+use Rattle.repair.specs.Salvage.{mustZero, zeroedAt, zeroedTo, cleanedAt, cleanedTo, kept, repaired, isZeroed, emptiedTold, toldOf, toldAt, reportOf}
+use Rattle.repair.specs.Salvage.{numberChanged, compared}
 use Rattle.repair.specs.Mends.{staysNamed}
 use Rattle.repair.proofs.Zeros.{zeroed-here, zeroed-other, numbers-few}
 use Rattle.repair.proofs.Changes.{Zeroes, turns-zeroes, to-zeroes, zeroes-empty, still}

@@ -16,7 +16,8 @@ use Rattle.words.proofs.Sets.{and-both, and-left, and-right, or-none, not-of-tr
 use Rattle.rules.specs.declared.kind.Kind.{Kind}
 use Rattle.rules.specs.Kinds.{entries, numbers}
 use Rattle.rules.specs.Drive.{goodLength, isEmpty, goodFields, inRange, isFirst, isRepeat, goodEntry, hasFirst, soundDirectory, soundImage}
-use Rattle.repair.specs.Salvage.{mustGo, weededAt, weeded, begunAt, begun, mustZero, zeroedAt, zeroedTo, cleanedAt, cleanedTo, kept, repaired, isZeroed, emptiedTold, toldOf, toldAt, reportOf}
+use Rattle.repair.specs.Salvage.{mustGo, weededAt, weeded, begunAt, begun, mustZero, zeroedAt, zeroedTo, cleanedAt, cleanedTo, kept, repaired, isZeroed}
+use Rattle.repair.specs.Salvage.{emptiedTold, toldOf, toldAt, reportOf}
 use Rattle.repair.proofs.Cleaning.{repaired-sound}
 
 -- steps that change nothing

@@ -9,9 +9,11 @@ use Rattle.words.specs.Bytes.{byte}
 use Rattle.rules.specs.declared.kind.Rule.{Rule}
 use Rattle.rules.specs.declared.kind.Rule.the-variants.{Mpm, Cpm}
 use Rattle.rules.specs.declared.answer.ImageAnswer.{ImageAnswer}
-use Rattle.rules.specs.declared.answer.ImageAnswer.the-variants.{Sound, WrongLength, BadUser, BadName, BadNumbers, BlockOutside, BlockBefore, ExtentBefore, NoFirst}
+use Rattle.rules.specs.declared.answer.ImageAnswer.the-variants.{Sound, WrongLength, BadUser, BadName, BadNumbers, BlockOutside, BlockBefore}
+use Rattle.rules.specs.declared.answer.ImageAnswer.the-variants.{ExtentBefore, NoFirst}
 use Rattle.rules.specs.declared.routine.Routine.{Routine}
-use Rattle.rules.specs.declared.routine.Routine.the-variants.{Open, Close, SearchFirst, SearchNext, Delete, Make, Rename, Read, Write, Size, WriteZeros, TestWrite, Lock, Unlock, FreeSpace, Terminate}
+use Rattle.rules.specs.declared.routine.Routine.the-variants.{Open, Close, SearchFirst, SearchNext, Delete, Make, Rename, Read, Write, Size, WriteZeros}
+use Rattle.rules.specs.declared.routine.Routine.the-variants.{TestWrite, Lock, Unlock, FreeSpace, Terminate}
 use Rattle.rules.specs.declared.routine.Chosen.the-variants.{Call}
 use Rattle.rules.specs.Serves.{functionOf, chosen}
 use Rattle.rules.specs.Drive.{badFor, imageNumber, imageEntry, imageTold}

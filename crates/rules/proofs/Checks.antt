@@ -9,14 +9,18 @@ use lib.Dec.{eqb, leb}
 use borrow.Author.Tests.{ne-eqb, lt-leb, le-leb, leb-true, leb-false, not-true, not-false}
 use Rattle.words.specs.Tests.{_and_, _or_, _if_else_, all, any, lowest}
 use Rattle.words.specs.Tables.{Row, _when_, firstOf}
-use Rattle.words.proofs.Tests.{either, and-fst, or-fst, all-at, all-fails, all-make, any-at, lowest-none, lowest-found, lowest-holds, lowest-below, lowest-least}
+use Rattle.words.proofs.Tests.{either, and-fst, or-fst, all-at, all-fails, all-make, any-at, lowest-none, lowest-found, lowest-holds, lowest-below}
+use Rattle.words.proofs.Tests.{lowest-least}
 use Rattle.words.proofs.Sets.{if-yes, if-no, and-first, and-then}
 use Rattle.rules.specs.declared.kind.Kind.{Kind}
 use Rattle.rules.specs.declared.kind.Kind.the-variants.{Small, Large}
 use Rattle.rules.specs.declared.answer.ImageAnswer.{ImageAnswer}
-use Rattle.rules.specs.declared.answer.ImageAnswer.the-variants.{Sound, WrongLength, BadUser, BadName, BadNumbers, BlockOutside, BlockBefore, ExtentBefore, NoFirst}
+use Rattle.rules.specs.declared.answer.ImageAnswer.the-variants.{Sound, WrongLength, BadUser, BadName, BadNumbers, BlockOutside, BlockBefore}
+use Rattle.rules.specs.declared.answer.ImageAnswer.the-variants.{ExtentBefore, NoFirst}
 use Rattle.rules.specs.Kinds.{entries, numbers}
-use Rattle.rules.specs.Drive.{goodLength, isEmpty, nameAt, legalName, goodUser, goodNumbers, goodFields, inRange, isFirst, isRepeat, goodEntry, hasFirst, soundDirectory, soundImage, reasons, reason, badFor, isBad, badEntry, judged, lacksFirst, headless, isSound, directoryAnswer, imageCheck, imageNumber, imageEntry, imageTold}
+use Rattle.rules.specs.Drive.{goodLength, isEmpty, nameAt, legalName, goodUser, goodNumbers, goodFields, inRange, isFirst, isRepeat, goodEntry, hasFirst}
+use Rattle.rules.specs.Drive.{soundDirectory, soundImage, reasons, reason, badFor, isBad, badEntry, judged, lacksFirst, headless, isSound}
+use Rattle.rules.specs.Drive.{directoryAnswer, imageCheck, imageNumber, imageEntry, imageTold}
 use Rattle.rules.specs.Checks.{LowestBad, LowestHeadless, CheckTells}
 use Rattle.rules.proofs.Sizes.{entries-some, entries-byte}
 use Rattle.rules.proofs.Answers.{number-end, number-read, entry-read}

@@ -16,7 +16,8 @@ use Rattle.words.proofs.Sets.{and-both, not-of-false}
 use Rattle.rules.specs.declared.kind.Kind.{Kind}
 use Rattle.rules.specs.Kinds.{numbers, top}
 use Rattle.rules.specs.declared.file.File.{File}
-use Rattle.rules.specs.Drive.{goodLength, blocks, isEmpty, userByte, nameAt, extentAt, mapNumber, sameLow, isNamed, fileFrom, fileAt, isOf, legalByte, legalAt, legalName, goodUser, goodNumbers, goodFields}
+use Rattle.rules.specs.Drive.{goodLength, blocks, isEmpty, userByte, nameAt, extentAt, mapNumber, sameLow, isNamed, fileFrom, fileAt, isOf, legalByte}
+use Rattle.rules.specs.Drive.{legalAt, legalName, goodUser, goodNumbers, goodFields}
 use Rattle.rules.proofs.Sound.{Is, Names, named-is, named-so}
 use Rattle.rules.proofs.Sizes.{map-bytes}
 

@@ -19,7 +19,8 @@ use Rattle.words.proofs.Sets.{choices, lowests, any-goes, is-no, lowest-stops, 
 use Rattle.rules.specs.declared.file.File.{File}
 use Rattle.rules.specs.declared.item.Item.{Item}
 use Rattle.rules.specs.declared.list.LockList.{LockList}
-use Rattle.rules.specs.Locks.{blank, emptyPlace, itemAt, withItems, withPositions, movedTo, freshLock, isOwnLock, held, isEmptyAt, isKindBy, isKindByAt, opensBy, locksBy, freePlace, goodItem, goodPlace, isLimit, soundLocks}
+use Rattle.rules.specs.Locks.{blank, emptyPlace, itemAt, withItems, withPositions, movedTo, freshLock, isOwnLock, held, isEmptyAt, isKindBy, isKindByAt}
+use Rattle.rules.specs.Locks.{opensBy, locksBy, freePlace, goodItem, goodPlace, isLimit, soundLocks}
 use Rattle.rules.specs.Effects.{placed, isOfFile, unlessOfFile, closed, isInRun, unlessInRun, unlockedRun, unlessBy, withoutBy, lockedAt}
 use Rattle.rules.specs.declared.kind.Kind.{Kind}
 

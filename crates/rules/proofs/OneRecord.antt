@@ -25,7 +25,8 @@ use Rattle.rules.proofs.Tables.{nonzero-all, accepts, refuses, call-ref
 use Rattle.rules.proofs.Room.{read-room, contents-long}
 use Rattle.rules.proofs.Passed.{passed, known, drive-good}
 use Rattle.rules.proofs.Singles.{Runs, isRead, isWrite, isZeros, runs-plain, run-chosen, dma-back, askedAt, code-single, effect-single}
-use Rattle.rules.proofs.Several.{codeAt, leftAt, several-none, several-more, several-stops, told-left, told-zero, told-some, run-plain, run-refused, run-told}
+use Rattle.rules.proofs.Several.{codeAt, leftAt, several-none, several-more, several-stops, told-left, told-zero, told-some, run-plain, run-refused}
+use Rattle.rules.proofs.Several.{run-told}
 use Rattle.rules.specs.declared.kind.Kind.{Kind}
 
 -- ---- the single call for the first record

@@ -17,7 +17,8 @@ use Rattle.words.proofs.Lists.{tab-ext, tab-getD, tab-at, length-tab, flat-bloc
 use Rattle.words.proofs.Bytes.{part-byte, word-back, word-first, word-second, word-third, word-fourth}
 use Rattle.rules.specs.declared.item.Item.{Item}
 use Rattle.rules.specs.declared.list.LockList.{LockList}
-use Rattle.rules.specs.Locks.{blank, kindOf, firstMark, secondMark, itemFrom, itemIn, placeAt, packItem, pack, unpack, itemAt, goodPlace, zeroAt, soundLocks, soundList}
+use Rattle.rules.specs.Locks.{blank, kindOf, firstMark, secondMark, itemFrom, itemIn, placeAt, packItem, pack, unpack, itemAt, goodPlace, zeroAt}
+use Rattle.rules.specs.Locks.{soundLocks, soundList}
 use Rattle.rules.specs.declared.kind.Kind.{Kind}
 
 -- ---- unpack (pack k) ≡ k

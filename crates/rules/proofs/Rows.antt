@@ -17,7 +17,9 @@ use Rattle.rules.specs.Kinds.{entries, top}
 use Rattle.rules.specs.Drive.{recordSize, legalName, missing, noEntry, readOnly, freeEntry, freeBlock, blocks, blockIn, blockOf, recordAt}
 use Rattle.rules.specs.Locks.{places, itemAt, modeUnlocked, modeReadOnly, isOpened, lockedByOther, opensBy, locksBy, freePlace, freePlaces}
 use Rattle.rules.specs.Asks.{openMode, lastOf}
-use Rattle.rules.specs.Codes.{standsAgainstAt, rowsNew, rows15, rows16, stopsDelete, rows19, rows22, stopsRename, rows23, rowsThere, rows33, rowsMay, rowsRoom, rows34, rows35, differs, rowsDiffer, rows41, isFileId, rowsRun, lacks, firstLacking, rowsLacking, isOthers, isNew, rowsTake, rows42}
+use Rattle.rules.specs.Codes.{standsAgainstAt, rowsNew, rows15, rows16, stopsDelete, rows19, rows22, stopsRename, rows23, rowsThere, rows33, rowsMay}
+use Rattle.rules.specs.Codes.{rowsRoom, rows34, rows35, differs, rowsDiffer, rows41, isFileId, rowsRun, lacks, firstLacking, rowsLacking, isOthers, isNew}
+use Rattle.rules.specs.Codes.{rowsTake, rows42}
 
 -- ---- whether the caller has the file open
 

@@ -15,7 +15,8 @@ use Rattle.rules.specs.declared.kind.Rule.{Rule}
 use Rattle.rules.specs.declared.kind.Rule.the-variants.{Mpm, Cpm}
 use Rattle.rules.specs.declared.kind.Kind.{Kind}
 use Rattle.rules.specs.declared.kind.Kind.the-variants.{Small, Large}
-use Rattle.rules.specs.Kinds.{ruleOf, isLarge, highest, moduleOf, blockSize, blockRecords, fewest, most, vectorSize, entries, numbers, width, top, lastModule}
+use Rattle.rules.specs.Kinds.{ruleOf, isLarge, highest, moduleOf, blockSize, blockRecords, fewest, most, vectorSize, entries, numbers, width, top}
+use Rattle.rules.specs.Kinds.{lastModule}
 use Rattle.rules.specs.Drive.{blocks, goodLength, mapPlace, mapNumber, recordAt}
 
 -- ---- the directory

@@ -11,7 +11,8 @@ use borrow.Author.Tests.{eqb-true, eqb-false, eq-eqb, ne-eqb, leb-true, leb-fals
 use Rattle.words.specs.Tests.{_and_, _if_else_, all, any}
 use Rattle.words.specs.Lists.{tab}
 use Rattle.words.specs.Bytes.{byte, lowFrom}
-use Rattle.words.proofs.Tests.{either, never, all-at, all-make, any-at, any-found, any-never, any-some, lowest-holds, and-fst, and-snd, or-fst, or-snd, or-so, or-case}
+use Rattle.words.proofs.Tests.{either, never, all-at, all-make, any-at, any-found, any-never, any-some, lowest-holds, and-fst, and-snd, or-fst, or-snd, or-so}
+use Rattle.words.proofs.Tests.{or-case}
 use Rattle.words.proofs.Lists.{tab-ext, tab-getD, tab-at, length-tab}
 use Rattle.words.proofs.Counts.{count-split}
 use Rattle.words.proofs.Sets.{and-both, or-none, not-of-false}
@@ -19,7 +20,9 @@ use Rattle.rules.specs.declared.answer.ImageAnswer.the-variants.{Sound}
 use Rattle.rules.specs.declared.file.File.{File}
 use Rattle.rules.specs.declared.kind.Kind.{Kind}
 use Rattle.rules.specs.Kinds.{blockSize, most, entries, numbers, top}
-use Rattle.rules.specs.Drive.{goodLength, blocks, isEmpty, nameAt, extentAt, mapNumber, mapPlace, sameLow, isNamed, fileFrom, fileAt, isOf, isEntry, entryOf, holdsNumber, namesBlock, isUsed, isInUse, blocksInUse, isFree, freeBlocks, goodFields, inRange, namedBefore, isFirst, isRepeat, goodEntry, hasFirst, soundDirectory, soundImage, imageCheck, userByte, blockIn, blockOf}
+use Rattle.rules.specs.Drive.{goodLength, blocks, isEmpty, nameAt, extentAt, mapNumber, mapPlace, sameLow, isNamed, fileFrom, fileAt, isOf, isEntry}
+use Rattle.rules.specs.Drive.{entryOf, holdsNumber, namesBlock, isUsed, isInUse, blocksInUse, isFree, freeBlocks, goodFields, inRange, namedBefore}
+use Rattle.rules.specs.Drive.{isFirst, isRepeat, goodEntry, hasFirst, soundDirectory, soundImage, imageCheck, userByte, blockIn, blockOf}
 use Rattle.rules.proofs.Sizes.{size-whole, size-long, place-fits}
 
 -- ---- entries

@@ -18,7 +18,9 @@ use Rattle.rules.specs.declared.file.File.{File}
 use Rattle.rules.specs.declared.item.Item.{Item}
 use Rattle.rules.specs.declared.list.LockList.{LockList}
 use Rattle.rules.specs.Drive.{legalName, entryOf, lookUp, missing, blockOf}
-use Rattle.rules.specs.Locks.{itemAt, userOf, positionOf, isPosition, isRule, fileOf, sameFile, opensName, opensNameAt, openOf, isOpened, isLimit, isUser, isLow, goodEmpty, goodOpen, opensUnlocked, goodLock, goodItem, goodPlace, clashAt, isApart, keepsLimits, soundLocks, soundList, itemIn, itemFrom, pack, unpack}
+use Rattle.rules.specs.Locks.{itemAt, userOf, positionOf, isPosition, isRule, fileOf, sameFile, opensName, opensNameAt, openOf, isOpened, isLimit, isUser}
+use Rattle.rules.specs.Locks.{isLow, goodEmpty, goodOpen, opensUnlocked, goodLock, goodItem, goodPlace, clashAt, isApart, keepsLimits, soundLocks}
+use Rattle.rules.specs.Locks.{soundList, itemIn, itemFrom, pack, unpack}
 use Rattle.rules.proofs.Items.{name-sym, name-then, clash-at-sym, clash-opens, open-is}
 use Rattle.rules.proofs.Packing.{ListInRange, unpack-pack, unpack-at, zero-packed}
 use Rattle.rules.proofs.Sizes.{top-fits}

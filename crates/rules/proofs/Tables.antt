@@ -10,17 +10,21 @@ use borrow.Author.Tests.{ne-eqb, eqb-false}
 use Rattle.words.specs.Tests.{_if_else_}
 use Rattle.words.specs.Tables.{Row, _∕_, _when_, firstOf, anyRow, noneZero}
 use Rattle.words.proofs.Tests.{either}
-use Rattle.words.proofs.Tables.{none-applies, first-applies, some-applies, first-then, first-stays, nonzeros, nonzero-append, codesBelow, first-below, below-append, belows}
+use Rattle.words.proofs.Tables.{none-applies, first-applies, some-applies, first-then, first-stays, nonzeros, nonzero-append, codesBelow, first-below}
+use Rattle.words.proofs.Tables.{below-append, belows}
 use Rattle.rules.specs.declared.kind.Kind.{Kind}
 use Rattle.rules.specs.declared.list.LockList.{LockList}
-use Rattle.rules.specs.declared.routine.Routine.the-variants.{Open, Close, SearchFirst, SearchNext, Delete, Make, Rename, Read, Write, Size, WriteZeros, TestWrite, Lock, Unlock, FreeSpace, Terminate}
+use Rattle.rules.specs.declared.routine.Routine.the-variants.{Open, Close, SearchFirst, SearchNext, Delete, Make, Rename, Read, Write, Size, WriteZeros}
+use Rattle.rules.specs.declared.routine.Routine.the-variants.{TestWrite, Lock, Unlock, FreeSpace, Terminate}
 use Rattle.rules.specs.declared.routine.Chosen.{Chosen}
 use Rattle.rules.specs.declared.routine.Chosen.the-variants.{Call, Unknown}
 use Rattle.rules.specs.Serves.{isSearch, Buffers, Outcome, Did, buffers, outcome, chosen}
 use Rattle.rules.specs.Drive.{noEntry}
 use Rattle.rules.specs.Locks.{itemAt, modeUnlocked, isOpened}
-use Rattle.rules.specs.Codes.{rowsInside, rowsAll, rowsNew, rows15, rows16, rows19, rows22, rows23, rows33, rows34, rows35, rows41, rows42, rows43, rowsThere, rowsMay, rowsRoom, rowsDiffer, rowsRun, rowsLacking, rowsTake}
-use Rattle.rules.specs.Effects.{searched, finds, findsNone, does15, does16, does17, does18, does19, does22, makes, does23, does33, does34, does35, does41, does42, does43, does46, does143}
+use Rattle.rules.specs.Codes.{rowsInside, rowsAll, rowsNew, rows15, rows16, rows19, rows22, rows23, rows33, rows34, rows35, rows41, rows42, rows43}
+use Rattle.rules.specs.Codes.{rowsThere, rowsMay, rowsRoom, rowsDiffer, rowsRun, rowsLacking, rowsTake}
+use Rattle.rules.specs.Effects.{searched, finds, findsNone, does15, does16, does17, does18, does19, does22, makes, does23, does33, does34, does35, does41}
+use Rattle.rules.specs.Effects.{does42, does43, does46, does143}
 use Rattle.rules.specs.Call.{Asked, decided, unless, asked, rowsOf, effectOf, served, rowsCall, call}
 
 -- ---- no row has the answer 0/0

@@ -6,7 +6,7 @@ use lib.ListN.{length, getD, set, replicate}
 use lib.Dec.{leb, ltb, eqb}
 use Rattle.words.specs.Tests.{_and_, _or_, _if_else_, all, any, lowest, count}
 use Rattle.words.specs.Lists.{tab, flat}
-use Rattle.words.specs.Bytes.{byte, sameByte, byteFrom, part, le, word}
+use Rattle.words.specs.Bytes.{byte, sameByte, isZero, byteFrom, part, le, word}
 use Rattle.words.specs.Tables.{Row, _∕_, _when_, firstOf}
 use Rattle.rules.specs.declared.kind.Rule.{Rule}
 use Rattle.rules.specs.declared.kind.Kind.{Kind}
@@ -241,9 +241,6 @@ isUser users p = leb (byte users p) 15
 -- (name, high bits zero)
 unfoldable pub isLow : List ℕ → ℕ → Bool
 isLow name k = ltb (byte name k) 128
-
-unfoldable pub isZero : List ℕ → ℕ → Bool
-isZero name k = eqb (byte name k) 0
 
 -- twenty zeros, of a place whose mark is zero (the zero byte is tested by itself)
 unfoldable pub goodEmpty : Item → Bool

@@ -17,10 +17,6 @@ unfoldable pub callTold : Told → ℕ → ℕ → ℕ → Buffers → Outcome
 callTold (Known kind) n p c b = callRun kind n p c b
 callTold Other n p c b = outcome (255 ∕ 13) b
 
-unfoldable pub singlyTold : Told → ℕ → ℕ → ℕ → Buffers → Outcome
-singlyTold (Known kind) n p c b = callSingly kind n p c b
-singlyTold Other n p c b = outcome (255 ∕ 13) b
-
 -- .. with the vector too (T-04), ..
 unfoldable pub fiveTold : Told → ℕ → ℕ → ℕ → List ℕ → Buffers → Five
 fiveTold (Known kind) n p c v b = callFive kind n p c v b

@@ -24,7 +24,8 @@ use Rattle.rules.specs.Kinds.{entries, numbers, most, width}
 use Rattle.rules.specs.Drive.{blocks, mapAt, isEmpty, mapNumber, holdsNumber, namesBlock, namedBefore, inRange, isFirst}
 use Rattle.soundness.proofs.Numbers.{numbered, number-out}
 use Rattle.drive.specs.Marks.{Marks}
-use Rattle.drive.proofs.Marks.{small-none, large-none, marks-skip, marks-set, marks-long, marks-empty, marks-used, first-zero, first-marked, first-unmarked, range-as}
+use Rattle.drive.proofs.Marks.{small-none, large-none, marks-skip, marks-set, marks-long, marks-empty, marks-used, first-zero, first-marked, first-unmarked}
+use Rattle.drive.proofs.Marks.{range-as}
 use Rattle.repair.specs.Salvage.{mustZero, zeroedAt, zeroedTo, isZeroed, cleanedAt, cleanedTo, toldOf}
 use Rattle.repair.proofs.Zeros.{zeroed-here, zeroed-other, numbers-few}
 use Rattle.repair.proofs.Changes.{to-zeroes, zeroes-empty}

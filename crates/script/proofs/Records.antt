@@ -12,7 +12,8 @@ use Rattle.words.specs.Tests.{_and_}
 use Rattle.words.specs.Bytes.{byte}
 use Rattle.words.proofs.Tests.{and-fst, and-snd}
 use Rattle.rules.specs.Serves.{processes, fcbSize, dmaSize}
-use Rattle.script.specs.Records.{startSize, callSize, startRecord, callRecord, isRecord, isStart, isCall, firstNumber, secondNumber, thirdNumber, usersIn, ruleNumber, fcbIn, dmaIn}
+use Rattle.script.specs.Records.{startSize, callSize, startRecord, callRecord, isRecord, isStart, isCall, firstNumber, secondNumber, thirdNumber, usersIn}
+use Rattle.script.specs.Records.{ruleNumber, fcbIn, dmaIn}
 
 -- ---- from parts to the record and back
 

@@ -20,7 +20,8 @@ use Rattle.rules.specs.Vector.{Five, Built, five, vectorOf, rowsBuild}
 use Rattle.rules.specs.Told.{fiveTold, buildTold}
 use Rattle.rules.proofs.Vector.{five-whole, build-accepted}
 use Rattle.session.specs.Open.{rules}
-use Rattle.session.specs.Session.{Step, Line, AsListed, session, fcbWith, dmaWith, firstImage, firstList, image5, orders, list0, list1, list3, list11, list12, list13, listWith, openBy, lockBy, none}
+use Rattle.session.specs.Session.{Step, Line, AsListed, session, fcbWith, dmaWith, firstImage, firstList, image5, orders, list0, list1, list3, list11, list12}
+use Rattle.session.specs.Session.{list13, listWith, openBy, lockBy, none}
 use Rattle.session.proofs.Session.{the-session}
 use Rattle.script.specs.Text.{text, digitsBelow, digits}
 use Rattle.script.specs.Records.{startRecord, callRecord, callSize, isStart, isCall}

@@ -1,7 +1,7 @@
 use crate::decimal::spell;
 use crate::part::first_number;
 use crate::part::second_number;
-use rules::bytes::put_bytes;
+use words::byte::put_bytes;
 ghost use mathlib.Core.Path.{_≡_};
 ghost use Prim.Native.Nat.{_+_, _≤_};
 ghost use lib.ListN.{length};

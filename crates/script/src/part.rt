@@ -1,6 +1,6 @@
 // The parts of a record: two mark bytes, three numbers, and sixteen users and the rule or FCB and DMA.
 use crate::record::CALL_SIZE;
-use rules::bytes::put_bytes;
+use words::byte::put_bytes;
 ghost use mathlib.Core.Path.{_≡_};
 ghost use Rattle.words.specs.Bytes.{byte, part};
 ghost use Rattle.script.specs.Records.{firstNumber, secondNumber, thirdNumber, usersIn, ruleNumber, fcbIn, dmaIn};

@@ -1,10 +1,10 @@
 use crate::pattern::match_from;
 use locklist::pack::pack;
-use rules::bytes::put_bytes;
 use rules::code::NO_MATCH;
 use rules::kind::Kind;
 use rules::kind::entries;
 use rules::list::LockList;
+use words::byte::put_bytes;
 ghost use mathlib.Core.Path.{_≡_};
 ghost use Prim.Native.Nat.{_*_, _≤_};
 ghost use lib.ListN.{length};

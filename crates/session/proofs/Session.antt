@@ -11,7 +11,8 @@ use Rattle.rules.specs.Several.{servesRun, callRun}
 use Rattle.rules.proofs.Several.{run-plain}
 use Rattle.rules.proofs.OneRecord.{one-record}
 use Rattle.session.specs.Open.{rules}
-use Rattle.session.specs.Session.{AsListed, session, orders, fcbWith, dmaWith, firstImage, firstList, imageWith, unwritten, writtenWith, listWith, openBy, lockBy, none, list0, list1, list3, list11, list12, list13, image0, image2, image5, image13}
+use Rattle.session.specs.Session.{AsListed, session, orders, fcbWith, dmaWith, firstImage, firstList, imageWith, unwritten, writtenWith, listWith, openBy}
+use Rattle.session.specs.Session.{lockBy, none, list0, list1, list3, list11, list12, list13, image0, image2, image5, image13}
 
 s0 : call (Small Mpm) 22 1 1 (buffers (fcbWith 0) (dmaWith 0) firstList firstImage) ≡ outcome (0 ∕ 0) (buffers (fcbWith 0) (dmaWith 0) list0 image0)
 unfolding rules orders fcbWith dmaWith firstImage firstList imageWith unwritten writtenWith listWith openBy lockBy none image0 list0

@@ -1,4 +1,3 @@
 -- The proofs of `several`.
-pub mod Extents
 pub mod ReadTurns
 pub mod WriteTurns

@@ -28,9 +28,9 @@ use Rattle.rules.proofs.Room.{read-room, contents-long}
 use Rattle.rules.proofs.Ends.{did-as, did-none}
 use Rattle.rules.proofs.Singles.{Runs, isRead, dma-back, askedAt, code-single, effect-single}
 use Rattle.rules.proofs.Several.{codeAt, several-none, several-more, stops-told, ends-told}
+use Rattle.directory.proofs.Runs.{known-none, known-more}
 use Rattle.records.specs.By.{readAt}
 use Rattle.several.specs.So.{Asks, Reading}
-use Rattle.several.proofs.Extents.{known-none, known-more}
 use Rattle.rules.specs.declared.kind.Kind.{Kind}
 
 -- the code leaves the high four bits of H free

@@ -38,6 +38,7 @@ use Rattle.rules.proofs.Ends.{did-as, did-none}
 use Rattle.rules.proofs.Singles.{Runs, isWrite, isZeros, dma-front, dma-still, askedAt, code-single, effect-single}
 use Rattle.rules.proofs.Several.{codeAt, several-none, several-more, stops-told, ends-told}
 use Rattle.rules.proofs.Rows.{Passes34, passes-34}
+use Rattle.directory.proofs.Runs.{known-none, known-more}
 use Rattle.soundness.proofs.Blocks.{only, found-below}
 use Rattle.soundness.proofs.Written.{written-entry, written-first}
 use Rattle.soundness.proofs.Kept.{SoundBoth, call-sound}
@@ -45,7 +46,6 @@ use Rattle.records.specs.By.{rowsMayBy, OneDid, markedBy}
 use Rattle.records.proofs.Writing.{may-by}
 use Rattle.records.proofs.Marking.{file-named, file-there, one-vector}
 use Rattle.several.specs.So.{Asks, writeNumber, StopsAt, Writing}
-use Rattle.several.proofs.Extents.{known-none, known-more}
 use Rattle.rules.specs.declared.kind.Kind.{Kind}
 
 -- ---- the record's bytes of the DMA

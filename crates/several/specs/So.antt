@@ -1,11 +1,10 @@
 -- How a run of records stands so far. Assumes nothing.
-use Prim.Native.Nat.{ℕ, _+_, _-_, _/_, _≤_, _<_}
+use Prim.Native.Nat.{ℕ, _≤_, _<_}
 use mathlib.Core.Path.{_≡_}
 use mathlib.Core.Bool.{Bool, true, false}
 use mathlib.Core.List.{List}
 use lib.ListN.{length}
 use Rattle.words.specs.Tests.{lowest}
-use Rattle.rules.specs.Kinds.{entries}
 use Rattle.rules.specs.declared.file.File.{File}
 use Rattle.rules.specs.declared.list.LockList.{LockList}
 use Rattle.rules.specs.Serves.{Buffers, withDma, withImage}
@@ -16,6 +15,7 @@ use Rattle.rules.specs.Codes.{badDrive, isOthers}
 use Rattle.rules.specs.Call.{Ready}
 use Rattle.rules.specs.Several.{run, several}
 use Rattle.rules.specs.declared.kind.Kind.{Kind}
+use Rattle.directory.specs.Runs.{Known}
 
 -- what the call has found before the first record: the caller's file, its open at place o, the record
 pub record Asks (kind : Kind) (n p c : ℕ) (f : File) (o r : ℕ) (b : Buffers) : Type 0 where
@@ -26,11 +26,6 @@ pub record Asks (kind : Kind) (n p c : ℕ) (f : File) (o r : ℕ) (b : Buffers)
   pub file : f ≡ callerFile p (unpack (b .list)) (b .fcb)
   pub place : o ≡ openOf (unpack (b .list)) p f
   pub number : r ≡ recordOf (b .fcb)
-
--- e is the entry of the extent with the record before the one at distance i
-pub record Known (kind : Kind) (s : List ℕ) (f : File) (r i e : ℕ) : Type 0 where
-  pub extent : 0 < i → e ≡ entryOf kind s f ((r + i - 1) / 128)
-  pub within : e ≤ entries kind
 
 -- i records are read
 pub record Reading (kind : Kind) (p : ℕ) (f : File) (r : ℕ) (b : Buffers) (i e : ℕ) (dma : List ℕ) : Type 0 where

@@ -1,7 +1,7 @@
-use crate::extent::after;
-use crate::extent::entry_at;
-use locklist::ask::caller_file;
-use locklist::ask::record_of;
+use crate::refusal::after;
+use directory::run::entry_at;
+use locklist::fcb::caller_file;
+use locklist::fcb::record_of;
 use records::read::read_one;
 use rules::file::File;
 use rules::kind::Kind;

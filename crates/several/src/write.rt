@@ -1,8 +1,8 @@
-use crate::extent::after;
-use crate::extent::entry_at;
+use crate::refusal::after;
 use directory::find::entry_of;
-use locklist::ask::caller_file;
-use locklist::ask::record_of;
+use directory::run::entry_at;
+use locklist::fcb::caller_file;
+use locklist::fcb::record_of;
 use records::may::write_stopped;
 use records::write::write_one;
 use rules::file::File;

@@ -1,8 +1,8 @@
 use calls::answer::answer;
 use calls::answer::general_refusal;
-use locklist::ask::record_of;
-use rules::bytes::put_bytes;
+use locklist::fcb::record_of;
 use rules::kind::Kind;
+use words::byte::put_bytes;
 ghost use mathlib.Core.Path.{_≡_};
 ghost use mathlib.Core.Bool.{true, false};
 ghost use Prim.Native.Nat.{_+_, _*_, _≤_, _<_};

@@ -14,13 +14,15 @@ use Rattle.words.proofs.Sets.{or-none}
 use Rattle.rules.specs.declared.kind.Kind.{Kind}
 use Rattle.rules.specs.declared.file.File.{File}
 use Rattle.rules.specs.declared.list.LockList.{LockList}
-use Rattle.rules.specs.declared.routine.Routine.the-variants.{Open, Close, SearchFirst, SearchNext, Delete, Make, Rename, Read, Write, Size, WriteZeros, TestWrite, Lock, Unlock, FreeSpace, Terminate}
+use Rattle.rules.specs.declared.routine.Routine.the-variants.{Open, Close, SearchFirst, SearchNext, Delete, Make, Rename, Read, Write, Size, WriteZeros}
+use Rattle.rules.specs.declared.routine.Routine.the-variants.{TestWrite, Lock, Unlock, FreeSpace, Terminate}
 use Rattle.rules.specs.declared.routine.Chosen.{Chosen}
 use Rattle.rules.specs.declared.routine.Chosen.the-variants.{Call, Unknown}
 use Rattle.rules.specs.Serves.{Buffers, chosen}
 use Rattle.rules.specs.Locks.{unpack, opensBy, locksBy, freePlace, freePlaces}
 use Rattle.rules.specs.Asks.{callerFile, recordOf}
-use Rattle.rules.specs.Codes.{rowsInside, rowsAll, rowsNew, rows15, rows16, rows19, rows22, rows23, rows33, rows34, rows35, rows41, rows42, rows43, rowsThere, rowsMay, rowsRoom, rowsDiffer, rowsRun, rowsLacking, rowsTake, isNew}
+use Rattle.rules.specs.Codes.{rowsInside, rowsAll, rowsNew, rows15, rows16, rows19, rows22, rows23, rows33, rows34, rows35, rows41, rows42, rows43, rowsThere}
+use Rattle.rules.specs.Codes.{rowsMay, rowsRoom, rowsDiffer, rowsRun, rowsLacking, rowsTake, isNew}
 use Rattle.rules.specs.Call.{asked, askedBy, rowsOf, rowsCall, call}
 use Rattle.rules.specs.Several.{servesRun}
 use Rattle.rules.proofs.Singles.{Runs, isRead, isWrite, isZeros, run-chosen}

@@ -10,7 +10,7 @@ use lib.Dec.{eqb}
 use borrow.Author.Tests.{eqb-true, eqb-false, le-leb, not-false, ne-eqb}
 use Rattle.words.specs.Tests.{_and_, _if_else_, all, count}
 use Rattle.words.specs.Lists.{tab, flat}
-use Rattle.words.specs.Bytes.{le}
+use Rattle.words.specs.Bytes.{le, isZero}
 use Rattle.words.specs.Tables.{_∕_, firstOf}
 use Rattle.words.proofs.Tests.{either, any-never, or-fst, or-snd}
 use Rattle.words.proofs.Lists.{tab-getD}
@@ -21,7 +21,8 @@ use Rattle.rules.specs.declared.kind.Kind.{Kind}
 use Rattle.rules.specs.declared.item.Item.{Item}
 use Rattle.rules.specs.declared.list.LockList.{LockList}
 use Rattle.rules.specs.Kinds.{entries}
-use Rattle.rules.specs.Locks.{places, placeSize, blank, emptyPlace, itemAt, firstMark, secondMark, packItem, pack, isKindBy, isKindByAt, opensBy, locksBy, isZero, goodEmpty, clashAt, keepsLimits, badStart, rowsStart, freshList, startEnds, start}
+use Rattle.rules.specs.Locks.{places, placeSize, blank, emptyPlace, itemAt, firstMark, secondMark, packItem, pack, isKindBy, isKindByAt, opensBy, locksBy}
+use Rattle.rules.specs.Locks.{goodEmpty, clashAt, keepsLimits, badStart, rowsStart, freshList, startEnds, start}
 use Rattle.rules.proofs.Items.{clash-none}
 use Rattle.rules.proofs.SoundList.{Shape, Limits, SoundLocks}
 

@@ -1,3 +1,4 @@
+-- The proofs of `sizing`.
 pub mod Codes
 pub mod Sums
 pub mod Enough

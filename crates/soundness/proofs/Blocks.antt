@@ -22,10 +22,15 @@ use Rattle.soundness.proofs.Changes.{Grown, Theirs, Touches}
 
 -- the record's block is b
 pub record At (kind : Kind) (s : List ℕ) (f : File) (r b : ℕ) : Type 0 where
+  -- the entry of the record's extent, ..
   pub entry : ℕ
+  -- .. one of the directory
   pub below : entry < entries kind
+  -- it is in use, and that extent of the file
   pub is : Is s f (r / 128) entry
+  -- the record's place in its map holds the number b, ..
   pub number : mapNumber kind s entry (mapPlace kind r) ≡ b
+  -- .. which is not 0
   pub some : b ≡ 0 → ⊥
 
 -- the place of its number names a block

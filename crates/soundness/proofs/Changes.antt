@@ -17,30 +17,43 @@ use Rattle.soundness.proofs.Steps.{Stays}
 
 -- used entries keep their heads and their block numbers, and their counts do not fall
 pub record Grown (kind : Kind) (s t : List ℕ) : Type 0 where
+  -- a used entry keeps its bytes 0 to 14: all but count and map
   pub head : (e : ℕ) → e < entries kind → isEmpty s e ≡ false → Head s e t e
+  -- a place that names a block keeps its number
   pub number : (e k : ℕ) → Names kind s e k → mapNumber kind t e k ≡ mapNumber kind s e k
+  -- the count of a used entry does not fall
   pub rises : (e : ℕ) → e < entries kind → isEmpty s e ≡ false → byte s (32 * e + 15) ≤ byte t (32 * e + 15)
 
 -- entry e is of f before, and of h after, where it is in use
 pub record Theirs (s t : List ℕ) (f h : File) (e : ℕ) : Type 0 where
+  -- where entry e was in use before, it was of f
   pub was : isEmpty s e ≡ false → fileAt s e ≡ f
+  -- where it is in use after, it is of h
   pub now : isEmpty t e ≡ false → fileAt t e ≡ h
 
 -- every other entry is the same
 pub record Touches (kind : Kind) (s t : List ℕ) (f h : File) : Type 0 where
+  -- the image keeps its length
   pub long : length t ≡ length s
+  -- each entry is the same, or is of f before and of h after, where it is in use
   pub entry : (e : ℕ) → e < entries kind → Same s e t e ⊎ Theirs s t f h e
 
 -- past the directory only the m bytes from a on differ
 pub record Data (kind : Kind) (s t : List ℕ) (a m : ℕ) : Type 0 where
+  -- a byte past the directory that is before a, or from a + m on, is the same
   pub at : (i : ℕ) → 32 * entries kind ≤ i → (i < a) ⊎ (a + m ≤ i) → byte t i ≡ byte s i
 
 -- a new number stands at place q of entry n at most
 pub record Change (kind : Kind) (s t : List ℕ) (f : File) (a m n q : ℕ) : Type 0 where
+  -- the image left is sound
   pub sound : SoundImage kind t
+  -- a place that names a block after is place q of entry n, or named the same block before
   pub rest : (e k : ℕ) → Names kind t e k → ((e ≡ n) × (k ≡ q)) ⊎ Stays kind s t e k
+  -- used entries keep their heads and their block numbers, and their counts do not fall
   pub grown : Grown kind s t
+  -- the image keeps its length, and an entry that differs is of f before and after, where it is in use
   pub touches : Touches kind s t f f
+  -- past the directory only the m bytes from a on differ
   pub data-kept : Data kind s t a m
 
 -- where all entries are the same no file was touched, ..

@@ -9,6 +9,7 @@ use lib.ListN.{length-map}
 use lib.Dec.{eqb}
 use borrow.Author.Tests.{eqb-true, eq-eqb, leb-true, le-leb, ne-eqb}
 use Rattle.words.specs.Tests.{_and_, _if_else_, all, count}
+use Rattle.words.specs.Bytes.{isZero}
 use Rattle.words.proofs.Tests.{either, and-fst, and-snd, fails-too}
 use Rattle.words.proofs.Counts.{count-less}
 use Rattle.words.proofs.Lists.{map-at}
@@ -17,7 +18,7 @@ use Rattle.rules.specs.declared.kind.Kind.{Kind}
 use Rattle.rules.specs.declared.file.File.{File}
 use Rattle.rules.specs.declared.item.Item.{Item}
 use Rattle.rules.specs.declared.list.LockList.{LockList}
-use Rattle.rules.specs.Locks.{blank, emptyPlace, itemAt, withItems, opensName, isKindBy, isKindByAt, opensBy, locksBy, isZero, goodEmpty, clashAt, keepsLimits}
+use Rattle.rules.specs.Locks.{blank, emptyPlace, itemAt, withItems, opensName, isKindBy, isKindByAt, opensBy, locksBy, goodEmpty, clashAt, keepsLimits}
 use Rattle.rules.specs.Effects.{isOfFile, unlessOfFile, isInRun, unlessInRun, unlessBy}
 use Rattle.rules.proofs.Items.{clash-none, clash-no, open-is, name-then, name-sym}
 use Rattle.rules.proofs.SoundList.{Shape, Holder, GoodLock, Used, Vacant, SoundLocks}
@@ -29,10 +30,12 @@ empty-good = refl
 
 -- `turn` empties what `away` says, and leaves the rest
 pub record Empties (away : Item → Bool) (turn : Item → Item) : Type 0 where
+  -- an item that `away` says becomes an empty place, any other stays
   pub turned : (it : Item) → turn it ≡ (emptyPlace if away it else it)
 
 -- an open goes only with the locks of its process on its file
 pub record Whole (l : LockList) (away : Item → Bool) : Type 0 where
+  -- where a lock stays, the open of its process of that name stays too
   pub with-locks : (i o : ℕ) → i < 64 → o < 64 → itemAt l i .kind ≡ 2 → opensName (itemAt l i .process) (itemAt l i .name) (itemAt l o) ≡ true
       → away (itemAt l i) ≡ false → away (itemAt l o) ≡ false
 
@@ -145,6 +148,7 @@ pub none-empties : Empties (λ (it : Item). false) (λ (it : Item). it)
 unfolding _if_else_
 none-empties = record { turned = λ it. refl }
 
+-- (so no open goes without its locks)
 pub none-whole : (l : LockList) → Whole l (λ (it : Item). false)
 none-whole l = record { with-locks = λ i o m k two a q. refl }
 

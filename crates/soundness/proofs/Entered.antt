@@ -20,7 +20,8 @@ use Rattle.words.proofs.Sets.{and-both}
 use Rattle.rules.specs.declared.kind.Kind.{Kind}
 use Rattle.rules.specs.Kinds.{entries, top, lastModule}
 use Rattle.rules.specs.declared.file.File.{File}
-use Rattle.rules.specs.Drive.{isEmpty, nameAt, extentAt, mapNumber, fileFrom, fileAt, isEntry, entryOf, freeEntry, legalByte, legalAt, legalName, goodUser, goodNumbers, goodFields}
+use Rattle.rules.specs.Drive.{isEmpty, nameAt, extentAt, mapNumber, fileFrom, fileAt, isEntry, entryOf, freeEntry, legalByte, legalAt, legalName, goodUser}
+use Rattle.rules.specs.Drive.{goodNumbers, goodFields}
 use Rattle.rules.specs.Effects.{madeEntry, made, newEntry}
 use Rattle.rules.proofs.Sizes.{map-bytes, module-last}
 use Rattle.rules.proofs.Sound.{Is, Names, SoundImage, entry-so, found-is, length-long}

@@ -12,9 +12,13 @@ use Rattle.rules.specs.Locks.{itemAt, userOf, sameName, locksRecord, locksRecor
 
 -- an item that is a lock of the file's record, user being that of its process
 pub record IsLock (f : File) (r user : ℕ) (it : Item) : Type 0 where
+  -- the item is a record lock
   pub kind-two : it .kind ≡ 2
+  -- its record is r
   pub number : it .number ≡ r
+  -- the user of its process is the file's
   pub under : user ≡ f .user
+  -- its name is the file's
   pub named : sameName (it .name) (f .name) ≡ true
 
 -- what the test finds is such a lock, ..

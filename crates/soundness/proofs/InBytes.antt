@@ -11,30 +11,36 @@ use borrow.Author.Tests.{eqb-true, leb-true, ltb-true}
 use Rattle.words.specs.Tests.{_if_else_}
 use Rattle.words.specs.Tables.{anyRow}
 use Rattle.words.specs.Lists.{tab}
-use Rattle.words.specs.Bytes.{byte, byteFrom, lowFrom, le, areBytes}
+use Rattle.words.specs.Bytes.{byte, byteFrom, lowFrom, le, areBytes, isZero}
 use Rattle.words.proofs.Tests.{either, all-at, and-fst, and-snd}
 use Rattle.words.proofs.Lists.{tab-at}
-use Rattle.words.proofs.AreBytes.{bytes-cons, bytes-append, bytes-take, bytes-part, bytes-put, bytes-set, byte-small, bytes-replicate, bytes-tab, bytes-flat, bytes-le, bytes-turns}
+use Rattle.words.proofs.AreBytes.{bytes-cons, bytes-append, bytes-take, bytes-part, bytes-put, bytes-set, byte-small, bytes-replicate, bytes-tab, bytes-flat}
+use Rattle.words.proofs.AreBytes.{bytes-le, bytes-turns}
 use Rattle.rules.specs.declared.kind.Kind.{Kind}
 use Rattle.rules.specs.Kinds.{entries, blockSize, width, top}
 use Rattle.rules.specs.declared.file.File.{File}
 use Rattle.rules.specs.declared.item.Item.{Item}
 use Rattle.rules.specs.declared.list.LockList.{LockList}
 use Rattle.rules.specs.declared.spot.Spot.{Spot}
-use Rattle.rules.specs.declared.routine.Routine.the-variants.{Open, Close, SearchFirst, SearchNext, Delete, Make, Rename, Read, Write, Size, WriteZeros, TestWrite, Lock, Unlock, FreeSpace, Terminate}
+use Rattle.rules.specs.declared.routine.Routine.the-variants.{Open, Close, SearchFirst, SearchNext, Delete, Make, Rename, Read, Write, Size, WriteZeros}
+use Rattle.rules.specs.declared.routine.Routine.the-variants.{TestWrite, Lock, Unlock, FreeSpace, Terminate}
 use Rattle.rules.specs.declared.routine.Chosen.{Chosen}
 use Rattle.rules.specs.declared.routine.Chosen.the-variants.{Call, Unknown}
 use Rattle.rules.specs.Serves.{Buffers, Outcome, chosen}
 use Rattle.rules.specs.Drive.{nameAt, recordAt, blockIn, fileFrom}
-use Rattle.rules.specs.Locks.{blank, isOpened, itemAt, userOf, positionOf, firstMark, secondMark, packItem, pack, unpack, isLimit, isUser, isRule, isLow, isZero, goodEmpty}
+use Rattle.rules.specs.Locks.{blank, isOpened, itemAt, userOf, positionOf, firstMark, secondMark, packItem, pack, unpack, isLimit, isUser, isRule, isLow}
+use Rattle.rules.specs.Locks.{goodEmpty}
 use Rattle.rules.specs.Asks.{callerFile, newFile, recordOf}
-use Rattle.rules.specs.Effects.{madeEntry, made, erasedAt, erased, lowChanged, renamedAt, renamed, newEntry, entered, mapped, countTo, counted, cleared, stored, written, contents, searched, finds, findsNone, does15, does16, does17, does18, does19, does22, makes, does23, does33, does34, does35, does41, does42, does43, does46, does143}
+use Rattle.rules.specs.Effects.{madeEntry, made, erasedAt, erased, lowChanged, renamedAt, renamed, newEntry, entered, mapped, countTo, counted, cleared, stored}
+use Rattle.rules.specs.Effects.{written, contents, searched, finds, findsNone, does15, does16, does17, does18, does19, does22, makes, does23, does33, does34}
+use Rattle.rules.specs.Effects.{does35, does41, does42, does43, does46, does143}
 use Rattle.rules.specs.Call.{Asked, asked, effectOf, rowsCall, call}
 use Rattle.rules.proofs.Tables.{accepted}
 use Rattle.rules.proofs.SoundList.{Shape, GoodOpen, GoodLock, Used, Vacant, SoundLocks, isPlain}
 use Rattle.soundness.proofs.Shapes.{SoundShape, locked-shape}
 use Rattle.soundness.proofs.Leaves.{listOf, fileBy, newBy}
-use Rattle.soundness.proofs.Left.{ListLeft, ImageLeft, list-same, one-set, run-set, emptied, image-same, entry-made, record-stored, file-erased, file-renamed, left}
+use Rattle.soundness.proofs.Left.{ListLeft, ImageLeft, list-same, one-set, run-set, emptied, image-same, entry-made, record-stored, file-erased}
+use Rattle.soundness.proofs.Left.{file-renamed, left}
 use Rattle.rules.proofs.Sizes.{top-fits, entries-few}
 
 bytes-if : (t : Bool) (a b : List ℕ) → areBytes a ≡ true → areBytes b ≡ true → areBytes (a if t else b) ≡ true
@@ -188,8 +194,11 @@ module _ (kind : Kind) (l : LockList) (s : List ℕ) (g : SoundLocks kind l s) (
 
 -- the three buffers that matter to the next call of a run: what it reads of the FCB is cut to its range
 pub record InBytes (b : Buffers) : Type 0 where
+  -- the DMA holds bytes, ..
   pub dma-bytes : areBytes (b .dma) ≡ true
+  -- .. so does the list, ..
   pub list-bytes : areBytes (b .list) ≡ true
+  -- .. and so does the image
   pub image-bytes : areBytes (b .image) ≡ true
 
 module _ (kind : Kind) (n p c : ℕ) (b : Buffers) (w : InBytes b) where

@@ -25,11 +25,15 @@ use Rattle.soundness.proofs.Taken.{caller-long}
 use Rattle.soundness.proofs.Leaves.{listOf, fileBy}
 use Rattle.soundness.proofs.Ends.{image-of, made-of, renamed-of, written-of}
 use Rattle.soundness.proofs.Shapes.{SoundShape, locked-shape}
-use Rattle.soundness.proofs.Left.{ListLeft, ImageLeft, list-same, one-set, run-set, emptied, image-same, entry-made, record-stored, file-erased, file-renamed, left}
+use Rattle.soundness.proofs.Left.{ListLeft, ImageLeft, list-same, one-set, run-set, emptied, image-same, entry-made, record-stored, file-erased}
+use Rattle.soundness.proofs.Left.{file-renamed, left}
 
 pub record SoundBoth (kind : Kind) (list image : List ℕ) : Type 0 where
+  -- the image is sound
   pub image-sound : soundImage kind image ≡ true
+  -- the list has its 1,316 bytes, ..
   pub list-long : length list ≡ 1316
+  -- .. and is sound against the image
   pub list-sound : soundList kind list image ≡ true
 
 packed : (kind : Kind) (l : LockList) (s : List ℕ) → SoundShape kind l s → soundImage kind s ≡ true → SoundBoth kind (pack l) s

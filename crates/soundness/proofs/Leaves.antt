@@ -13,7 +13,8 @@ use Rattle.rules.specs.Kinds.{entries, top}
 use Rattle.rules.specs.declared.file.File.{File}
 use Rattle.rules.specs.declared.item.Item.{Item}
 use Rattle.rules.specs.declared.list.LockList.{LockList}
-use Rattle.rules.specs.declared.routine.Routine.the-variants.{Open, Close, SearchFirst, SearchNext, Delete, Make, Rename, Read, Write, Size, WriteZeros, TestWrite, Lock, Unlock, FreeSpace, Terminate}
+use Rattle.rules.specs.declared.routine.Routine.the-variants.{Open, Close, SearchFirst, SearchNext, Delete, Make, Rename, Read, Write, Size, WriteZeros}
+use Rattle.rules.specs.declared.routine.Routine.the-variants.{TestWrite, Lock, Unlock, FreeSpace, Terminate}
 use Rattle.rules.specs.declared.routine.Chosen.the-variants.{Call}
 use Rattle.rules.specs.Serves.{Buffers, Outcome, buffers, outcome, chosen, isSearch, withFcb, withDma, withList, withImage}
 use Rattle.rules.specs.Drive.{blocks, legalName, entryOf, freeEntry, freeBlock, blockIn, blockOf}
@@ -46,61 +47,98 @@ modeBy p b = itemAt (unpack (b .list)) (openOf (unpack (b .list)) p (callerFile 
 -- ---- what stands at each
 
 pub record OpensAgain (p : ℕ) (b : Buffers) : Type 0 where
+  -- the caller has its file open, ..
   pub is-open : openBy p b < 64
+  -- .. in the mode that the FCB asks for
   pub same-mode : modeBy p b ≡ openMode (b .fcb)
 
 pub record MayOpen (kind : Kind) (p : ℕ) (b : Buffers) : Type 0 where
+  -- the name in the FCB is legal
   pub legal : legalName (b .fcb) 1 ≡ true
+  -- the caller's file is on the image
   pub there : entryOf kind (b .image) (fileBy p b) 0 < entries kind
+  -- the caller has it not open
   pub unopened : 64 ≤ openBy p b
+  -- no open of the file by another process stands against one in the mode that the FCB asks for
   pub none-against : any (standsAgainstAt (listOf b) p (fileBy p b) (openMode (b .fcb))) 64 ≡ false
+  -- the caller's opens are fewer than the open limit
   pub within : opensBy (listOf b) p < listOf b .openlimit
+  -- a place below the capacity is empty
   pub room : freePlace (listOf b) < listOf b .capacity
 
 pub record MayMake (kind : Kind) (p : ℕ) (b : Buffers) : Type 0 where
+  -- the name in the FCB is legal
   pub legal : legalName (b .fcb) 1 ≡ true
+  -- the caller's file is not on the image
   pub gone : entries kind ≤ entryOf kind (b .image) (fileBy p b) 0
+  -- the caller's opens are fewer than the open limit
   pub within : opensBy (listOf b) p < listOf b .openlimit
+  -- a place below the capacity is empty
   pub room : freePlace (listOf b) < listOf b .capacity
+  -- an entry of the directory is empty
   pub entry-room : freeEntry kind (b .image) < entries kind
 
 pub record MayDelete (kind : Kind) (p : ℕ) (b : Buffers) : Type 0 where
+  -- the name in the FCB is legal
   pub legal : legalName (b .fcb) 1 ≡ true
+  -- the caller's file is on the image
   pub there : entryOf kind (b .image) (fileBy p b) 0 < entries kind
+  -- no other process has it open
   pub none-others : stopsDelete p (listOf b) (fileBy p b) ≡ false
 
 pub record MayRename (kind : Kind) (p : ℕ) (b : Buffers) : Type 0 where
+  -- the name in the FCB is legal, ..
   pub legal : legalName (b .fcb) 1 ≡ true
+  -- .. and so is the new one
   pub legal-new : legalName (b .fcb) 17 ≡ true
+  -- the caller's file is on the image
   pub there : entryOf kind (b .image) (fileBy p b) 0 < entries kind
+  -- nobody has it open, not even the caller
   pub unopened : anyOpen (listOf b) (fileBy p b) ≡ false
+  -- under its new name there is no file on the image
   pub gone-new : entries kind ≤ entryOf kind (b .image) (newBy p b) 0
 
 pub record MayWrite (kind : Kind) (p : ℕ) (b : Buffers) : Type 0 where
+  -- the caller has its file open
   pub is-open : openBy p b < 64
+  -- the record number is not above the highest
   pub fits : recordOf (b .fcb) ≤ top kind
+  -- no other process has locked the record
   pub unlocked-by-others : lockedByOther (listOf b) p (fileBy p b) (recordOf (b .fcb)) ≡ false
+  -- where the record's extent is missing, an entry of the directory is empty; ..
   pub entry-room : (leb (entries kind) (entryOf kind (b .image) (fileBy p b) (recordOf (b .fcb) / 128)) and leb (entries kind)
       (freeEntry kind (b .image))) ≡ false
+  -- .. where the record has no block, one is free
   pub block-room : (eqb (blockIn kind (b .image) (entryOf kind (b .image) (fileBy p b) (recordOf (b .fcb) / 128)) (recordOf (b .fcb))) 0
       and leb (blocks kind (b .image)) (freeBlock kind (b .image))) ≡ false
 
 pub record MayLock (kind : Kind) (p c : ℕ) (b : Buffers) : Type 0 where
+  -- the caller has its file open, ..
   pub is-open : openBy p b < 64
+  -- .. unlocked
   pub is-unlocked : modeBy p b ≡ 1
+  -- the number of the run's last record is not above the highest
   pub fits : recordOf (b .fcb) + c - 1 ≤ top kind
+  -- each record of the run has a block, ..
   pub have-blocks : (k : ℕ) → k < c → blockOf kind (b .image) (fileBy p b) (recordOf (b .fcb) + k) ≡ 0 → ⊥
+  -- .. and no other process has locked it
   pub none-others : (k : ℕ) → k < c → lockedByOther (listOf b) p (fileBy p b) (recordOf (b .fcb) + k) ≡ false
+  -- the caller's locks and the records of the run together are within the lock limit
   pub within : locksBy (listOf b) p + c ≤ listOf b .locklimit
+  -- the records of the run that the caller does not hold are no more than the free places
   pub room : count (isNew (listOf b) p (fileBy p b) (recordOf (b .fcb))) c ≤ freePlaces (listOf b)
 
 pub record MayUnlock (p : ℕ) (b : Buffers) : Type 0 where
+  -- the caller has its file open, ..
   pub is-open : openBy p b < 64
+  -- .. unlocked
   pub is-unlocked : modeBy p b ≡ 1
 
 -- 42 and 43 in modes 0 and 2
 pub record Idle (p : ℕ) (b : Buffers) : Type 0 where
+  -- the caller has its file open, ..
   pub is-open : openBy p b < 64
+  -- .. but not unlocked
   pub not-unlocked : modeBy p b ≡ 1 → ⊥
 
 -- ---- the image after a write, from the DMA's bytes v

@@ -24,8 +24,11 @@ use Rattle.rules.specs.Call.{call}
 use Rattle.rules.proofs.SoundList.{SoundLocks}
 use Rattle.rules.proofs.Passed.{Passed}
 use Rattle.soundness.proofs.Emptied.{Empties, Whole, close-empties, close-whole, unlock-empties, unlock-whole, end-empties, none-empties}
-use Rattle.soundness.proofs.Shapes.{SoundShape, opened-shape, made-shape, emptied-shape, ended-shape, searched-shape, dropped-shape, written-follows, erased-follows, renamed-follows}
-use Rattle.soundness.proofs.Leaves.{Leaf, listOf, fileBy, newBy, MayMake, MayDelete, MayRename, MayWrite, MayLock, imageWritten, refused, reopened, newlyOpened, newlyMade, nowClosed, nowErased, nowDropped, nowRenamed, nowRead, nowSized, nowWritten, nowRewritten, nowLocked, lockIdle, nowUnlocked, unlockIdle, nowTold, nowEnded, nowSearched}
+use Rattle.soundness.proofs.Shapes.{SoundShape, opened-shape, made-shape, emptied-shape, ended-shape, searched-shape, dropped-shape, written-follows}
+use Rattle.soundness.proofs.Shapes.{erased-follows, renamed-follows}
+use Rattle.soundness.proofs.Leaves.{Leaf, listOf, fileBy, newBy, MayMake, MayDelete, MayRename, MayWrite, MayLock, imageWritten, refused, reopened}
+use Rattle.soundness.proofs.Leaves.{newlyOpened, newlyMade, nowClosed, nowErased, nowDropped, nowRenamed, nowRead, nowSized, nowWritten, nowRewritten}
+use Rattle.soundness.proofs.Leaves.{nowLocked, lockIdle, nowUnlocked, unlockIdle, nowTold, nowEnded, nowSearched}
 use Rattle.soundness.proofs.Walk.{walk}
 
 -- the list, beside the image t: nothing (and it is then sound beside t if it was before), one place set, a run set, places emptied,
@@ -51,7 +54,9 @@ pub data ImageLeft (kind : Kind) (p c : ℕ) (b : Buffers) : List ℕ → Type 0
 
 -- of an outcome, both
 pub record Left (kind : Kind) (p c : ℕ) (b : Buffers) (o : Outcome) : Type 0 where
+  -- the list left is, beside the image left, one of those above
   pub list : ListLeft kind p c b (o .left .image) (o .left .list)
+  -- the image left is one of those above
   pub image : ImageLeft kind p c b (o .left .image)
 
 -- items that go are the caller's

@@ -21,6 +21,7 @@ module _ (l : LockList) (p e : ℕ) (h : Shape l) where
   unfolding movedTo
   moved-here m = getD-set-same (l .positions) p e 0 (let k = h .positions-long in omega arith)
 
+  -- .. the next entry of every other process is what it was
   pub moved-other : (q : ℕ) → (q ≡ p → ⊥) → positionOf (movedTo p e l) q ≡ positionOf l q
   unfolding movedTo
   moved-other q n = getD-set-other (l .positions) p q e 0 n

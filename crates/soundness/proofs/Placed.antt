@@ -15,7 +15,8 @@ use Rattle.words.proofs.Sets.{and-both, and-left}
 use Rattle.rules.specs.declared.kind.Kind.{Kind}
 use Rattle.rules.specs.declared.item.Item.{Item}
 use Rattle.rules.specs.declared.list.LockList.{LockList}
-use Rattle.rules.specs.Locks.{blank, itemAt, withItems, fileOf, opensName, isKindBy, isKindByAt, opensBy, locksBy, isEmptyAt, freePlace, sameFile, clash, clashAt, keepsLimits}
+use Rattle.rules.specs.Locks.{blank, itemAt, withItems, fileOf, opensName, isKindBy, isKindByAt, opensBy, locksBy, isEmptyAt, freePlace, sameFile, clash}
+use Rattle.rules.specs.Locks.{clashAt, keepsLimits}
 use Rattle.rules.proofs.Items.{clash-at-sym}
 use Rattle.rules.proofs.SoundList.{Shape, Holder, GoodOpen, GoodLock, isPlain, Used, Vacant, Limits, SoundLocks, capacity-fits}
 
@@ -59,7 +60,9 @@ module _ (l : LockList) (xs : List Item) where
 
 -- a place below the capacity that holds nothing
 pub record Room (l : LockList) (j : ℕ) : Type 0 where
+  -- the place is below the capacity
   pub below : j < l .capacity
+  -- it is empty
   pub empty : itemAt l j .kind ≡ 0
 
 -- the lowest empty place is such a place, where there is one
@@ -117,11 +120,17 @@ module _ (l : LockList) (j : ℕ) (it : Item) (h : Shape l) (inside : j < 64) wh
 
 -- the item is good, clashes with none, and its process keeps its limits
 pub record Fits (kind : Kind) (s : List ℕ) (l : LockList) (j : ℕ) (it : Item) : Type 0 where
+  -- the item's name has eleven bytes
   pub name-long : length (it .name) ≡ 11
+  -- its process is one of 0 to 15, its name legal with high bits zero, its record number not above the highest
   pub plain : isPlain kind it ≡ true
+  -- it is a good open or a good lock
   pub good : GoodOpen kind s l it ⊎ GoodLock kind s l it
+  -- it clashes with no item of its file at another place
   pub no-clash : (i : ℕ) → i < 64 → (i ≡ j → ⊥) → (clash it (itemAt l i) and sameFile (fileOf l it) (fileOf l (itemAt l i))) ≡ false
+  -- where it is an open, its process has fewer opens than the open limit; ..
   pub opens-fit : (p : ℕ) → isKindBy 1 p it ≡ true → opensBy l p < l .openlimit
+  -- .. where it is a lock, fewer locks than the lock limit
   pub locks-fit : (p : ℕ) → isKindBy 2 p it ≡ true → locksBy l p < l .locklimit
 
 module _ (kind : Kind) (s : List ℕ) (l : LockList) (j : ℕ) (it : Item) (h : Shape l) (g : SoundLocks kind l s) (r : Room l j) (w : Fits kind s l j it) where

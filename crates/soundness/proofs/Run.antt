@@ -18,7 +18,8 @@ use Rattle.rules.specs.declared.file.File.{File}
 use Rattle.rules.specs.declared.item.Item.{Item}
 use Rattle.rules.specs.declared.list.LockList.{LockList}
 use Rattle.rules.specs.Drive.{legalName, blockOf}
-use Rattle.rules.specs.Locks.{itemAt, userOf, fileOf, withItems, freshLock, isKindBy, isKindByAt, isEmptyAt, freePlace, freePlaces, isLow, locksBy, held, lockedByOther, sameFile, clash, opensName}
+use Rattle.rules.specs.Locks.{itemAt, userOf, fileOf, withItems, freshLock, isKindBy, isKindByAt, isEmptyAt, freePlace, freePlaces, isLow, locksBy, held}
+use Rattle.rules.specs.Locks.{lockedByOther, sameFile, clash, opensName}
 use Rattle.rules.specs.Codes.{isNew}
 use Rattle.rules.specs.Effects.{placed, lockedAt}
 use Rattle.rules.proofs.Items.{name-sym}
@@ -33,33 +34,55 @@ clash-two p name k x h = h
 
 -- what 42 has made sure of
 pub record Takes (kind : Kind) (s : List ℕ) (l : LockList) (p : ℕ) (f : File) (r n : ℕ) : Type 0 where
+  -- the process is one of 0 to 15
   pub process-fits : p ≤ 15
+  -- the file is under the process's user
   pub under : f .user ≡ userOf l p
+  -- its name has eleven bytes, ..
   pub name-long : length (f .name) ≡ 11
+  -- .. is legal, ..
   pub legal : legalName (f .name) 0 ≡ true
+  -- .. and has its high bits zero
   pub low : all (isLow (f .name)) 11 ≡ true
+  -- the process has the file open unlocked
   pub holder : Holder l p (f .name)
+  -- no record number of the run is above the highest
   pub fits : (k : ℕ) → k < n → r + k ≤ top kind
+  -- each record of the run has a block, ..
   pub have-blocks : (k : ℕ) → k < n → blockOf kind s f (r + k) ≡ 0 → ⊥
+  -- .. and no other process has locked it
   pub none-others : (k : ℕ) → k < n → lockedByOther l p f (r + k) ≡ false
+  -- the process's locks and the records of the run together are within the lock limit
   pub within : locksBy l p + n ≤ l .locklimit
+  -- the records of the run that the process does not hold are no more than the free places
   pub room : count (isNew l p f r) n ≤ freePlaces l
 
 -- a place that the run has filled so far
 pub record Filled (l₀ l : LockList) (p : ℕ) (f : File) (r k i : ℕ) : Type 0 where
+  -- how far into the run the record is whose lock stands there, ..
   pub step : ℕ
+  -- .. one of the k records so far
   pub before : step < k
+  -- the place was empty before the run
   pub was-empty : itemAt l₀ i .kind ≡ 0
+  -- it holds a lock of that record by the process
   pub now : itemAt l i ≡ freshLock p (f .name) (r + step)
 
 -- after k records
 pub record Running (kind : Kind) (s : List ℕ) (l₀ : LockList) (p : ℕ) (f : File) (r k : ℕ) : Type 0 where
+  -- the items that the list then has
   pub items : List Item
+  -- the list left is the one before the run with these items
   pub is : turns (lockedAt p f r) k l₀ ≡ withItems l₀ items
+  -- the list left has its shape, ..
   pub shape : Shape (withItems l₀ items)
+  -- .. and is sound against the image
   pub sound : SoundLocks kind (withItems l₀ items) s
+  -- each place holds what it held before the run, or is one that the run has filled
   pub place : (i : ℕ) → i < 64 → (itemAt (withItems l₀ items) i ≡ itemAt l₀ i) ⊎ Filled l₀ (withItems l₀ items) p f r k i
+  -- the free places left, and the records so far that the process did not hold, add up to the free places before
   pub free : freePlaces (withItems l₀ items) + count (isNew l₀ p f r) k ≡ freePlaces l₀
+  -- the process has at most k locks more than before
   pub locks : locksBy (withItems l₀ items) p ≤ locksBy l₀ p + k
 
 module _ (kind : Kind) (s : List ℕ) (l₀ : LockList) (p : ℕ) (f : File) (r n : ℕ) (h₀ : Shape l₀) (g₀ : SoundLocks kind l₀ s) (t : Takes kind s l₀ p f r n) where

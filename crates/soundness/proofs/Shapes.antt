@@ -23,7 +23,8 @@ use Rattle.soundness.proofs.Placed.{free-room, Fits, set-shape, set-sou
 use Rattle.soundness.proofs.Changes.{Grown, Touches}
 use Rattle.soundness.proofs.Written.{Old, New}
 use Rattle.soundness.proofs.Erased.{erased-sound, erased-touches}
-use Rattle.soundness.proofs.Emptied.{Empties, Whole, gone-shape, gone-sound, close-empties, close-whole, end-empties, end-whole, none-empties, none-whole}
+use Rattle.soundness.proofs.Emptied.{Empties, Whole, gone-shape, gone-sound, close-empties, close-whole, end-empties, end-whole, none-empties}
+use Rattle.soundness.proofs.Emptied.{none-whole}
 use Rattle.soundness.proofs.Moved.{moved-shape, moved-sound}
 use Rattle.soundness.proofs.Follows.{follow-grown, follow-touched}
 use Rattle.soundness.proofs.Run.{running}
@@ -34,7 +35,9 @@ use Rattle.soundness.proofs.Ends.{image-of, shape-of, list-of, made-of,
 
 -- the list has its shape and is sound
 pub record SoundShape (kind : Kind) (l : LockList) (s : List ℕ) : Type 0 where
+  -- it has sixteen users and positions and 64 items, whose names have eleven bytes
   pub shape : Shape l
+  -- it is sound against the image
   pub sound : SoundLocks kind l s
 
 -- what holds of such a list holds of what its bytes read as

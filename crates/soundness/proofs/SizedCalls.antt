@@ -33,7 +33,9 @@ use Rattle.soundness.proofs.Written.{Old, New, Wrote}
 use Rattle.soundness.proofs.Taken.{caller-long, new-long}
 use Rattle.soundness.proofs.Sized.{of-is, there, size-had, size-least, size-rises, size-grown, size-untouched}
 use Rattle.soundness.proofs.Ends.{image-of, caller-fits, made-of, renamed-of, renamed-touch, renamed-file, written-of}
-use Rattle.soundness.proofs.Leaves.{Leaf, listOf, fileBy, newBy, MayMake, MayDelete, MayRename, MayWrite, imageWritten, refused, reopened, newlyOpened, newlyMade, nowClosed, nowErased, nowDropped, nowRenamed, nowRead, nowSized, nowWritten, nowRewritten, nowLocked, lockIdle, nowUnlocked, unlockIdle, nowTold, nowEnded, nowSearched}
+use Rattle.soundness.proofs.Leaves.{Leaf, listOf, fileBy, newBy, MayMake, MayDelete, MayRename, MayWrite, imageWritten, refused, reopened, newlyOpened}
+use Rattle.soundness.proofs.Leaves.{newlyMade, nowClosed, nowErased, nowDropped, nowRenamed, nowRead, nowSized, nowWritten, nowRewritten, nowLocked}
+use Rattle.soundness.proofs.Leaves.{lockIdle, nowUnlocked, unlockIdle, nowTold, nowEnded, nowSearched}
 use Rattle.soundness.proofs.Walk.{walk, accepted-as, may-make, may-write, may-rewrite, may-rename, second-full}
 
 module _ (kind : Kind) (p c : ℕ) (b : Buffers) (ok : Passed kind p c b) where

@@ -100,7 +100,9 @@ module _ (kind : Kind) (s t : List ℕ)
 
 -- place k of entry e holds in t the number that it holds in s
 pub record Stays (kind : Kind) (s t : List ℕ) (e k : ℕ) : Type 0 where
+  -- the place names a block in s
   pub named : Names kind s e k
+  -- its number in t is the one in s
   pub number : mapNumber kind t e k ≡ mapNumber kind s e k
 
 -- numbers that stay or go leave the maps good

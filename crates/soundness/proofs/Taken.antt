@@ -21,7 +21,8 @@ use Rattle.rules.specs.declared.item.Item.{Item}
 use Rattle.rules.specs.declared.list.LockList.{LockList}
 use Rattle.rules.specs.Serves.{Buffers}
 use Rattle.rules.specs.Drive.{legalByte, legalAt, legalName, fileFrom, entryOf}
-use Rattle.rules.specs.Locks.{itemAt, userOf, fileOf, freshOpen, isKindBy, isLow, opensNameAt, opensFile, opensFileAt, openOf, anyOpen, opensBy, freePlace, sameName, sameFile, standBeside, clash}
+use Rattle.rules.specs.Locks.{itemAt, userOf, fileOf, freshOpen, isKindBy, isLow, opensNameAt, opensFile, opensFileAt, openOf, anyOpen, opensBy, freePlace}
+use Rattle.rules.specs.Locks.{sameName, sameFile, standBeside, clash}
 use Rattle.rules.specs.Asks.{callerFile, newFile, openMode, makeMode}
 use Rattle.rules.specs.Codes.{standsAgainst, standsAgainstAt}
 use Rattle.rules.proofs.Sound.{from-long}
@@ -183,9 +184,13 @@ module _ (kind : Kind) (s : List ℕ) (p c : ℕ) (b : Buffers) (ok : Passed kin
 
 -- the process has the file open, at some place
 pub record Opener (l : LockList) (f : File) (p : ℕ) : Type 0 where
+  -- the place of the open, ..
   pub place : ℕ
+  -- .. one of the 64
   pub below : place < 64
+  -- the item there is an open of the file, ..
   pub opens : opensFileAt l f place ≡ true
+  -- .. by that process
   pub by : itemAt l place .process ≡ p
 
 module _ (kind : Kind) (s : List ℕ) (l : LockList) (g : SoundLocks kind l s) (f : File) where

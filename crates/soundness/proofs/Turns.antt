@@ -14,9 +14,13 @@ use Rattle.rules.proofs.Frames.{Same, same-refl}
 
 -- after m turns: entries below m as their turn leaves them, the others and all past the directory as they were
 pub record Turned (kind : Kind) (step : ℕ → List ℕ → List ℕ) (s : List ℕ) (m : ℕ) (t : List ℕ) : Type 0 where
+  -- the image keeps its length
   pub len : length t ≡ length s
+  -- an entry below m is as its own turn leaves it
   pub done : (e : ℕ) → e < entries kind → e < m → Same (step e s) e t e
+  -- an entry from m on is as it was
   pub ahead : (e : ℕ) → e < entries kind → m ≤ e → Same s e t e
+  -- a byte past the directory is as it was
   pub past : (i : ℕ) → 32 * entries kind ≤ i → byte t i ≡ byte s i
 
 -- a step at e changes entry e alone, and by what stands there alone

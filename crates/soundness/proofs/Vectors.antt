@@ -51,9 +51,13 @@ use Rattle.soundness.proofs.Walk.{may-make, may-rename}
 
 -- block x stands at that place of that entry
 pub record Stands (kind : Kind) (s : List ℕ) (x : ℕ) : Type 0 where
+  -- the entry, ..
   pub entry : ℕ
+  -- .. and the place in its map
   pub place : ℕ
+  -- that place names a block, ..
   pub named : Names kind s entry place
+  -- .. and its number is x
   pub number : mapNumber kind s entry place ≡ x
 
 module _ (kind : Kind) (s : List ℕ) (x : ℕ) where

@@ -15,7 +15,8 @@ use Rattle.words.proofs.Tests.{either, never}
 use Rattle.words.proofs.Tables.{some-applies, any-append}
 use Rattle.words.proofs.Sets.{and-left}
 use Rattle.rules.specs.declared.kind.Kind.{Kind}
-use Rattle.rules.specs.declared.routine.Routine.the-variants.{Open, Close, SearchFirst, SearchNext, Delete, Make, Rename, Read, Write, Size, WriteZeros, TestWrite, Lock, Unlock, FreeSpace, Terminate}
+use Rattle.rules.specs.declared.routine.Routine.the-variants.{Open, Close, SearchFirst, SearchNext, Delete, Make, Rename, Read, Write, Size, WriteZeros}
+use Rattle.rules.specs.declared.routine.Routine.the-variants.{TestWrite, Lock, Unlock, FreeSpace, Terminate}
 use Rattle.rules.specs.declared.routine.Chosen.{Chosen}
 use Rattle.rules.specs.declared.routine.Chosen.the-variants.{Call, Unknown}
 use Rattle.rules.specs.Serves.{Buffers, Outcome, buffers, outcome, chosen, isUnknown, isSearch}
@@ -25,12 +26,15 @@ use Rattle.rules.specs.declared.item.Item.{Item}
 use Rattle.rules.specs.Locks.{isOpened, pack, withItems, movedTo}
 use Rattle.rules.specs.Asks.{recordOf}
 use Rattle.rules.specs.Codes.{rowsAll, rows42, rows43, stopsRename}
-use Rattle.rules.specs.Effects.{searched, finds, findsNone, does15, does16, does17, does18, closedWhere, does19, does22, makes, does23, does33, does34, does35, does41, does42, does43, does46, does143}
+use Rattle.rules.specs.Effects.{searched, finds, findsNone, does15, does16, does17, does18, closedWhere, does19, does22, makes, does23, does33, does34, does35}
+use Rattle.rules.specs.Effects.{does41, does42, does43, does46, does143}
 use Rattle.rules.specs.Call.{asked, askedBy, rowsOf, effectOf, rowsCall, call}
 use Rattle.rules.proofs.Tables.{accepted, refused, nonzero-call}
 use Rattle.rules.proofs.Passed.{Passed, passed, known}
 use Rattle.rules.proofs.Rows.{passes-15, passes-16, passes-19, passes-22, passes-23, passes-34, passes-41, run-open, passes-42}
-use Rattle.soundness.proofs.Leaves.{Leaf, listOf, fileBy, newBy, openBy, modeBy, MayMake, MayDelete, MayRename, MayWrite, reopened, newlyOpened, newlyMade, nowClosed, nowErased, nowDropped, nowRenamed, nowRead, nowSized, nowWritten, nowRewritten, nowLocked, lockIdle, nowUnlocked, unlockIdle, nowTold, nowEnded, nowSearched}
+use Rattle.soundness.proofs.Leaves.{Leaf, listOf, fileBy, newBy, openBy, modeBy, MayMake, MayDelete, MayRename, MayWrite, reopened, newlyOpened}
+use Rattle.soundness.proofs.Leaves.{newlyMade, nowClosed, nowErased, nowDropped, nowRenamed, nowRead, nowSized, nowWritten, nowRewritten, nowLocked}
+use Rattle.soundness.proofs.Leaves.{lockIdle, nowUnlocked, unlockIdle, nowTold, nowEnded, nowSearched}
 
 -- the entries of the caller's file: of extent 0, and of the extent with the record
 abbrev first : Kind → ℕ → Buffers → ℕ
@@ -63,6 +67,7 @@ module _ (kind : Kind) (n p c : ℕ) (b : Buffers) (ok : Passed kind p c b) wher
       }) _))
       (either (ltb (openBy p b) 64))
 
+  -- what stands where no row of its own refuses a 22
   pub may-make : anyRow (rowsOf (Call Make) (asked kind p c b) b) ≡ false → MayMake kind p b
   unfolding rowsOf asked askedBy lookUp
   may-make h =
@@ -90,6 +95,7 @@ module _ (kind : Kind) (n p c : ℕ) (b : Buffers) (ok : Passed kind p c b) wher
       (λ (q : ltb (openBy p b) 64 ≡ false). rw q (nowErased k ok may (ltb-false _ _ q)))
       (either (ltb (openBy p b) 64))
 
+  -- what stands where no row of its own refuses a 23
   pub may-rename : anyRow (rowsOf (Call Rename) (asked kind p c b) b) ≡ false → MayRename kind p b
   unfolding rowsOf asked askedBy lookUp stopsRename
   may-rename h =
@@ -224,10 +230,14 @@ split kind n p c b h = any-append (rowsAll kind n p c b) (rowsOf (chosen n) (ask
 
 -- what an accepted call has passed, and what it did
 pub record Accepted (kind : Kind) (n p c : ℕ) (b : Buffers) (k : Chosen) : Type 0 where
+  -- the general table lets it pass, ..
   pub ok : Passed kind p c b
+  -- .. and so does its own
   pub passes : anyRow (rowsOf k (asked kind p c b) b) ≡ false
+  -- its outcome is the effect of the call
   pub did : call kind n p c b ≡ effectOf k (asked kind p c b) b
 
+-- a call that no row refuses has passed both tables, and its outcome is the effect of the call that its function chooses
 pub accepted-as : (kind : Kind) (n p c : ℕ) (b : Buffers) (k : Chosen) → chosen n ≡ k → anyRow (rowsCall kind n p c b) ≡ false → Accepted kind n p c b k
 accepted-as kind n p c b k e h =
     let g = split kind n p c b h in

@@ -17,7 +17,8 @@ use Rattle.rules.specs.declared.kind.Kind.{Kind}
 use Rattle.rules.specs.Kinds.{blockSize, entries, numbers, top}
 use Rattle.rules.specs.declared.file.File.{File}
 use Rattle.rules.specs.declared.spot.Spot.{Spot}
-use Rattle.rules.specs.Drive.{blocks, isEmpty, fileAt, mapNumber, mapPlace, entryOf, freeEntry, holdsNumber, namesBlock, isUsed, isFree, freeBlock, blockIn, recordAt}
+use Rattle.rules.specs.Drive.{blocks, isEmpty, fileAt, mapNumber, mapPlace, entryOf, freeEntry, holdsNumber, namesBlock, isUsed, isFree, freeBlock, blockIn}
+use Rattle.rules.specs.Drive.{recordAt}
 use Rattle.rules.specs.Effects.{spot, spotAt, newEntry, entered, mapped, counted, cleared, stored, written, countTo}
 use Rattle.rules.proofs.Sizes.{directory-size, place-fits, record-past, record-inside, block-inside, record-over, record-room}
 use Rattle.rules.proofs.Sound.{Is, Names, SoundImage, found-is, length-long, length-whole}
@@ -113,27 +114,44 @@ module _ (kind : Kind) (f : File) (a m i j : ℕ) where
 -- ---- what writing did: the record's number stands at place (r's) of that entry
 
 pub record Wrote (kind : Kind) (s t : List ℕ) (f : File) (r a m n b : ℕ) : Type 0 where
+  -- it takes nothing away: changed are the file's entries, m data bytes from a on, and a number at the record's place of entry n, at most
   pub change : Change kind s t f a m n (mapPlace kind r)
+  -- entry n is one of the directory
   pub below : n < entries kind
+  -- on the image left it is the record's extent of the file
   pub is : Is t f (r / 128) n
+  -- the record's place in its map holds the number b
   pub number : mapNumber kind t n (mapPlace kind r) ≡ b
+  -- its count is at least the record's place in the extent plus one
   pub count : countTo r ≤ byte t (32 * n + 15)
 
 -- its block was there, or it is a free one
 pub record Old (kind : Kind) (s t : List ℕ) (f : File) (r : ℕ) : Type 0 where
+  -- the entry of the record's extent
   pub entry : ℕ
+  -- the record's block
   pub block : ℕ
+  -- the record is written there, and past the directory only its 128 bytes differ
   pub wrote : Wrote kind s t f r (recordAt kind block r) 128 entry block
+  -- the entry was the record's extent before, ..
   pub was-is : Is s f (r / 128) entry
+  -- .. and the record's place in its map held that block's number, ..
   pub was : mapNumber kind s entry (mapPlace kind r) ≡ block
+  -- .. which is not 0
   pub some : block ≡ 0 → ⊥
 
 pub record New (kind : Kind) (s t : List ℕ) (f : File) (r : ℕ) : Type 0 where
+  -- the entry that is then of the record's extent
   pub entry : ℕ
+  -- the block that is then the record's
   pub block : ℕ
+  -- the record is written there, and past the directory only the bytes of that block differ
   pub wrote : Wrote kind s t f r (blockSize kind * block) (blockSize kind) entry block
+  -- the block was free before
   pub free : isFree kind s block ≡ true
+  -- the record's place in that entry named no block before
   pub unnamed : Names kind s entry (mapPlace kind r) → ⊥
+  -- the block is one of the image
   pub within : block < blocks kind s
 
 free-stays : (kind : Kind) (s t : List ℕ) (b : ℕ) → ((e k : ℕ) → Names kind t e k → Stays kind s t e k) → isFree kind s b ≡ true → isFree kind t b ≡ true

@@ -11,7 +11,8 @@ use Rattle.rules.specs.declared.kind.Told.the-variants.{Known, Other}
 use Rattle.rules.specs.Several.{servesRun}
 use Rattle.rules.specs.Told.{callTold}
 use Rattle.rules.proofs.Several.{run-plain}
-use Rattle.unlocking.specs.Unlocks.{Asking, Doing, lentTo, locks, unlocks, locksTold, unlocksTold, Keeps, Commutes, Repeats, GivesBack, TakesHeld, listAfter, Unlocking}
+use Rattle.unlocking.specs.Unlocks.{Asking, Doing, lentTo, locks, unlocks, locksTold, unlocksTold, Keeps, Commutes, Repeats, GivesBack, TakesHeld}
+use Rattle.unlocking.specs.Unlocks.{listAfter, Unlocking}
 use Rattle.unlocking.proofs.Orders.{unlocks-commute, unlock-repeats, any-order}
 use Rattle.unlocking.proofs.Back.{unlock-gives-back, takes-held}
 

@@ -10,7 +10,7 @@ use lib.Dec.{eqb}
 use borrow.Author.Tests.{eqb-true, eq-eqb, ne-eqb, leb-true, le-leb, ltb-true, lt-ltb}
 use Rattle.words.specs.Tests.{_and_, _if_else_, any}
 use Rattle.words.specs.Lists.{tab}
-use Rattle.words.specs.Bytes.{areBytes}
+use Rattle.words.specs.Bytes.{areBytes, isZero}
 use Rattle.words.specs.Tables.{Row, onlyIf, firstOf, anyRow}
 use Rattle.words.proofs.Tests.{either, fails-too, all-at, any-found, any-some, and-fst, and-snd, or-fst, or-snd}
 use Rattle.words.proofs.Lists.{tab-ext, tab-getD}
@@ -22,7 +22,7 @@ use Rattle.rules.specs.declared.file.File.{File}
 use Rattle.rules.specs.declared.item.Item.{Item}
 use Rattle.rules.specs.declared.list.LockList.{LockList}
 use Rattle.rules.specs.Serves.{Outcome, outcome, chosen, isUnknown}
-use Rattle.rules.specs.Locks.{blank, emptyPlace, freshLock, itemAt, userOf, withItems, openOf, isZero, goodEmpty, unpack, pack}
+use Rattle.rules.specs.Locks.{blank, emptyPlace, freshLock, itemAt, userOf, withItems, openOf, goodEmpty, unpack, pack}
 use Rattle.rules.specs.Asks.{recordOf}
 use Rattle.rules.specs.Codes.{badNumbers, badDrive, rowsInside, rowsAll, rowsRun, rows42, rows43}
 use Rattle.rules.specs.Effects.{isOfFile, isInRun, lockedRun, does42}
@@ -33,7 +33,8 @@ use Rattle.rules.proofs.Lists.{goneIf, withoutAll}
 use Rattle.rules.proofs.Passed.{Passed, passed}
 use Rattle.rules.proofs.Rows.{run-open, passes-42}
 use Rattle.rules.proofs.Packing.{pack-long, pack-unpack}
-use Rattle.rules.proofs.SoundList.{Shape, Holder, SoundLocks, Vacant, Used, GoodOpen, GoodLock, unpack-shape, list-sound-of, list-sound-so, holder-open, unpacked}
+use Rattle.rules.proofs.SoundList.{Shape, Holder, SoundLocks, Vacant, Used, GoodOpen, GoodLock, unpack-shape, list-sound-of, list-sound-so, holder-open}
+use Rattle.rules.proofs.SoundList.{unpacked}
 use Rattle.soundness.proofs.Kept.{SoundBoth}
 use Rattle.soundness.proofs.Held.{held-found, held-some}
 use Rattle.soundness.proofs.Emptied.{at-gone, at-kept, gone-shape, gone-sound, unlock-whole}

@@ -1,3 +1,4 @@
+-- The proofs of `unlocking`.
 pub mod Opens
 pub mod Taken
 pub mod Orders

@@ -5,7 +5,8 @@ use mathlib.Core.List.{List, [], _∷_}
 use Rattle.words.specs.Tables.{firstOf}
 use Rattle.rules.specs.declared.kind.Kind.{Kind}
 use Rattle.rules.specs.Serves.{Outcome, outcome}
-use Rattle.unlocking.specs.Unlocks.{Asking, lentTo, after, unlocks, Keeps, Commutes, Repeats, listAfter, Reordered, none, first, exchanged, then, AnyOrder}
+use Rattle.unlocking.specs.Unlocks.{Asking, lentTo, after, unlocks, Keeps, Commutes, Repeats, listAfter, Reordered, none, first, exchanged, then}
+use Rattle.unlocking.specs.Unlocks.{AnyOrder}
 use Rattle.unlocking.proofs.Taken.{tableOf, leftOf, unlock-is, left-same, left-commutes, left-again}
 
 module _ (kind : Kind) (image : List ℕ) where

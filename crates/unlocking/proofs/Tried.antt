@@ -11,7 +11,8 @@ use Rattle.rules.specs.declared.kind.Kind.the-variants.{Small}
 use Rattle.rules.specs.declared.kind.Rule.the-variants.{Mpm}
 use Rattle.rules.specs.Serves.{Outcome, outcome}
 use Rattle.session.specs.Open.{rules}
-use Rattle.session.specs.Session.{orders, fcbWith, dmaWith, imageWith, unwritten, writtenWith, listWith, openBy, lockBy, none, list1, list3, list11, list12, image5}
+use Rattle.session.specs.Session.{orders, fcbWith, dmaWith, imageWith, unwritten, writtenWith, listWith, openBy, lockBy, none, list1, list3, list11, list12}
+use Rattle.session.specs.Session.{image5}
 use Rattle.unlocking.specs.Unlocks.{Asking, lentTo, after, locks, unlocks, Commutes, Repeats, holdsAt, holdsSome, GivesBack}
 use Rattle.unlocking.specs.Wrong.{leaving, movedAt, movedDown, settling, unlessLockOf, swept, sweeping, strict, WrongUnlocks}
 

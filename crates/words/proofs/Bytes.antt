@@ -5,7 +5,8 @@ use mathlib.Core.List.{List, [], _∷_, _++_, append-assoc, append-nil}
 use mathlib.Core.Logic.{_⊎_, ⊎-elim}
 use native.Mathlib.Numerals.{add-one}
 use native.Mathlib.Omega.{arith}
-use lib.ListN.{length, getD, set, take, drop, replicate, length-append, length-take, length-drop, length-replicate, getD-replicate, List·getD-append, List·getD-eq-default, take-append-drop}
+use lib.ListN.{length, getD, set, take, drop, replicate, length-append, length-take, length-drop, length-replicate, getD-replicate, List·getD-append}
+use lib.ListN.{List·getD-eq-default, take-append-drop}
 use lib.Seq.{drop-length, getD-append-add, getD-take, getD-drop, length-take-le, take-length, take-at, drop-at, drop-drop, paste, paste-suc}
 use borrow.Rule.Slice.PartMut.{putMid}
 use Rattle.words.specs.Lists.{tab}

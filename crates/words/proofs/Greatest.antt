@@ -8,7 +8,8 @@ use native.Mathlib.Numerals.{add-one}
 use lib.Dec.{ltb, eqb}
 use borrow.Author.Tests.{ltb-true, ltb-false, lt-ltb, le-ltb, eq-eqb, ne-eqb, eqb-true}
 use Rattle.words.specs.Tests.{_and_, _or_, _if_else_, any, lowest, greatest, lowestOr}
-use Rattle.words.proofs.Tests.{either, never, equal?, and-fst, and-snd, any-none, any-skip, any-here, any-found, any-at, any-never, any-some, lowest-none, lowest-found, lowest-below, lowest-ext, any-ext}
+use Rattle.words.proofs.Tests.{either, never, equal?, and-fst, and-snd, any-none, any-skip, any-here, any-found, any-at, any-never, any-some}
+use Rattle.words.proofs.Tests.{lowest-none, lowest-found, lowest-below, lowest-ext, any-ext}
 
 -- ---- the lowest, or another number
 

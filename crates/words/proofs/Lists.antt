@@ -5,7 +5,7 @@ use mathlib.Core.List.{List, [], _∷_, _++_, map, append-nil, append-assoc}
 use native.Mathlib.Nat.{le-of-suc-le-suc, not-suc-le-zero, mul-suc}
 use native.Mathlib.Numerals.{add-one}
 use native.Mathlib.Omega.{arith}
-use lib.ListN.{length, getD, set, take, drop, length-append, length-map, List·getD-append, drop-of-length-le, take-append-drop}
+use lib.ListN.{length, getD, set, take, drop, replicate, length-append, length-map, List·getD-append, drop-of-length-le, take-append-drop}
 use lib.Seq.{getD-append-add, drop-append-add, drop-drop, take-at}
 use Rattle.words.specs.Lists.{tab, flat, turns}
 
@@ -55,6 +55,19 @@ module _ {A : Type 0} where
 
   pub filled-all : (f : ℕ → A) (n : ℕ) (l : List A) → length l ≡ n → filled f n l ≡ tab f n
   filled-all f n l e = subst (λ (k : ℕ). filled f k l ≡ tab f k) e (filled-length f l)
+
+  pub tab-same : (f : ℕ → A) (n : ℕ) (x : A) → ((k : ℕ) → k < n → f k ≡ x) → replicate n x ≡ tab f n
+  unfolding tab
+  tab-same f zero x h = refl
+  tab-same f (suc n) x h = λ i. sym (h 0 (omega arith)) i ∷ tab-same (λ (k : ℕ). f (suc k)) n x (λ k l. h (suc k) (omega arith)) i
+
+  -- the rest of it was so from the beginning
+  pub filled-up : (f : ℕ → A) (i n : ℕ) (x : A) → i ≤ n → ((k : ℕ) → i ≤ k → k < n → f k ≡ x) → filled f i (replicate n x) ≡ tab f n
+  unfolding tab
+  filled-up f zero n x m h = tab-same f n x (λ k l. h k (omega arith) l)
+  filled-up f (suc i) zero x m h = absurd (not-suc-le-zero m)
+  filled-up f (suc i) (suc n) x m h =
+      ap (λ (t : List A). f 0 ∷ t) (filled-up (λ (k : ℕ). f (suc k)) i n x (le-of-suc-le-suc m) (λ k l g. h (suc k) (omega arith) (omega arith)))
 
   -- a turn of a loop that fills: l is the list so far, and x what is stored
   pub filled-turn : (f : ℕ → A) (i : ℕ) (l₀ l : List A) (x : A) → i < length l₀ → l ≡ filled f i l₀ → x ≡ f i → set l i x ≡ filled f (i + 1) l₀

@@ -6,8 +6,8 @@ use mathlib.Core.Logic.{_⊎_, inl, inr, ⊎-elim}
 use native.Mathlib.Nat.{le-of-suc-le-suc, not-suc-le-zero, eq-or-lt-of-le}
 use native.Mathlib.Numerals.{add-one}
 use native.Mathlib.Omega.{arith}
-use lib.Dec.{eqb}
-use borrow.Author.Tests.{eqb-true, eqb-false}
+use lib.Dec.{ltb, eqb}
+use borrow.Author.Tests.{ltb-true, ltb-false, eqb-true, eqb-false}
 use Rattle.words.specs.Tests.{_and_, _or_, _if_else_, all, any, lowest}
 
 -- ---- cases
@@ -106,6 +106,11 @@ module _ (f : ℕ → Bool) where
   unfolding all _and_
   all-make zero h = refl
   all-make (suc n) h = rw (all-make n (λ i l. h i (omega arith)), h n (omega arith))
+
+  -- those below c were looked at, and the others are known
+  pub all-up : (c n : ℕ) → all f c ≡ true → ((i : ℕ) → c ≤ i → i < n → f i ≡ true) → all f n ≡ true
+  all-up c n h g = all-make n (λ i l.
+      ⊎-elim (λ (q : ltb i c ≡ true). all-at c i h (ltb-true i c q)) (λ (q : ltb i c ≡ false). g i (ltb-false i c q) l) (either (ltb i c)))
 
   pub any-none : any f 0 ≡ false
   unfolding any

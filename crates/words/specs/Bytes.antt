@@ -14,6 +14,10 @@ byte s i = getD s i 0
 unfoldable pub sameByte : List ℕ → List ℕ → ℕ → Bool
 sameByte a b k = eqb (byte a k) (byte b k)
 
+-- byte k is zero
+unfoldable pub isZero : List ℕ → ℕ → Bool
+isZero s k = eqb (byte s k) 0
+
 -- byte k of those from a place on; the same in its low seven bits
 abbrev pub byteFrom : List ℕ → ℕ → ℕ → ℕ
 byteFrom s at k = byte s (at + k)

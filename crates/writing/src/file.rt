@@ -1,8 +1,8 @@
 use directory::entry::is_of;
-use rules::bytes::put_bytes;
 use rules::file::File;
 use rules::kind::Kind;
 use rules::kind::entries;
+use words::byte::put_bytes;
 ghost use mathlib.Core.Path.{_≡_};
 ghost use mathlib.Core.Bool.{true};
 ghost use Prim.Native.Nat.{_+_, _*_, _/_, _<_, _≤_};

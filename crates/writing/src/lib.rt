@@ -1,5 +1,4 @@
 // Every change to an image and to its vector, each step of an effect a function of its own.
-pub mod bytes;
 pub mod file;
 pub mod record;
 pub mod spot;

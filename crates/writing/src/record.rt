@@ -1,13 +1,13 @@
-use crate::bytes::fill;
 use directory::name::eleven_from;
 use directory::place::block_at;
 use directory::place::map_place;
 use directory::place::record_at;
-use rules::bytes::put_bytes;
 use rules::file::File;
 use rules::kind::Kind;
 use rules::kind::block_size;
 use rules::spot::Spot;
+use words::byte::fill;
+use words::byte::put_bytes;
 ghost use mathlib.Core.Path.{_≡_};
 ghost use Prim.Native.Nat.{_+_, _*_, _/_, _%_, _<_, _≤_};
 ghost use mathlib.Core.List.{[], _∷_};

@@ -388,6 +388,35 @@ impl Meanwhile {
     ];
 }
 
+/// What was met where a crowd falls into one slot of the engine's (`hints.rs`).
+#[derive(Clone, Copy, Debug, PartialEq, Eq, PartialOrd, Ord)]
+pub enum Crowd {
+    /// Entries, and a call was done.
+    Entries,
+    /// Entries, one of which the image check has told for a block named before, for an extent named before, or for
+    /// the want of its file's extent 0.
+    BlockTwice,
+    ExtentTwice,
+    ExtentZero,
+    /// Locks, and a call was done.
+    Locks,
+    /// Locks or opens, and the list was refused for two of one record or file.
+    LockTwice,
+    OpenTwice,
+}
+
+impl Crowd {
+    const ALL: [Crowd; 7] = [
+        Crowd::Entries,
+        Crowd::BlockTwice,
+        Crowd::ExtentTwice,
+        Crowd::ExtentZero,
+        Crowd::Locks,
+        Crowd::LockTwice,
+        Crowd::OpenTwice,
+    ];
+}
+
 /// A "?" in a name, at this place of it, with its high bit or without.
 type Mark = (usize, bool);
 
@@ -512,6 +541,7 @@ pub struct Coverage {
     /// The marks of the names that they were found by.
     marks: BTreeMap<(Kind, u32, Mark), u64>,
     meanwhile: BTreeMap<(Kind, Meanwhile), u64>,
+    crowds: BTreeMap<(Told, Crowd), u64>,
 }
 
 fn add<K: Ord>(table: &mut BTreeMap<K, u64>, key: K) {
@@ -621,6 +651,11 @@ impl Coverage {
         add(&mut self.meanwhile, (kind, what));
     }
 
+    /// This was met where a crowd falls into one slot.
+    pub fn note_crowd(&mut self, kind: Kind, crowd: Crowd) {
+        add(&mut self.crowds, (Some(kind), crowd));
+    }
+
     pub fn calls(&self) -> u64 {
         self.calls.values().sum()
     }
@@ -657,6 +692,8 @@ impl Coverage {
         complaints.extend(compare_keys("end of a file", &self.ends, &ends));
         let bits = of_each(&[19, 34, 40], &[0, 1, 2, 3, 4, 5, 6, 7]);
         complaints.extend(compare_keys("bit of the vector", &self.bits, &bits));
+        let crowds = pairs(&Kind::ALL.map(Some), &Crowd::ALL);
+        complaints.extend(compare_keys("one slot", &self.crowds, &crowds));
         complaints
     }
 
@@ -705,6 +742,10 @@ impl Coverage {
             let _ = writeln!(lines, "check  {}", self.cells_of_checks(told));
             let look = |found: &bool| if *found { "found" } else { "empty" }.to_string();
             let _ = writeln!(lines, " look  {}", cells(told, &self.looks, look));
+            if told.is_some() {
+                let crowd = |crowd: &Crowd| format!("{crowd:?}");
+                let _ = writeln!(lines, "1slot  {}", cells(told, &self.crowds, crowd));
+            }
         }
         lines
     }

@@ -2,10 +2,11 @@
 //! wrong lengths and wild numbers in between.
 
 use crate::build::{empty_image_of, place_start, Entry, Fcb, LIST, POSITIONS, RULE};
-use crate::coverage::{Coverage, Half};
+use crate::coverage::{Coverage, Half, FUNCTIONS};
 use crate::damage::{break_directory, break_list, break_several, break_vector};
 use crate::deed::SEARCHES;
 use crate::faults::{self, check_answer, vector_length, ImageRule, Item, ListRule, VectorRule};
+use crate::hints::{names_in, SLOTS};
 use crate::history::blocks_of_groups;
 use crate::named::{self, Case};
 use crate::random::Random;
@@ -68,6 +69,24 @@ const WEIGHTS: [(u32, usize); 16] = [
     (143, 1),
 ];
 
+/// So many sessions in a hundred have a drive of one slot.
+const OF_ONE_SLOT: usize = 10;
+
+/// Records of a file whose locks fall into one slot: their numbers are the same but for multiples of 256.
+const RECORDS_OF_ONE_SLOT: [u32; 3] = [0, 256, 4_096];
+
+/// The rules that are broken more often there: what finds it looks in the slot, but for the block.
+const DIRECTORY_RULES_OF_SLOTS: [ImageRule; 3] = [
+    ImageRule::BlockTwice,
+    ImageRule::ExtentTwice,
+    ImageRule::ExtentZero,
+];
+const LIST_RULES_OF_SLOTS: [ListRule; 3] = [
+    ListRule::OneOpenPerFile,
+    ListRule::ModesBeside,
+    ListRule::LockTwice,
+];
+
 /// Numbers that tell no kind of drive.
 const UNKNOWN_KINDS: [u32; 7] = [2, 3, 255, 256, 257, 1 << 31, u32::MAX];
 
@@ -78,6 +97,15 @@ struct Cast {
     names: Vec<[u8; 11]>,
     /// Processes that share files from the beginning and get in each other's way.
     lively: bool,
+    /// The slot of the engine's (`hints.rs`) into which the names fall, where all do.
+    slot: Option<usize>,
+}
+
+impl Cast {
+    /// The user of the first process.
+    fn first_user(&self) -> u8 {
+        self.users[usize::from(self.processes[0])]
+    }
 }
 
 /// An open or a lock of the list as it stands.
@@ -158,11 +186,13 @@ impl Generator {
     /// One session on a drive of this kind.
     pub fn session_of(&mut self, kind: Kind) -> Vec<Made> {
         self.kind = kind;
-        let blocks = match kind {
-            Kind::First => self.blocks_of_first_kind(),
-            Kind::Second => self.blocks_of_second_kind(),
+        let slot = self.random.chance(OF_ONE_SLOT).then(|| self.random.below(SLOTS));
+        let blocks = match (kind, slot) {
+            (Kind::First, Some(_)) => self.random.between(12, 48),
+            (Kind::First, None) => self.blocks_of_first_kind(),
+            (Kind::Second, _) => self.blocks_of_second_kind(),
         };
-        self.session_on(blocks);
+        self.session_on(blocks, slot);
         self.stage.take_made()
     }
 
@@ -264,10 +294,13 @@ impl Generator {
         self.rule.record_limit() / 128 - 1
     }
 
-    fn session_on(&mut self, blocks: usize) {
+    fn session_on(&mut self, blocks: usize, slot: Option<usize>) {
         self.choose_rule();
         self.stage.begin();
-        let cast = self.cast();
+        let cast = match slot {
+            Some(slot) => self.cast_of_one_slot(slot),
+            None => self.cast(),
+        };
         let fill = self.random.pick(&[0xE5, 0, 0x5A]);
         let image = self.drive(&cast, blocks, fill);
         self.begin_session(&cast, &image, fill);
@@ -286,6 +319,9 @@ impl Generator {
         self.start(cast);
         if cast.lively {
             self.share_files(cast);
+        }
+        if cast.slot.is_some() {
+            self.lock_one_slot();
         }
     }
 
@@ -314,7 +350,25 @@ impl Generator {
         }
     }
 
+    /// Whoever has a file open locks some of its records that fall into one slot.
+    fn lock_one_slot(&mut self) {
+        for open in self.opens() {
+            for record in RECORDS_OF_ONE_SLOT {
+                if self.random.chance(60) {
+                    let fcb = Fcb::of(open.name).unlocked().record(record);
+                    self.call_with(open.process, 42, fcb, vec![open.place, 0]);
+                }
+            }
+        }
+    }
+
     fn plain_call(&mut self, process: u8, function: u32, fcb: Fcb) {
+        self.call_with(process, function, fcb, vec![process; DMA_LENGTH]);
+    }
+
+    /// The DMA is filled up with zeros.
+    fn call_with(&mut self, process: u8, function: u32, fcb: Fcb, mut dma: Vec<u8>) {
+        dma.resize(DMA_LENGTH, 0);
         let numbers = Numbers {
             kind: self.kind.number(),
             function,
@@ -324,7 +378,7 @@ impl Generator {
         self.stage.serve(Step::Call {
             numbers,
             fcb: fcb.0.to_vec(),
-            dma: vec![process; DMA_LENGTH],
+            dma,
         });
     }
 
@@ -349,11 +403,30 @@ impl Generator {
             processes,
             names,
             lively,
+            slot: None,
         }
+    }
+
+    fn cast_of_one_slot(&mut self, slot: usize) -> Cast {
+        let cast = self.cast();
+        let number = self.random.between(2, 4);
+        Cast {
+            names: self.names_in(slot, (cast.first_user(), 0), number),
+            lively: self.random.chance(85),
+            slot: Some(slot),
+            ..cast
+        }
+    }
+
+    /// Names that differ from the first byte on, or late.
+    fn names_in(&mut self, slot: usize, of: (u8, u32), number: usize) -> Vec<[u8; 11]> {
+        let stem: &[u8] = self.random.pick(&[b"", b"ORD", b"ORDERS"]);
+        names_in(slot, of, stem, number, &mut self.random)
     }
 
     fn start(&mut self, cast: &Cast) {
         let capacity = match cast.lively {
+            true if cast.slot.is_some() => self.random.pick(&[24, 40, 64]),
             true => self.random.pick(&[4, 5, 6, 8, 10, 16, 24, 40, 64]),
             false => self.random.pick(&[1, 2, 3, 4, 5, 6, 8, 16, 40, 64]),
         };
@@ -374,8 +447,10 @@ impl Generator {
         if self.random.chance(60) {
             self.spoil_unread_bytes(&mut image);
         }
-        if self.random.chance(70) {
-            self.add_files(cast, &mut image);
+        match cast.slot {
+            Some(slot) => self.add_files_of_one_slot(slot, cast, &mut image),
+            None if self.random.chance(70) => self.add_files(cast, &mut image),
+            None => {}
         }
         if self.random.chance(30) {
             self.add_small_files(cast, &mut image);
@@ -433,6 +508,34 @@ impl Generator {
                     image[32 * slot..32 * slot + 32].copy_from_slice(&entry.0);
                 }
             }
+        }
+    }
+
+    /// The cast's files, with records whose locks fall into one slot too; and others of which extent 0 or a later one
+    /// falls there.
+    fn add_files_of_one_slot(&mut self, slot: usize, cast: &Cast, image: &mut [u8]) {
+        let user = cast.first_user();
+        let mut free = self.free_blocks(image);
+        let mut entries: Vec<Entry> = Vec::new();
+        for name in &cast.names {
+            for record in RECORDS_OF_ONE_SLOT {
+                let block = free.pop().unwrap_or(0);
+                let entry = Entry::of(user, *name, record / 128).count(128);
+                entries.push(entry.block_of(self.kind, 0, block));
+            }
+        }
+        let others = self.random.below((self.kind.entries() - entries.len()) / 3);
+        for extent in [0, self.an_extent()] {
+            let mut names = self.names_in(slot, (user, extent), others);
+            names.retain(|name| !cast.names.contains(name));
+            for name in names {
+                let extents = BTreeSet::from([0, extent]);
+                entries.extend(extents.iter().map(|extent| Entry::of(user, name, *extent)));
+            }
+        }
+        self.random.shuffle(&mut entries);
+        for (place, entry) in self.empty_slots(image).into_iter().zip(entries) {
+            image[32 * place..32 * place + 32].copy_from_slice(&entry.0);
         }
     }
 
@@ -929,6 +1032,9 @@ impl Generator {
     }
 
     fn record(&mut self, user: u8, name: &[u8; 11], cast: &Cast) -> u32 {
+        if cast.slot.is_some() && self.random.chance(60) {
+            return self.random.pick(&RECORDS_OF_ONE_SLOT);
+        }
         if cast.lively && self.random.chance(50) {
             if let Some(record) = self.record_with_block(user, name) {
                 return record;
@@ -1161,8 +1267,13 @@ impl Generator {
         self.stage.serve(step);
     }
 
+    /// Of any function as often as of another, or as often as it is called.
     fn with_wild_number(&mut self, cast: &Cast) {
-        let mut step = self.a_call(cast);
+        let function = match self.random.chance(50) {
+            true => self.random.pick(&FUNCTIONS),
+            false => self.function(),
+        };
+        let mut step = self.a_call_of(function, cast);
         if let Step::Call { numbers, .. } = &mut step {
             match self.random.below(5) {
                 3 => return self.with_wrong_kind(step),
@@ -1212,7 +1323,10 @@ impl Generator {
     }
 
     fn with_damaged_directory(&mut self, cast: &Cast) {
-        let rule = self.random.pick(&ImageRule::ALL);
+        let rule = match cast.slot {
+            Some(_) if self.random.chance(60) => self.random.pick(&DIRECTORY_RULES_OF_SLOTS),
+            _ => self.random.pick(&ImageRule::ALL),
+        };
         let before = self.stage.image()[..self.kind.directory()].to_vec();
         let judged_as = (self.kind, self.rule);
         let Some(damaged) = break_directory(rule, judged_as, self.stage.image(), &mut self.random) else {
@@ -1268,7 +1382,10 @@ impl Generator {
     }
 
     fn with_damaged_list(&mut self, cast: &Cast) {
-        let rule = self.random.pick(&ListRule::ALL);
+        let rule = match cast.slot {
+            Some(_) if self.random.chance(60) => self.random.pick(&LIST_RULES_OF_SLOTS),
+            _ => self.random.pick(&ListRule::ALL),
+        };
         let before = self.stage.list().to_vec();
         let Some(damaged) = break_list(rule, self.kind, &before, self.stage.image(), &mut self.random) else {
             return;

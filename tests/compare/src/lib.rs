@@ -11,6 +11,7 @@ pub mod desk;
 pub mod engine;
 pub mod faults;
 pub mod generate;
+pub mod hints;
 pub mod history;
 #[cfg(feature = "linked")]
 pub mod linked;
@@ -19,6 +20,7 @@ pub mod named_entries;
 pub mod named_kinds;
 pub mod named_rules;
 pub mod named_searches;
+pub mod named_slots;
 pub mod named_vectors;
 pub mod parts;
 pub mod pipe;

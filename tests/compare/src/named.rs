@@ -10,7 +10,7 @@ use crate::generate::half_damaged;
 use crate::random::Random;
 use crate::stage::{changed_dma, changed_fcb, Stage};
 use crate::step::{Step, Told};
-use crate::{named_entries, named_kinds, named_rules, named_searches, named_vectors};
+use crate::{named_entries, named_kinds, named_rules, named_searches, named_slots, named_vectors};
 use reference::calls::{Numbers, DMA_LENGTH, MOST_RECORDS, RUN_FUNCTIONS};
 use reference::kind::Kind;
 use reference::rule::Rule;
@@ -81,7 +81,8 @@ pub fn cases() -> Vec<Case> {
             .chain(named_entries::CASES)
             .chain(named_searches::CASES)
             .chain(named_vectors::CASES)
-            .chain(named_rules::CASES);
+            .chain(named_rules::CASES)
+            .chain(named_slots::CASES);
         cases.map(move |(name, play)| (kind, name, play))
     });
     both.chain(named_kinds::CASES)

@@ -72,23 +72,23 @@ fn begin(script: &mut Script) {
     script.stage.damaged();
 }
 
-fn put(script: &mut Script, slot: usize, entry: Entry) {
+pub fn put(script: &mut Script, slot: usize, entry: Entry) {
     script.stage.serve(Step::PatchImage {
         at: 32 * slot,
         bytes: entry.0.to_vec(),
     });
 }
 
-fn empty(script: &mut Script, slot: usize) {
+pub fn empty(script: &mut Script, slot: usize) {
     put(script, slot, Entry([0xE5; 32]));
 }
 
-fn tells(script: &mut Script, reason: u32, slot: usize) {
+pub fn tells(script: &mut Script, reason: u32, slot: usize) {
     script.check(reason + 256 * slot as u32);
     script.call(0, 46, Fcb([0; 36])).gives(255, 1);
 }
 
-fn is_sound(script: &mut Script) {
+pub fn is_sound(script: &mut Script) {
     script.check(0);
     script.call(0, 46, Fcb([0; 36])).ok();
 }

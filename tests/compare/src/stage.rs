@@ -4,13 +4,15 @@
 
 use crate::build::{LIST, POSITIONS, RULE};
 use crate::comparison::describe_step;
-use crate::coverage::{orders, Coverage, End, Last, Meanwhile};
+use crate::coverage::{orders, Coverage, Crowd, End, Last, Meanwhile};
 use crate::deed::{Deed, SEARCHES};
 use crate::engine::Reference;
 use crate::faults::{
-    bit_is_set, block_of, check_answer, image_faults, is_legal_name, judged, last_record, list_faults,
-    position_behind, record_at, rule_beside, searched, size_of, vector_faults, vector_length,
+    bit_is_set, block_of, check_answer, extent_number, image_faults, is_legal_name, judged, last_record,
+    list_faults, position_behind, record_at, rule_beside, searched, size_of, vector_faults, vector_length,
+    Item, ListRule,
 };
+use crate::hints::{has_crowd_of_items, is_in_crowd, most_of_one_slot, CROWD_OF_ENTRIES};
 use crate::history::{groups_with_block, History, Kept, Noted};
 use crate::parts::SHORT_IMAGE;
 use crate::step::{set_image, set_list, set_vector, Change, Reply, Step, Told, BUFFERS};
@@ -281,6 +283,23 @@ impl Stage {
             for order in orders(&judged((kind, rule), self.table.image())) {
                 self.coverage.note_order(kind, order);
             }
+            self.note_crowd_told(kind, wanted);
+        }
+    }
+
+    /// Notes what the image check has told of an entry whose slot has a crowd: that of its extent, or that of the
+    /// extent 0 which its file lacks.
+    fn note_crowd_told(&mut self, kind: Kind, answer: u32) {
+        let (entry, image) = (answer as usize / 256, self.table.image());
+        let own = extent_number(&image[32 * entry..32 * entry + 32]) as u32;
+        let (crowd, extent) = match answer % 256 {
+            6 => (Crowd::BlockTwice, own),
+            7 => (Crowd::ExtentTwice, own),
+            8 => (Crowd::ExtentZero, 0),
+            _ => return,
+        };
+        if is_in_crowd(kind, image, entry, extent) {
+            self.coverage.note_crowd(kind, crowd);
         }
     }
 
@@ -470,6 +489,7 @@ impl Stage {
         let deed = Deed::of_call(numbers, reply.answer);
         if deed.is_accepted() {
             self.coverage.note_size(kind, blocks);
+            self.note_crowds(kind);
         }
         if (numbers.function, deed) == (35, Deed::Done) {
             self.watch_size(kind, numbers, fcb, reply);
@@ -477,6 +497,29 @@ impl Stage {
         self.watch_run(kind, numbers, fcb, reply);
         if kind == Kind::Second {
             self.watch_blocks(numbers, fcb, reply);
+        }
+    }
+
+    /// Notes that a call was done beside a crowd.
+    fn note_crowds(&mut self, kind: Kind) {
+        if most_of_one_slot(kind, self.table.image()) >= CROWD_OF_ENTRIES {
+            self.coverage.note_crowd(kind, Crowd::Entries);
+        }
+        if has_crowd_of_items(self.table.list(), Item::is_lock, false) {
+            self.coverage.note_crowd(kind, Crowd::Locks);
+        }
+    }
+
+    /// Notes that a list was refused for two items whose slot has a crowd.
+    fn note_crowded_twins(&mut self, kind: Kind, faults: &BTreeSet<ListRule>) {
+        let of_opens = [ListRule::OneOpenPerFile, ListRule::ModesBeside];
+        let list = self.table.list();
+        if faults.contains(&ListRule::LockTwice) && has_crowd_of_items(list, Item::is_lock, true) {
+            self.coverage.note_crowd(kind, Crowd::LockTwice);
+        }
+        if of_opens.iter().any(|rule| faults.contains(rule)) && has_crowd_of_items(list, Item::is_open, true)
+        {
+            self.coverage.note_crowd(kind, Crowd::OpenTwice);
         }
     }
 
@@ -557,11 +600,13 @@ impl Stage {
         if !image_is_sound {
             return;
         }
-        let list_is_sound = list_faults(kind, self.table.list(), self.table.image()).is_empty();
+        let faults = list_faults(kind, self.table.list(), self.table.image());
+        let list_is_sound = faults.is_empty();
         if list_is_sound == (answer == UNSOUND_LIST) {
             self.complain(format!("list sound: {list_is_sound}, answer {answer}"));
             return;
         }
+        self.note_crowded_twins(kind, &faults);
         let faults = vector_faults(kind, self.table.vector(), self.table.image());
         if list_is_sound && faults.is_empty() == (answer == WRONG_VECTOR) {
             self.complain(format!("the vector's faults: {faults:?}, answer {answer}"));

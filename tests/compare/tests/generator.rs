@@ -167,6 +167,8 @@ fn every_number_of_records_done_is_wanted() {
         "not reached: mark of a search (First, 18, (10, true))",
         "not reached: search gone on after (Second, Rename)",
         "not reached: list rule (Second, Position)",
+        "not reached: one slot (Some(First), ExtentTwice)",
+        "not reached: one slot (Some(Second), LockTwice)",
         "not reached: unknown kind, function 46, 255/13, unknown kind",
         "not reached: kind 1, function 143, 255/1, image of the other kind's length",
     ] {

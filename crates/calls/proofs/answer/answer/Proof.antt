@@ -30,13 +30,11 @@ answer-spec =
     (λ c. search needs)
     -- returns-2
     (λ c. search ends-bad)
-    -- unpack-requires
-    (λ c κs. search list-there)
     -- refusal-requires
     (λ c κs.
-    let e = c .before .before .before .before .before .before .before .bad-lengths .ensures in
-    let t = c .before .before .before .before .before .before .if1 .left in
-    (search is-call, search needs, fcb-there _ _ _ _ _ _ _ _ _ e t, list-there _ _ _ _ _ _ _ _ _ e t, vector-there _ _ _ _ _ _ _ _ _ e t))
+    let e = c .before .before .before .before .before .bad-lengths .ensures in
+    let t = c .before .before .before .before .if1 .left in
+    (search is-call, fcb-there _ _ _ _ _ _ _ _ _ e t, list-there _ _ _ _ _ _ _ _ _ e t, vector-there _ _ _ _ _ _ _ _ _ e t))
     -- same-length-5
     (λ c. search needs)
     -- same-length-6
@@ -49,19 +47,25 @@ answer-spec =
     (λ c. search needs)
     -- returns-3
     (λ c. search ends-refused)
+    -- unpack-requires
+    (λ c κs.
+    let long = c .before .before .before .before .before .before .before in
+    list-there _ _ _ _ _ _ _ _ _ (long .before .bad-lengths .ensures) (long .if1 .left))
     -- cast-serve-by
-    (λ c. omega (
-      arith,
-      few-processes _ _ _ _ _ _ _ _ _ (c .before .before .before .before .before .before .before .before .before .bad-lengths .ensures)
-          (c .before .before .before .before .before .before .before .before .if1 .left),
-    ))
+    (λ c.
+    let long = c .before .before .before .before .before .before .before .before in
+    omega (arith, few-processes _ _ _ _ _ _ _ _ _ (long .before .bad-lengths .ensures) (long .if1 .left)))
     -- serve-by-requires
     (λ c κs.
-    let e = c .before .before .before .before .before .before .before .before .before .before .before .before .before .before .bad-lengths .ensures in
-    let t = c .before .before .before .before .before .before .before .before .before .before .before .before .before .if1 .left in
-    let h = c .before .before .before .before .before .before .refusal .ensures in
-    let y = c .before .before .before .before .before .if2 .left in (
-      search is-call,
+    let passed = c .before .before .before .before .before .before .before in
+    let long = passed .before .before .before .before .before .before in
+    let known = long .before .before .before .before .before .before in
+    let e = long .before .bad-lengths .ensures in
+    let t = long .if1 .left in
+    let h = passed .before .refusal .ensures in
+    let y = passed .if2 .left in (
+      is-call _ _ _ (known .before .before .before .routine-of .ensures)
+          (search (known .before .before .match, known .known-told .given, known .before .chosen .given)),
       few-processes _ _ _ _ _ _ _ _ _ e t,
       search needs,
       some-count _ _ _ _ _ _ _ e t _ h y,
@@ -82,21 +86,12 @@ answer-spec =
     (λ c. search needs)
     -- returns-4
     (λ c.
-    let e = c .before .before .before .before .before .before .before .before .before .before .before .before .before .before .before .before .before
-    .before .before .before .before .before .before .before .before .bad-lengths .ensures in
-    let t = c .before .before .before .before .before .before .before .before .before .before .before .before .before .before .before .before .before
-    .before .before .before .before .before .before .before .if1 .left in
-    let h = c .before .before .before .before .before .before .before .before .before .before .before .before .before .before .before .before .before
-    .refusal .ensures in
-    let y = c .before .before .before .before .before .before .before .before .before .before .before .before .before .before .before .before .if2 .left in
-    let q = c .before .before .before .before .before .before .before .before .before .before .before .before .before .before .before .before .before
-    .before .before .before .before .before .before .before .before .before .before .before .before .before .before .before .before .routine-of
-    .ensures in
-    let m = c .before .before .before .before .before .before .before .before .before .before .before .before .before .before .before .before .before
-    .before .before .before .before .before .before .before .before .before .before .before .before .before .before .before .match in
-    let k = c .before .before .before .before .before .before .before .before .before .before .before .before .before .before .before .before .before
-    .before .before .before .before .before .before .before .before .before .before .before .before .before .known-told .given in
-    let g = c .before .before .before .before .before .before .before .before .before .before .before .before .before .before .before .before .before
-    .before .before .before .before .before .before .before .before .before .before .before .before .before .before .chosen .given in
-    ends-served _ _ _ _ _ _ _ _ e t _ h y _ _ _ _ (is-call _ _ _ q (search (m, k, g))) (c .before .before .before .before .before .before .before .before
-    .before .before .serve-by .ensures)))
+    let did = c .before .before .before .before .before .before .before .before .before .before in
+    let passed = did .before .before .before .before .before .before .before .before in
+    let long = passed .before .before .before .before .before .before in
+    let known = long .before .before .before .before .before .before in
+    let h = passed .before .refusal .ensures in
+    let y = passed .if2 .left in
+    let chosen = is-call _ _ _ (known .before .before .before .routine-of .ensures)
+    (search (known .before .before .match, known .known-told .given, known .before .chosen .given)) in
+    ends-served _ _ _ _ _ _ _ _ (long .before .bad-lengths .ensures) (long .if1 .left) _ h y _ _ _ _ chosen (did .serve-by .ensures)))

@@ -21,9 +21,7 @@ general-refusal-spec =
     (λ c κs. search is-call)
     -- returns-2
     (λ c. search code-long)
-    -- unpack-requires
-    (λ c κs. search list-there)
     -- refusal-requires
-    (λ c κs. (search is-call, search needs, search fcb-there, search list-there, search vector-there))
+    (λ c κs. (search is-call, search fcb-there, search list-there, search vector-there))
     -- returns-3
     (λ c. search table-five))

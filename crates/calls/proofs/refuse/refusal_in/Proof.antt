@@ -22,7 +22,7 @@ refusal-in-spec =
     (λ c κs.
     let w = c .before .before .before .before .sound-vector .ensures in
     let t = c .before .if1 .left in
-    (search needs, search needs, vectored-sound _ _ _ _ _ w t, vectored-knows _ _ _ _ _ w t))
+    (search needs, vectored-sound _ _ _ _ _ w t, vectored-knows _ _ _ _ _ w t))
     -- same-length-2
     (λ c. search needs)
     -- returns-2
@@ -31,7 +31,7 @@ refusal-in-spec =
     (λ c κs.
     let o = c .before .before .before .before .before .before .before in
     let a = o .before .before .before .before .before .before .before .before in
-    vectored-long _ _ _ _ _ (o .sound-vector .ensures) (c .before .before .before .before .if1 .left) (a .args .vector .now) (a .pre .4))
+    vectored-long _ _ _ _ _ (o .sound-vector .ensures) (c .before .before .before .before .if1 .left) (a .args .vector .now) (a .pre .3))
     -- same-length-3
     (λ c. search needs)
     -- returns-3
@@ -40,7 +40,7 @@ refusal-in-spec =
     let x = y .before .before .before in
     let o = x .before .before .before .before .before in
     within-vector _ _ _ _ _ _ _ _ _ (o .sound-vector .ensures) (x .before .before .if1 .left) _ (x .sound-list .ensures) (y .before .before .if2 .left)
-    (o .before .before .before .before .before .before .before .before .pre .4) _ (y .same .ensures) (c .if3 .taken))
+    (o .before .before .before .before .before .before .before .before .pre .3) _ (y .same .ensures) (c .if3 .taken))
     -- bad-drive-requires
     (λ c κs. search needs)
     -- same-length-4
@@ -51,7 +51,7 @@ refusal-in-spec =
     let x = y .before .before .before in
     let o = x .before .before .before .before .before in
     within-drive _ _ _ _ _ _ _ _ _ (o .sound-vector .ensures) (x .before .before .if1 .left) _ (x .sound-list .ensures) (y .before .before .if2 .left)
-    (o .before .before .before .before .before .before .before .before .pre .4) _ (y .same .ensures) (c .before .before .if3 .left) _
+    (o .before .before .before .before .before .before .before .before .pre .3) _ (y .same .ensures) (c .before .before .if3 .left) _
     (c .before .bad-drive .ensures) (c .if4 .taken))
     -- same-length-5
     (λ c. search needs)
@@ -61,5 +61,5 @@ refusal-in-spec =
     let x = y .before .before .before in
     let o = x .before .before .before .before .before in
     within-none _ _ _ _ _ _ _ _ _ (o .sound-vector .ensures) (x .before .before .if1 .left) _ (x .sound-list .ensures) (y .before .before .if2 .left)
-    (o .before .before .before .before .before .before .before .before .pre .4) _ (y .same .ensures) (c .before .before .if3 .left) _
+    (o .before .before .before .before .before .before .before .before .pre .3) _ (y .same .ensures) (c .before .before .if3 .left) _
     (c .before .bad-drive .ensures) (c .if4 .left)))

@@ -3,70 +3,66 @@ use Prim.Native.Nat.{_+_, _-_, _≤_, _<_}
 use borrow.Author.Needs.{needs}
 use mathlib.Core.Path.{_≡_}
 use mathlib.Core.Bool.{true, false}
+use lib.ListN.{length}
 use Rattle.words.specs.Tests.{all, any}
 use Rattle.words.specs.Hints.{Hints}
-use Rattle.words.proofs.Sets.{any-goes, is-no}
-use Rattle.rules.specs.Locks.{clashAt, isApart}
+use Rattle.rules.specs.Locks.{itemAt, unpack, clashAt, isApart}
 use Rattle.listcheck.specs.Check.{itemSlotAt, isItem}
 use Rattle.listcheck.proofs.Clashes.{knowing}
-use Rattle.listcheck.proofs.Checks.{aparts}
+use Rattle.listcheck.proofs.Checks.{aparts, kinds-go, files-go}
 use Rattle.listcheck.proofs.apart.all_apart.Statement.{statement}
 use Rattle.listcheck.proofs.apart.all_apart.Tie as tie
 
 abbrev Inv-loop2 : tie.InvT-loop2
-Inv-loop2 l users hints i it h j₀ j =
-    (i < 64) × (all (isApart l) i ≡ true) × (j ≤ i) × (any (clashAt l i) j ≡ false) × Hints (itemSlotAt l) (isItem l) (i + 1) hints
+Inv-loop2 list end users hints i it h j₀ j =
+    (i < end) × (end ≤ 64) × (it ≡ itemAt (unpack list) i) × (all (isApart (unpack list)) i ≡ true) × (j ≤ i) × (any (clashAt (unpack list) i) j ≡ false)
+    × Hints (itemSlotAt (unpack list)) (isItem (unpack list)) (i + 1) hints
 
 abbrev μ-loop2 : tie.MeasureT-loop2
-μ-loop2 l users hints i it h j₀ j = i - j
+μ-loop2 list end users hints i it h j₀ j = i - j
 
 abbrev Inv-loop : tie.InvT-loop
-Inv-loop l users hints₀ i₀ hints i = (i ≤ 64) × (all (isApart l) i ≡ true) × Hints (itemSlotAt l) (isItem l) i hints
+Inv-loop list end users hints₀ i₀ hints i =
+    (i ≤ end) × (end ≤ 64) × (all (isApart (unpack list)) i ≡ true) × Hints (itemSlotAt (unpack list)) (isItem (unpack list)) i hints
 
 abbrev μ-loop : tie.MeasureT-loop
-μ-loop l users hints₀ i₀ hints i = 64 - i
+μ-loop list end users hints₀ i₀ hints i = end - i
 
 pub all-apart-spec : {M : Type 1} → statement M
-unfolding clashAt
 all-apart-spec =
     tie.close
     (tie.spec Inv-loop2 μ-loop2 Inv-loop μ-loop
+    -- sixteen-from-requires
+    (λ c κs. search aparts)
     -- loop-holds
-    (λ c. (search aparts, search aparts, search knowing))
-    -- mul-it
-    (λ c. search aparts)
-    -- element-copy-out-it
-    (λ c. search aparts)
+    (λ c. (search aparts, search aparts, search aparts, search knowing))
+    -- item-at-requires
+    (λ c κs. search aparts)
     -- add-i
     (λ c. search aparts)
     -- loop-less
     (λ c. search aparts)
     -- loop-again
-    (λ c. (search aparts, search aparts, search knowing))
+    (λ c. (search aparts, search aparts, search aparts, search knowing))
     -- item-slot-requires
-    (λ c κs. search needs)
+    (λ c κs. search aparts)
     -- hint-requires
-    (λ c κs. search needs)
+    (λ c κs. search aparts)
     -- cast-note
-    (λ c. search needs)
+    (λ c. search aparts)
     -- note-requires
-    (λ c κs. search needs)
+    (λ c κs. search aparts)
     -- loop2-holds
-    (λ c. (search aparts, search aparts, search needs, search knowing, search knowing))
-    -- mul-if2
-    (λ c. search aparts)
-    -- element-copy-out-if2
-    (λ c. search aparts)
+    (λ c. (search aparts, search aparts, search aparts, search aparts, search needs, search knowing, search knowing))
+    -- item-at-requires-2
+    (λ c κs. search aparts)
     -- add-j
     (λ c. search aparts)
     -- loop2-less
     (λ c. search aparts)
     -- loop2-again
-    (λ c. (search aparts, search aparts, search aparts, search aparts, search needs))
-    -- mul-other
-    (λ c. search aparts)
-    -- element-copy-out-other
-    (λ c. search aparts)
+    (λ c. let i = c .before .before .before .before .before .loop2 .inv in
+    (i .0, i .1, i .2, i .3, search aparts, kinds-go _ _ _ _ _ (i .2) (c .before .before .before .item-at2 .ensures) (i .5) (c .if2 .taken), i .6))
     -- file-clash-requires
     (λ c κs. search aparts)
     -- returns
@@ -76,13 +72,23 @@ all-apart-spec =
     -- loop2-less-2
     (λ c. search aparts)
     -- loop2-again-2
-    (λ c. let i = c .before .before .before .before .before .before .loop2 .inv in
-    (i .0, i .1, search aparts, any-goes _ _ (i .3) (is-no _ _ (c .before .file-clash .ensures) (c .if3 .left)), i .4))
+    (λ c.
+    let turn = c .before .before .before .before .before .before .before in
+    let i = turn .loop2 .inv in
+    let users = turn .before .before .before .before .before .before .before .before .before .before .before .sixteen-from .ensures in (
+      i .0,
+      i .1,
+      i .2,
+      i .3,
+      search aparts,
+      files-go _ _ _ _ _ (i .2) (c .before .before .before .before .before .item-at2 .ensures) _ _ users (c .before .file-clash .ensures) (i .5) (c .if3 .left),
+      i .6,
+    ))
     -- add-i-2
     (λ c. search aparts)
     -- loop-less-2
     (λ c. search aparts)
     -- loop-again-2
-    (λ c. (search aparts, search aparts, search knowing))
+    (λ c. (search aparts, search aparts, search aparts, search knowing))
     -- returns-2
     (λ c. search aparts))

@@ -9,10 +9,10 @@ use Rattle.listcheck.proofs.check.all_zero.Statement.{statement}
 use Rattle.listcheck.proofs.check.all_zero.Tie as tie
 
 abbrev Inv-loop : tie.InvT-loop
-Inv-loop list i₀ i = (i ≤ 64) × (all (zeroAt list) i ≡ true)
+Inv-loop list end i₀ i = (i ≤ end) × (end ≤ 64) × (all (zeroAt list) i ≡ true)
 
 abbrev μ-loop : tie.MeasureT-loop
-μ-loop list i₀ i = 64 - i
+μ-loop list end i₀ i = end - i
 
 pub all-zero-spec : {M : Type 1} → statement M
 all-zero-spec =

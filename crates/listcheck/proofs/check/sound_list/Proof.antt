@@ -9,6 +9,8 @@ pub sound-list-spec : {M : Type 1} → statement M
 sound-list-spec =
     tie.close
     (tie.spec
+    -- used-places-requires
+    (λ c κs. search needs)
     -- all-zero-requires
     (λ c κs. search needs)
     -- returns

@@ -3,8 +3,8 @@ use Prim.Native.Nat.{_-_, _≤_}
 use mathlib.Core.Path.{_≡_}
 use mathlib.Core.Bool.{true}
 use Rattle.words.specs.Tests.{all}
+use Rattle.words.specs.Bytes.{isZero}
 use Rattle.words.proofs.Sets.{alls}
-use Rattle.rules.specs.Locks.{isZero}
 use Rattle.listcheck.proofs.place.zero_name.Statement.{statement}
 use Rattle.listcheck.proofs.place.zero_name.Tie as tie
 

@@ -1,8 +1,9 @@
 -- `locking::lock::lock_refusal` meets its contract.
 use borrow.Author.Needs.{needs}
-use Rattle.words.proofs.Sets.{codes}
+use Rattle.words.proofs.Sets.{codes, part-first}
 use Rattle.rules.specs.Codes.{rowsRun, rows42}
 use Rattle.rules.specs.Locks.{isOpened}
+use Rattle.locking.proofs.Locking.{none-lacking}
 use Rattle.locking.proofs.lock.lock_refusal.Statement.{statement}
 use Rattle.locking.proofs.lock.lock_refusal.Tie as tie
 
@@ -31,7 +32,11 @@ lock-refusal-spec =
     (λ c κs. search needs)
     -- returns-4
     (λ c. search codes depth 8 fits 20000)
-    -- run-refusal-requires
+    -- lacking-requires
     (λ c κs. search needs)
     -- returns-5
-    (λ c. search codes depth 8 fits 20000))
+    (λ c. search (codes, part-first) depth 8 fits 20000)
+    -- not-to-take-requires
+    (λ c κs. search needs)
+    -- returns-6
+    (λ c. search (codes, none-lacking) depth 8 fits 20000))

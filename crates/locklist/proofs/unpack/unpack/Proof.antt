@@ -1,14 +1,14 @@
 -- `locklist::unpack::unpack` meets its contract.
 use Prim.Native.Nat.{_-_, _≤_}
-use Rattle.locklist.proofs.Packs.{Placed, placing}
+use Rattle.locklist.proofs.Packs.{Placed, placing, placed-more}
 use Rattle.locklist.proofs.unpack.unpack.Statement.{statement}
 use Rattle.locklist.proofs.unpack.unpack.Tie as tie
 
 abbrev Inv-loop : tie.InvT-loop
-Inv-loop list l₀ i₀ l i = (i ≤ 64) × Placed list l₀ l i
+Inv-loop list l₀ end i₀ l i = (i ≤ end) × (end ≤ 64) × Placed list l₀ l i
 
 abbrev μ-loop : tie.MeasureT-loop
-μ-loop list l₀ i₀ l i = 64 - i
+μ-loop list l₀ end i₀ l i = end - i
 
 pub unpack-spec : {M : Type 1} → statement M
 unpack-spec =
@@ -24,25 +24,15 @@ unpack-spec =
     (λ c. search placing)
     -- shared-slice-read-t12
     (λ c. search placing)
-    -- shared-slice-read-rule
+    -- shared-slice-read-t17
     (λ c. search placing)
+    -- used-places-requires
+    (λ c κs. search placing)
     -- loop-holds
     (λ c. search placing)
-    -- mul-at
-    (λ c. search placing)
-    -- add-at
-    (λ c. search placing)
-    -- add-end
-    (λ c. search placing)
-    -- sub-item-from
-    (λ c. search placing)
-    -- part-item-from-start
-    (λ c. search placing)
-    -- part-item-from-end
-    (λ c. search placing)
-    -- item-from-requires
+    -- item-at-requires
     (λ c κs. search placing)
-    -- mul-t22
+    -- mul-t20
     (λ c. search placing)
     -- element-set-from-l
     (λ c. search placing)
@@ -51,6 +41,6 @@ unpack-spec =
     -- loop-less
     (λ c. search placing)
     -- loop-again
-    (λ c. search placing)
+    (λ c. (search placing, search placing, placed-more _ _ _ _ (c .before .before .loop .inv .2) _ (search placing) (c .item-at .ensures)))
     -- returns
     (λ c. search placing))

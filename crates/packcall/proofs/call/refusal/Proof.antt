@@ -20,15 +20,15 @@ refusal-spec =
     (λ c κs. search (needs, known-none))
     -- returns-2
     (λ c. search (codes, walked-answer) depth 8 fits 20000)
-    -- unpack-requires
-    (λ c κs. search (needs, list-long))
     -- sound-list-requires
     (λ c κs.
-    let w = c .before .before .before .sound-index .ensures in
-    let t = c .before .before .if2 .left in
-    (search needs, search (needs, list-long), image-there _ _ _ _ w t, walked-knows _ _ _ _ _ w t))
+    let w = c .before .before .sound-index .ensures in
+    let t = c .before .if2 .left in
+    (search (needs, list-long), image-there _ _ _ _ w t, walked-knows _ _ _ _ _ w t))
     -- returns-3
     (λ c. search (codes, walked-answer) depth 8 fits 20000)
+    -- unpack-requires
+    (λ c κs. search (needs, list-long))
     -- holds-open-requires
     (λ c κs. search needs)
     -- returns-4
@@ -38,8 +38,8 @@ refusal-spec =
     code-open (a .kind) (a .image .now) (a .list .now) (a .out .now)
     (is-no _ _ (looked .before .before .before .bad-lengths .ensures) (looked .before .before .if1 .left))
     (image-there _ _ _ _ (looked .sound-index .ensures) (c .before .before .before .before .before .before .if2 .left))
-    (not-yes _ _ (c .before .before .before .sound-list .ensures) (c .before .before .if3 .left))
-    (open-yes _ _ _ (c .before .holds-open .ensures) (c .before .before .before .before .before .unpack .ensures) (c .if4 .taken)))
+    (not-yes _ _ (c .before .before .before .before .sound-list .ensures) (c .before .before .before .if3 .left))
+    (open-yes _ _ _ (c .before .holds-open .ensures) (c .before .before .unpack .ensures) (c .if4 .taken)))
     -- returns-5
     (λ c.
     let looked = c .before .before .before .before .before .before .before in
@@ -47,5 +47,5 @@ refusal-spec =
     code-none (a .kind) (a .image .now) (a .list .now) (a .out .now)
     (is-no _ _ (looked .before .before .before .bad-lengths .ensures) (looked .before .before .if1 .left))
     (image-there _ _ _ _ (looked .sound-index .ensures) (c .before .before .before .before .before .before .if2 .left))
-    (not-yes _ _ (c .before .before .before .sound-list .ensures) (c .before .before .if3 .left))
-    (open-no _ _ _ (c .before .holds-open .ensures) (c .before .before .before .before .before .unpack .ensures) (c .if4 .left))))
+    (not-yes _ _ (c .before .before .before .before .sound-list .ensures) (c .before .before .before .if3 .left))
+    (open-no _ _ _ (c .before .holds-open .ensures) (c .before .before .unpack .ensures) (c .if4 .left))))

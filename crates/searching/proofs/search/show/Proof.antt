@@ -5,7 +5,7 @@ use Rattle.searching.proofs.search.show.Statement.{statement}
 use Rattle.searching.proofs.search.show.Tie as tie
 use Rattle.searching.proofs.search.show.Reads as reads
 use Rattle.searching.proofs.search.show.Lts as lts
-use Rattle.rules.proofs.bytes.put_bytes.Reads as put-bytes-reads
+use Rattle.words.proofs.byte.put_bytes.Reads as put-bytes-reads
 use Rattle.rules.proofs.kind.entries.Reads as entries-reads
 
 pub show-spec : {M : Type 1} → statement M
