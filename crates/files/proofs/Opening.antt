@@ -1,12 +1,10 @@
 -- 15 and 16: the outcome at each end of their routines. Assumes nothing.
-use Prim.Native.Nat.{ℕ, _+_, _-_, _*_, _≤_, _<_}
+use Prim.Native.Nat.{ℕ, _≤_, _<_}
 use mathlib.Core.Path.{_≡_, refl, ap, _∙_}
-use mathlib.Core.List.{List, [], _∷_}
+use mathlib.Core.List.{List, []}
 use native.Mathlib.Omega.{arith}
-use lib.ListN.{take, drop}
 use borrow.Author.Tests.{le-ltb, lt-ltb}
 use Rattle.words.specs.Tests.{_if_else_}
-use Rattle.words.specs.Bytes.{put, part}
 use Rattle.words.specs.Tables.{firstOf}
 use Rattle.words.proofs.Tests.{lowest-within}
 use Rattle.words.proofs.Sets.{row-yes, row-no, row-none, not-of-false, not-of-true}
@@ -22,7 +20,7 @@ use Rattle.rules.specs.Call.{askedBy, rowsOf, effectOf, served}
 use Rattle.rules.proofs.Ends.{did-as, did-refuse, did-pass, served-as, did-left}
 use Rattle.rules.specs.declared.routine.Routine.the-variants.{Open, Close}
 use Rattle.rules.specs.Codes.{rows15, rows16}
-use Rattle.rules.specs.Effects.{fcbMapped, fcbOpened, opened, closed, does15, does16}
+use Rattle.rules.specs.Effects.{fcbOpened, opened, closed, does15, does16}
 use Rattle.files.specs.By.{by15}
 use Rattle.rules.specs.declared.kind.Kind.{Kind}
 

@@ -5,10 +5,10 @@ use mathlib.Core.Bool.{Bool, true, false, not, true≢false}
 use mathlib.Core.List.{List}
 use mathlib.Core.Logic.{⊎-elim}
 use native.Mathlib.Omega.{arith}
-use lib.ListN.{length, getD}
+use lib.ListN.{getD}
 use lib.Dec.{leb, ltb, eqb}
 use borrow.Author.Needs.{needs}
-use borrow.Author.Tests.{lt-ltb, le-ltb, le-leb, lt-leb, ltb-true, ltb-false, leb-true, leb-false, eq-eqb, ne-eqb, eqb-true}
+use borrow.Author.Tests.{lt-ltb, le-ltb, lt-leb, leb-true, leb-false, eq-eqb, ne-eqb, eqb-true}
 use Rattle.words.specs.Tests.{_and_, _if_else_, all, any, lowest}
 use Rattle.words.specs.Lists.{tab}
 use Rattle.words.specs.Bytes.{byte, byteFrom, isZero, part}
@@ -21,7 +21,7 @@ use Rattle.rules.specs.declared.item.Item.{Item}
 use Rattle.rules.specs.declared.list.LockList.{LockList}
 use Rattle.rules.specs.Kinds.{entries}
 use Rattle.rules.specs.Drive.{entryOf, lookUp, missing, blockOf}
-use Rattle.rules.specs.Locks.{unpack, placeAt, emptyPlace, itemAt, isLow, sameFile, opensName, opensNameAt, openOf, isOpened, opensUnlocked, clash, clashAt}
+use Rattle.rules.specs.Locks.{unpack, placeAt, emptyPlace, itemAt, sameFile, opensName, opensNameAt, openOf, isOpened, opensUnlocked, clash, clashAt}
 use Rattle.rules.specs.Locks.{isApart, goodEmpty, goodOpen, goodLock, goodItem, goodPlace, keepsLimits, isUser, isPosition, zeroAt, soundLocks, soundList}
 use Rattle.listcheck.specs.Check.{fileBy, openAlone, lockAlone, itemAlone, placeAlone, placeAloneAt, lockOpened, lockOpenedAt, goodHead, goodTail}
 use Rattle.rules.specs.declared.kind.Kind.{Kind}

@@ -6,12 +6,12 @@ use mathlib.Core.List.{List}
 use mathlib.Core.Logic.{⊎-elim}
 use native.Mathlib.Omega.{arith}
 use lib.ListN.{length, take, drop, replicate}
-use lib.Dec.{ltb, eqb}
+use lib.Dec.{ltb}
 use borrow.Author.Needs.{needs}
 use borrow.Author.Tests.{ltb-true, ltb-false, eq-eqb, eqb-true}
 use Rattle.words.specs.Tests.{_and_, _if_else_, all}
 use Rattle.words.specs.Lists.{tab}
-use Rattle.words.specs.Bytes.{byte, byteFrom, isZero, part, word}
+use Rattle.words.specs.Bytes.{byte, byteFrom, isZero, part}
 use Rattle.words.proofs.Tests.{either, all-at}
 use Rattle.words.proofs.Sets.{not-yes}
 use Rattle.words.proofs.Lists.{tab-at, tab-same}

@@ -9,7 +9,7 @@ use Rattle.rules.specs.Serves.{Buffers, Outcome, outcome}
 use Rattle.rules.specs.Drive.{imageCheck, imageTold}
 use Rattle.rules.specs.Locks.{Started, start}
 use Rattle.rules.specs.Look.{lookAt}
-use Rattle.rules.specs.Several.{callRun, callSingly}
+use Rattle.rules.specs.Several.{callRun}
 use Rattle.rules.specs.Vector.{Five, Built, five, built, callFive, singlyFive, build}
 
 -- Refusals: 255/13 also for an unknown kind, before everything; ..

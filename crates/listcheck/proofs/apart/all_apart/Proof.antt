@@ -3,7 +3,6 @@ use Prim.Native.Nat.{_+_, _-_, _≤_, _<_}
 use borrow.Author.Needs.{needs}
 use mathlib.Core.Path.{_≡_}
 use mathlib.Core.Bool.{true, false}
-use lib.ListN.{length}
 use Rattle.words.specs.Tests.{all, any}
 use Rattle.words.specs.Hints.{Hints}
 use Rattle.rules.specs.Locks.{itemAt, unpack, clashAt, isApart}
