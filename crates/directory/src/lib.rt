@@ -1,4 +1,5 @@
 // The directory: names, entries, finding, and where blocks and records lie. Nothing here changes it.
+#![tactic(auto)]
 pub mod entry;
 pub mod find;
 pub mod name;

@@ -1,3 +1,4 @@
 // Two images compared: whether they hold the same book.
+#![tactic(auto)]
 mod held;
 pub mod same;

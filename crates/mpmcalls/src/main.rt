@@ -1,4 +1,5 @@
 // Runs the records of standard input against DISK.IMG, prints a line for each call, and writes DISK.OUT.
+#![tactic(auto)]
 ghost use Rattle.std.specs.Prelude.{◌≤◌, length};
 ghost use Rattle.io.specs.Counts.{IsPrefixLen};
 

@@ -62,7 +62,7 @@ fn no_room(kind: Kind, w: Spot, image: &[u8], e: usize, r: usize) -> u32
 }
 
 // What the write of one record answered: the code of its refusal or 0, and the entry where its extent stands.
-#[derive(Drop)]
+#[derive(Clone, Copy)]
 pub struct Wrote {
     pub code: u32,
     pub entry: usize,

@@ -2,7 +2,7 @@ ghost use Rattle.std.specs.Prelude.{◌≡◌, ◌<◌};
 ghost use Rattle.rules.specs.Drive.{is_sound, image_number, image_entry, image_told};
 
 // What the image check finds; where an entry is bad, which.
-#[derive(Drop)]
+#[derive(Clone, Copy)]
 pub enum ImageAnswer {
     Sound,
     WrongLength,

@@ -8,7 +8,7 @@ use crate::file::File;
 use crate::tests::{same_name, user_in};
 
 // A place of the lock list. Kind: 0 empty, 1 open, 2 record lock, 3 a mark that is none of these.
-#[derive(Drop)]
+#[derive(Clone, Copy)]
 pub struct Item {
     pub kind: u8,
     pub process: u8,

@@ -2,21 +2,21 @@ ghost use Rattle.std.specs.Prelude.{◌≡◌, ◌≤◌, ltb};
 ghost use Rattle.rules.specs.Kinds.{told_rule, told_kind, rule_of, block_size, block_records, fewest, most, vector_size, entries, numbers, highest, top, last_module};
 
 // The rule that a book's programs are written to: MP/M II's, or CP/M 2.2's.
-#[derive(Drop)]
+#[derive(Clone, Copy)]
 pub enum Rule {
     Mpm,
     Cpm,
 }
 
 // The kind of a drive: blocks of 1,024 bytes and one-byte block numbers, or of 2,048 bytes and two-byte numbers; and the rule of its book.
-#[derive(Drop)]
+#[derive(Clone, Copy)]
 pub enum Kind {
     Small(Rule),
     Large(Rule),
 }
 
 // What a number tells of the kind.
-#[derive(Drop)]
+#[derive(Clone, Copy)]
 pub enum Told {
     Known(Kind),
     Other,

@@ -1,4 +1,5 @@
 // The values that document 01 names, as the code holds them.
+#![tactic(auto)]
 pub mod answer;
 pub mod code;
 pub mod file;

@@ -9,7 +9,7 @@ use crate::item::Item;
 use crate::tests::{one_if, user_in};
 
 // The lock list, unpacked: its limits, each process's user, 64 places, each process's next entry, and the number of its rule.
-#[derive(Drop)]
+#[derive(Clone, Copy)]
 pub struct LockList {
     pub capacity: u8,
     pub openlimit: u8,

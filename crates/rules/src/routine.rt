@@ -1,5 +1,5 @@
 // The sixteen calls.
-#[derive(Drop)]
+#[derive(Clone, Copy)]
 pub enum Routine {
     Open,
     Close,
@@ -20,7 +20,7 @@ pub enum Routine {
 }
 
 // What a function number chooses.
-#[derive(Drop)]
+#[derive(Clone, Copy)]
 pub enum Chosen {
     Call(Routine),
     Unknown,

@@ -1,5 +1,5 @@
 // Where a record is to be written: the extent's entry, whether it is a new one, the block, whether it is a new one.
-#[derive(Drop)]
+#[derive(Clone, Copy)]
 pub struct Spot {
     pub entry: usize,
     pub fresh: bool,

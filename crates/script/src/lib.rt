@@ -1,4 +1,5 @@
 // What `mpmcalls` reads and prints: its records and its lines, as functions on bytes, and the engine called by them.
+#![tactic(auto)]
 pub mod caller;
 mod decimal;
 pub mod line;

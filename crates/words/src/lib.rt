@@ -1,4 +1,6 @@
 // The vocabulary of the rules and the proofs; bytes and their bits, bytes compared, hints, and tests joined.
+#![tactic(auto)]
+
 pub mod bits;
 pub mod byte;
 pub mod compare;

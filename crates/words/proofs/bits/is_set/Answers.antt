@@ -1,0 +1,7 @@
+-- `words::bits::is_set` meets its contract.
+use borrow.Author.Rules.{rules}
+use Rattle.words.proofs.Bitwise.{set_and}
+use Rattle.words.proofs.bits.is_set.Goals as goal
+
+pub returns : goal.returns
+returns c = search set_and

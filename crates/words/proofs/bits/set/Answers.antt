@@ -1,0 +1,7 @@
+-- `words::bits::set` meets its contract.
+use borrow.Author.Rules.{rules}
+use Rattle.words.proofs.Bitwise.{set_or}
+use Rattle.words.proofs.bits.set.Goals as goal
+
+pub returns : goal.returns
+returns c = search set_or
