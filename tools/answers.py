@@ -128,12 +128,10 @@ def turn(crate, folder, names, said):
                 continue
             m = re.match(r"(?:abbrev |pub )*[\w'-]+ :[^\n]*\n((?:unfolding [^\n]*\n)?)[\w'-]+([^=]*)=\s*(.*)", d, re.S)
             params, body = m.group(2).split(), m.group(3).rstrip()
-            for param in sorted(params, key=len, reverse=True):
-                if param == "_":
-                    continue
-                base = param.rstrip("₀")
-                path = f"l.{base}" if param == base else f"l.initial.{base}"
-                body = re.sub(rf"(?<![\w'.₀-₉]){re.escape(param)}(?![\w'₀-₉])", path, body)
+            paths = {q: f"l.{q}" if q == q.rstrip("₀") else f"l.initial.{q.rstrip('₀')}" for q in params if q != "_"}
+            names_in = "|".join(re.escape(q) for q in sorted(paths, key=len, reverse=True))
+            if names_in:
+                body = re.sub(rf"(?<![\w'.₀-₉])(?:{names_in})(?![\w'₀-₉])", lambda m: paths[m.group()], body)
             # what the loop does not change has one name
             changed = dict(zip(loop[1], info["changed"][i])) if info.get("changed") else {}
             for var, moves in changed.items():

@@ -1,5 +1,6 @@
 // The values that document 01 names, as the code holds them.
 #![tactic(auto)]
+
 pub mod answer;
 pub mod code;
 pub mod file;

@@ -1,0 +1,21 @@
+-- `rules::kind::fewest` meets its contract.
+use mathlib.Core.Path.{refl}
+use borrow.Author.Rules.{rules}
+use Rattle.rules.specs.Kinds.{fewest}
+use Rattle.rules.proofs.kind.fewest.Goals as goal
+
+pub enum_told-1 : goal.enum_told-1
+unfolding fewest
+enum_told-1 c = search rules
+
+pub enum_told-in-Large : goal.enum_told-in-Large
+unfolding fewest
+enum_told-in-Large c = search rules
+
+pub returns-in-Small : goal.returns-in-Small
+unfolding fewest
+returns-in-Small c = search (refl, rules)
+
+pub returns-in-Large : goal.returns-in-Large
+unfolding fewest
+returns-in-Large c = search (refl, rules)

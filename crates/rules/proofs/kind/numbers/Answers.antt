@@ -1,0 +1,21 @@
+-- `rules::kind::numbers` meets its contract.
+use mathlib.Core.Path.{refl}
+use borrow.Author.Rules.{rules}
+use Rattle.rules.specs.Kinds.{numbers}
+use Rattle.rules.proofs.kind.numbers.Goals as goal
+
+pub enum_told-1 : goal.enum_told-1
+unfolding numbers
+enum_told-1 c = search rules
+
+pub enum_told-in-Large : goal.enum_told-in-Large
+unfolding numbers
+enum_told-in-Large c = search rules
+
+pub returns-in-Small : goal.returns-in-Small
+unfolding numbers
+returns-in-Small c = search (refl, rules)
+
+pub returns-in-Large : goal.returns-in-Large
+unfolding numbers
+returns-in-Large c = search (refl, rules)

@@ -1,0 +1,11 @@
+-- `rules::list::LockList::terminate` meets its contract.
+use Prim.Native.Nat.{◌-◌, ◌≤◌}
+use Rattle.rules.specs.Effects.{unless_by, without_by}
+use Rattle.rules.proofs.Lists.{Gone, gones}
+use Rattle.rules.proofs.list.LockList.terminate.Given as goal
+
+abbrev pub invariant-loop-i : goal.invariant-loop-i
+invariant-loop-i l = (l.i ≤ 64) × Gone (unless_by l.p) l.initial.self l.self l.i
+
+abbrev pub decreases-loop-i : goal.decreases-loop-i
+decreases-loop-i l = 64 - l.i

@@ -1,0 +1,15 @@
+-- `rules::tests::same_name` meets its contract.
+use Prim.Native.Nat.{◌-◌, ◌≤◌}
+use mathlib.Core.Path.{◌≡◌}
+use mathlib.Core.Bool.{true}
+use Rattle.words.specs.Tests.{all}
+use Rattle.words.specs.Bytes.{same_byte}
+use Rattle.words.proofs.Sets.{alls}
+use Rattle.rules.specs.Locks.{same_name}
+use Rattle.rules.proofs.tests.same_name.Given as goal
+
+abbrev pub invariant-loop-k : goal.invariant-loop-k
+invariant-loop-k l = (l.k ≤ 11) × (all (same_byte l.a l.b) l.k ≡ true)
+
+abbrev pub decreases-loop-k : goal.decreases-loop-k
+decreases-loop-k l = 11 - l.k
