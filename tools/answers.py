@@ -71,10 +71,12 @@ def context(term, places):
     """Today's paths in a term that cites the facts known at its goal."""
     def path(m):
         step = m.group(1)
-        return "c." + places.get(step, step)
+        for name in (step, step.replace("-", "_")):
+            if name in places:
+                return "c." + places[name]
+        return "c." + step
 
-    term = re.sub(r"\bc(?:\.before)+\.([\w-]+)", path, term)
-    return re.sub(r"\bc\.([\w-]+)", lambda m: "c." + places.get(m.group(1), m.group(1)), term)
+    return re.sub(r"\bc(?:\.before)*\.([\w-]+)", path, term)
 
 
 def turn(crate, folder, names, said):

@@ -1,5 +1,6 @@
 // The directory: names, entries, finding, and where blocks and records lie. Nothing here changes it.
 #![tactic(auto)]
+
 pub mod entry;
 pub mod find;
 pub mod name;

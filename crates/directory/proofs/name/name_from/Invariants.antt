@@ -1,0 +1,13 @@
+-- `directory::name::name_from` meets its contract.
+use Prim.Native.Nat.{◌-◌, ◌≤◌}
+use mathlib.Core.Path.{◌≡◌}
+use Rattle.words.specs.Bytes.{low_from}
+use Rattle.words.proofs.Lists.{filled}
+use Rattle.words.proofs.Sets.{fills}
+use Rattle.directory.proofs.name.name_from.Given as goal
+
+abbrev pub invariant-loop-k : goal.invariant-loop-k
+invariant-loop-k l = (l.k ≤ 11) × (l.name ≡ filled (low_from l.s l.at) l.k l.initial.name)
+
+abbrev pub decreases-loop-k : goal.decreases-loop-k
+decreases-loop-k l = 11 - l.k
