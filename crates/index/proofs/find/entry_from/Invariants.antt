@@ -1,0 +1,14 @@
+-- `index::find::entry_from` meets its contract.
+use Prim.Native.Nat.{◌-◌, ◌≤◌}
+use mathlib.Core.Path.{◌≡◌}
+use mathlib.Core.Bool.{false}
+use Rattle.words.specs.Tests.{any}
+use Rattle.words.proofs.Sets.{lowests}
+use Rattle.rules.specs.Drive.{is_entry}
+use Rattle.index.proofs.find.entry_from.Given as goal
+
+abbrev pub invariant-loop-e : goal.invariant-loop-e
+invariant-loop-e l = (l.e ≤ l.n) × (any (is_entry l.image l.f l.extent) l.e ≡ false)
+
+abbrev pub decreases-loop-e : goal.decreases-loop-e
+decreases-loop-e l = l.n - l.e
