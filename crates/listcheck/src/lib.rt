@@ -1,5 +1,6 @@
 // The list check: the lock list is sound against the image.
 #![tactic(auto)]
+
 mod apart;
 pub mod check;
 mod limits;

@@ -1,5 +1,6 @@
 // 42 Lock Record, 43 Unlock Record, 143 Terminate.
 #![tactic(auto)]
+
 pub mod lock;
 mod run;
 pub mod terminate;

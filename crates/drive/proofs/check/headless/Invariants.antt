@@ -1,0 +1,14 @@
+-- `drive::check::headless` meets its contract.
+use Prim.Native.Nat.{◌-◌, ◌≤◌}
+use mathlib.Core.Path.{◌≡◌}
+use mathlib.Core.Bool.{false}
+use Rattle.words.specs.Tests.{any}
+use Rattle.rules.specs.Drive.{lacks_first}
+use Rattle.drive.proofs.Begun.{beginning}
+use Rattle.drive.proofs.check.headless.Given as goal
+
+abbrev pub invariant-loop-e : goal.invariant-loop-e
+invariant-loop-e l = (l.e ≤ l.n) × (any (lacks_first l.kind l.image) l.e ≡ false)
+
+abbrev pub decreases-loop-e : goal.decreases-loop-e
+decreases-loop-e l = l.n - l.e

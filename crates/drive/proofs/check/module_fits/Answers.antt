@@ -1,0 +1,7 @@
+-- `drive::check::module_fits` meets its contract.
+use borrow.Author.Rules.{rules}
+use Rattle.words.proofs.Sets.{wides}
+use Rattle.drive.proofs.check.module_fits.Goals as goal
+
+pub returns : goal.returns
+returns c = search wides depth 8 fits 20000

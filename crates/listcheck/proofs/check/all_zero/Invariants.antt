@@ -1,0 +1,14 @@
+-- `listcheck::check::all_zero` meets its contract.
+use Prim.Native.Nat.{◌-◌, ◌≤◌}
+use mathlib.Core.Path.{◌≡◌}
+use mathlib.Core.Bool.{true}
+use Rattle.words.specs.Tests.{all}
+use Rattle.rules.specs.Locks.{zero_at}
+use Rattle.listcheck.proofs.Checks.{zeros}
+use Rattle.listcheck.proofs.check.all_zero.Given as goal
+
+abbrev pub invariant-loop-i : goal.invariant-loop-i
+invariant-loop-i l = (l.i ≤ l.end) × (l.end ≤ 64) × (all (zero_at l.list) l.i ≡ true)
+
+abbrev pub decreases-loop-i : goal.decreases-loop-i
+decreases-loop-i l = l.end - l.i

@@ -1,0 +1,7 @@
+-- `listcheck::check::is_position` meets its contract.
+use borrow.Author.Rules.{rules}
+use Rattle.words.proofs.Sets.{wides}
+use Rattle.listcheck.proofs.check.is_position.Goals as goal
+
+pub returns : goal.returns
+returns c = search wides depth 8 fits 20000

@@ -1,0 +1,6 @@
+-- `listcheck::place::file_by` meets its contract.
+use borrow.Author.Rules.{rules}
+use Rattle.listcheck.proofs.place.file_by.Goals as goal
+
+pub returns : goal.returns
+returns c = cc
