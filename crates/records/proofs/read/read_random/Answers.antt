@@ -1,0 +1,7 @@
+-- `records::read::read_random` meets its contract.
+use borrow.Author.Rules.{rules}
+use Rattle.records.proofs.Reading.{read_called}
+use Rattle.records.proofs.read.read_random.Goals as goal
+
+pub returns : goal.returns
+returns c = search read_called

@@ -1,0 +1,14 @@
+-- `several::read::read_run` meets its contract.
+use Prim.Native.Nat.{◌-◌, ◌≤◌}
+use borrow.Author.Rules.{rules}
+use Rattle.rules.specs.Serves.{buffers}
+use Rattle.records.proofs.Reading.{inside_of}
+use Rattle.several.specs.So.{Reading}
+use Rattle.several.proofs.ReadTurns.{below_33, reading_none, reading_more, reading_stops, reading_ends}
+use Rattle.several.proofs.read.read_run.Given as goal
+
+abbrev pub invariant-loop-i : goal.invariant-loop-i
+invariant-loop-i l = (l.i ≤ l.count) × Reading l.kind l.p l.f l.r (buffers l.fcb l.initial.dma l.list l.image) l.i l.e l.dma
+
+abbrev pub decreases-loop-i : goal.decreases-loop-i
+decreases-loop-i l = l.count - l.i

@@ -1,0 +1,19 @@
+-- `writing::vector::release_entry` meets its contract.
+use Prim.Native.Nat.{◌-◌, ◌≤◌}
+use borrow.Author.Rules.{rules}
+use Rattle.rules.specs.Kinds.{most}
+use Rattle.writing.specs.Clears.{Cleared, is_block_in}
+use Rattle.writing.proofs.Releasing.{in_none, number_bit, in_more, in_all}
+use Rattle.writing.proofs.vector.release_entry.Goals as goal
+
+pub loop-k-init : goal.loop-k-init
+loop-k-init c = search (rules, in_none)
+
+pub release_block-requires : goal.release_block-requires
+release_block-requires c = search (rules, number_bit)
+
+pub loop-k-preserved : goal.loop-k-preserved
+loop-k-preserved c = search (rules, in_more, number_bit)
+
+pub returns : goal.returns
+returns c = search in_all
