@@ -41,8 +41,8 @@ use Rattle.rules.specs.declared.kind.Kind.{Kind}
 
 -- an open by another process stands against any locked one, and no other does
 pub elsewhere_against : (p : ℕ) (l : LockList) (f : File) (r : Bool) → r ≡ any (stands_against_at l p f 0) 64 → r ≡ stops_delete p l f
-unfolding stops_delete
-elsewhere_against p l f r h = h ∙ any_ext (stands_against_at l p f 0) (opens_elsewhere_at l p f) 64 (λ i m. unfold stands_against_at stands_against opens_elsewhere_at in
+unfolding stops_delete stands_against_at stands_against opens_elsewhere_at
+elsewhere_against p l f r h = h ∙ any_ext (stands_against_at l p f 0) (opens_elsewhere_at l p f) 64 (λ i m.
     ap (λ (t : Bool). opens_file_at l f i and t) (against (not (eqb (item_at l i).process p)) (not (eqb (item_at l i).mode 0))))
   where
     against : (x y : Bool) → (x and (true or y)) ≡ x

@@ -11,7 +11,7 @@ release-requires c = search (rules, vector-size)
 
 pub returns : goal.returns
 returns c = let pre = c.requires in
-    let file = c.well-formed.1.1.1.1.0 in (
+    let file = c.well_formed.1.1.1.1.0 in (
       search delete_done,
       delete_vector _ _ _ _ _ _ pre.0.image_sound (search rules) pre.1 c.release.ensures c.erase.ensures,
     )

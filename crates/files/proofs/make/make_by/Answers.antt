@@ -15,23 +15,14 @@ pub set_fcb-requires : goal.set_fcb-requires
 set_fcb-requires c = let h = place_fits _ _ c.free_place-at.ensures
     (search (
       rules,
-      c.well-formed.1.1.0,
+      c.well_formed.1.1.0,
     )) in search rules
 
 pub pack-requires : goal.pack-requires
 pack-requires c = c.requires.list_long
 
 pub returns : goal.returns
-returns c = let packed = c.before in
-    let held = packed.before.before in
-    let set = held.before.before.before in
-    let entered = set.before.before.before.before.before in
-    let place = entered.before.before in
-    let free = place.before in
-    let mode = free.before.before in
-    let passed = mode.before.before in
-    let code = passed.before in
-    let found = code.before.before.before in
-    make_done _ _ _ _ _ _ _ found.look_up.ensures.0 code.make-refusal.ensures _ _ _ _ _ _ _ passed.if1.false
-    mode.make-mode.ensures free.free-entry.ensures.0 place.free-place.ensures entered.make-entry.ensures
-    set.set-fcb.ensures held.«open».ensures packed.pack.ensures
+returns c =
+    make_done _ _ _ _ _ _ _ c.look_up-x.ensures.0 c.make_refusal-code.ensures _ _ _ _ _ _ _ c.if-code-ne0.false
+    c.make_mode-mode.ensures c.free_entry-e.ensures.0 c.free_place-at.ensures c.make_entry.ensures c.set_fcb.ensures
+    c.«open».ensures c.pack.ensures

@@ -1,0 +1,16 @@
+-- `salvage::empty::begin` meets its contract.
+use Prim.Native.Nat.{◌-◌, ◌≤◌}
+use mathlib.Core.Path.{◌≡◌}
+use lib.ListN.{length}
+use Rattle.words.specs.Lists.{turns}
+use Rattle.rules.specs.Kinds.{entries}
+use Rattle.repair.specs.Salvage.{begun_at}
+use Rattle.salvage.specs.Passes.{Known}
+use Rattle.salvage.proofs.Emptied.{emptying}
+use Rattle.salvage.proofs.empty.begin.Given as goal
+
+abbrev pub invariant-loop-e : goal.invariant-loop-e
+invariant-loop-e l = (l.e ≤ l.n) × (length l.image ≡ length l.initial.image) × Known (turns (begun_at l.kind) l.e l.initial.image) (entries l.kind) l.image l.hints
+
+abbrev pub decreases-loop-e : goal.decreases-loop-e
+decreases-loop-e l = l.n - l.e

@@ -1,0 +1,7 @@
+-- `salvage::empty::keep` meets its contract.
+use borrow.Author.Rules.{rules}
+use Rattle.salvage.proofs.Emptied.{keeping}
+use Rattle.salvage.proofs.empty.keep.Goals as goal
+
+pub returns : goal.returns
+returns c = search keeping

@@ -1,0 +1,13 @@
+-- `salvage::empty::must_go` meets its contract.
+use borrow.Author.Rules.{rules}
+use Rattle.salvage.proofs.Emptied.{choosing}
+use Rattle.salvage.proofs.empty.must_go.Goals as goal
+
+pub returns-then-is_empty : goal.returns-then-is_empty
+returns-then-is_empty c = search choosing
+
+pub returns-then-field_reason-ne0 : goal.returns-then-field_reason-ne0
+returns-then-field_reason-ne0 c = search choosing
+
+pub returns : goal.returns
+returns c = search choosing
