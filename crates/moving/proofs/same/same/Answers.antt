@@ -1,4 +1,6 @@
 -- `moving::same::same` meets its contract.
+use mathlib.Core.Path.{ap}
+use mathlib.Core.Bool.{not}
 use borrow.Author.Rules.{rules}
 use Rattle.words.proofs.Sets.{codes}
 use Rattle.drive.proofs.Walks.{known_none, walked_answer, walked_knows, image_there}
@@ -24,9 +26,9 @@ returns-then-not-sound_index-2 c = search (codes, walked_answer) depth 8 fits 20
 pub same_book-requires : goal.same_book-requires
 unfolding rows_same
 same_book-requires c = let v = c.sound_index.ensures in
-    let p = c.if-not-sound_index.false in
+    let p = ap not c.if-not-sound_index.false in
     let w = c.sound_index-2.ensures in
-    let q = c.if-not-sound_index-2.false in
+    let q = ap not c.if-not-sound_index-2.false in
     (image_there _ _ _ _ v p, image_there _ _ _ _ w q, walked_knows _ _ _ _ _ v p, walked_knows _ _ _ _ _ w q)
 
 pub returns-then-not-same_book : goal.returns-then-not-same_book

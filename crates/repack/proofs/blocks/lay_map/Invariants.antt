@@ -9,7 +9,7 @@ use Rattle.repack.proofs.Laying.{walking}
 use Rattle.repack.proofs.blocks.lay_map.Given as goal
 
 abbrev pub invariant-loop-k : goal.invariant-loop-k
-invariant-loop-k l = (l.k ≤ l.m) × ((length l.out ≡ length l.initial.out) × LaidBlocks l.kind l.image (numbers l.kind * l.e + l.k) l.next' l.out)
+invariant-loop-k l = (l.k ≤ l.m) × ((length l.out ≡ length l.initial.out) × LaidBlocks l.kind l.image (numbers l.kind * l.e + l.k) l.next l.out)
 
 abbrev pub decreases-loop-k : goal.decreases-loop-k
 decreases-loop-k l = l.m - l.k

@@ -35,15 +35,15 @@ pub loop-k-smaller : goal.loop-k-smaller
 loop-k-smaller c = search mapping depth 8 fits 20000
 
 pub loop-k-preserved : goal.loop-k-preserved
-loop-k-preserved c = let run = c.before in
-    let now = run.loop.invariant.1.1 in
-    let asked = run.before.before.before.before.requires in (
+loop-k-preserved c =
+    let now = c.loop-k.invariant.1.1 in
+    let asked = c.requires in (
       search rules,
       (
         search rules,
         (
           search rules,
-          places_more _ _ _ _ _ _ _ _ _ _ _ _ now.1 asked.0 asked.2 run.before.numbers.ensures.0
+          places_more _ _ _ _ _ _ _ _ _ _ _ _ now.1 asked.0 asked.2 c.numbers-m.ensures.0
               c.loop-k-test.true now.0
               c.map_number-n.ensures.0
               c.new_number.ensures c.one_if-next.ensures.0 c.put_number.ensures,

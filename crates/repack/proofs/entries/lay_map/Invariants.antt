@@ -8,7 +8,7 @@ use Rattle.repack.proofs.Laying.{mapping, places_more}
 use Rattle.repack.proofs.entries.lay_map.Given as goal
 
 abbrev pub invariant-loop-k : goal.invariant-loop-k
-invariant-loop-k l = (l.k ≤ l.m) × ((length l.out ≡ length l.initial.out) × ((32 * l.to + 32 ≤ length l.out) × LaidPlaces l.kind l.image l.e l.k l.to l.next' l.out))
+invariant-loop-k l = (l.k ≤ l.m) × ((length l.out ≡ length l.initial.out) × ((32 * l.to + 32 ≤ length l.out) × LaidPlaces l.kind l.image l.e l.k l.to l.next l.out))
 
 abbrev pub decreases-loop-k : goal.decreases-loop-k
 decreases-loop-k l = l.m - l.k
