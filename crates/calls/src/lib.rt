@@ -1,5 +1,6 @@
 // A call on buffers, of a known kind of drive: the general refusals, the choice of the call's routine, the routine.
 #![tactic(auto)]
+
 pub mod answer;
 mod choose;
 mod refuse;

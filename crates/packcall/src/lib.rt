@@ -1,3 +1,4 @@
 // Packing a book as a host asks for it, with its refusals.
 #![tactic(auto)]
+
 pub mod call;
