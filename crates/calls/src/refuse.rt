@@ -68,6 +68,7 @@ pub fn bad_lengths(
 }
 
 // FCB byte 0 is looked at by all calls but 46 and 143.
+#[tactic(auto, unfolding(crate::specs::Drives::reads_drive))]
 fn reads_drive(routine: Routine) -> bool
     ensures { result ≡ reads_drive routine }
 {

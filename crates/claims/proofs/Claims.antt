@@ -23,7 +23,7 @@ use Rattle.rules.specs.Serves.{Outcome, outcome}
 use Rattle.rules.specs.Drive.{look_up, sound_image, image_check, image_number, image_entry, image_told}
 use Rattle.rules.specs.Locks.{rule_in, start}
 use Rattle.rules.specs.Several.{call_run}
-use Rattle.rules.specs.Vector.{Built, five, call_five, build, rows_build}
+use Rattle.rules.specs.Vector.{Built, built, vector_of, five, call_five, build, rows_build}
 use Rattle.rules.proofs.Vector.{vector_bit, build_refused, build_accepted}
 use Rattle.rules.specs.Told.{five_told, build_told, check_told, look_told}
 use Rattle.rules.proofs.Tables.{accepted, accepted_zero, refused, zero_accepted, did_is}
@@ -190,12 +190,15 @@ module _ (e : ℕ → FiveEngine) (keeps : KeepsContract e) where
 build_claims : BuildClaims
 build_claims = record {
   refused = unbuilt;
-  done = λ kind s v sound long. unfold build_told in build_accepted kind s v (quiet kind s v sound long);
+  done = built_well;
   bit = λ kind s b low. vector_bit kind s b low;
 }
   where
     quiet : (kind : Kind) (s v : List ℕ) → sound_image kind s ≡ true → length v ≡ vector_size kind → any_row (rows_build kind s v) ≡ false
     quiet kind s v sound long = unfold rows_build any_row in or_none _ _ (ap not (eq-eqb _ _ long)) (or_none _ _ (ap not sound) refl)
+
+    built_well : (kind : Kind) (s v : List ℕ) → sound_image kind s ≡ true → length v ≡ vector_size kind → build_told (Known kind) s v ≡ built (0 ∕ 0) (vector_of kind s)
+    built_well kind s v sound long = unfold build_told in build_accepted kind s v (quiet kind s v sound long)
 
     known : (kind : Kind) (s v : List ℕ) → ((build kind s v).answer ≡ 0 → ⊥) → (build kind s v).vector ≡ v
     known kind s v z =

@@ -1,5 +1,5 @@
 -- What the answer of the image check says of the image (T-01). Assumes nothing.
-use Prim.Native.Nat.{ℕ, ◌+◌, ◌*◌, ◌/◌, ◌%◌, ◌≤◌, ◌<◌}
+use Prim.Native.Nat.{ℕ, ◌≤◌, ◌<◌}
 use mathlib.Core.Path.{◌≡◌, refl, sym, ap, subst, ◌∙◌}
 use mathlib.Core.Bool.{Bool, true, false, not, true≢false}
 use mathlib.Core.List.{List, [], ◌∷◌}
@@ -9,18 +9,17 @@ use lib.Dec.{eqb, leb}
 use borrow.Author.Tests.{ne_eqb, lt-leb, le-leb, leb-true, leb-false, not-true, not-false}
 use Rattle.words.specs.Tests.{◌and◌, ◌or◌, ◌if◌else◌, all, any, lowest}
 use Rattle.words.specs.Tables.{Row, ◌when◌, first_of}
-use Rattle.words.proofs.Tests.{either, and_fst, or_fst, all_at, all_fails, all_make, any_at, lowest_none, lowest_found, lowest_holds, lowest_below}
+use Rattle.words.proofs.Tests.{either, or_fst, all_at, all_fails, all_make, any_at, lowest_none, lowest_found, lowest_holds, lowest_below}
 use Rattle.words.proofs.Tests.{lowest_least}
 use Rattle.words.proofs.Sets.{if_yes, if_no, and_first, and_then}
 use Rattle.rules.specs.declared.kind.Kind.{Kind}
-use Rattle.rules.specs.declared.kind.Kind.TheVariants.{Small, Large}
 use Rattle.rules.specs.declared.answer.ImageAnswer.{ImageAnswer}
 use Rattle.rules.specs.declared.answer.ImageAnswer.TheVariants.{Sound, WrongLength, BadUser, BadName, BadNumbers, BlockOutside, BlockBefore}
 use Rattle.rules.specs.declared.answer.ImageAnswer.TheVariants.{ExtentBefore, NoFirst}
 use Rattle.rules.specs.Kinds.{entries, numbers}
 use Rattle.rules.specs.Drive.{good_length, is_empty, name_at, legal_name, good_user, good_numbers, good_fields, in_range, is_first, is_repeat, good_entry, has_first}
 use Rattle.rules.specs.Drive.{sound_directory, sound_image, reasons, reason, bad_for, is_bad, bad_entry, judged, lacks_first, headless, is_sound}
-use Rattle.rules.specs.Drive.{directory_answer, image_check, image_number, image_entry, image_told}
+use Rattle.rules.specs.Drive.{directory_answer, image_check, image_number, image_entry}
 use Rattle.rules.specs.Checks.{LowestBad, LowestHeadless, CheckTells}
 use Rattle.rules.proofs.Sizes.{entries_some, entries-byte}
 use Rattle.rules.proofs.Answers.{number_end, number_read, entry_read}

@@ -14,7 +14,7 @@ use Rattle.words.proofs.Tests.{and_fst, and_snd, all_ext}
 use Rattle.words.proofs.Lists.{tab_ext}
 use Rattle.words.proofs.Sets.{and_both, not_of_false}
 use Rattle.rules.specs.declared.kind.Kind.{Kind}
-use Rattle.rules.specs.Kinds.{numbers, top}
+use Rattle.rules.specs.Kinds.{numbers}
 use Rattle.rules.specs.declared.file.File.{File}
 use Rattle.rules.specs.Drive.{good_length, blocks, is_empty, user_byte, name_at, extent_at, map_number, same_low, is_named, file_from, file_at, is_of, legal_byte}
 use Rattle.rules.specs.Drive.{legal_at, legal_name, good_user, good_numbers, good_fields}

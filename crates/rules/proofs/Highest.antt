@@ -1,23 +1,20 @@
 -- The highest extent of a file, and its size. Assumes nothing.
-use Prim.Native.Nat.{ℕ, ◌+◌, ◌*◌, ◌/◌, ◌≤◌, ◌<◌}
-use mathlib.Core.Path.{◌≡◌, refl, sym, ap, ◌∙◌}
-use mathlib.Core.Bool.{Bool, true, false, not}
+use Prim.Native.Nat.{ℕ, ◌+◌, ◌*◌, ◌≤◌, ◌<◌}
+use mathlib.Core.Path.{◌≡◌}
+use mathlib.Core.Bool.{true, false}
 use mathlib.Core.List.{List}
 use mathlib.Core.Logic.{⊎_elim}
 use native.Mathlib.Omega.{arith}
-use lib.ListN.{length}
-use lib.Dec.{leb, eqb}
-use borrow.Author.Tests.{leb-true, leb-false, lt-leb, not-true, eqb-true}
-use Rattle.words.specs.Tests.{◌and◌, ◌if◌else◌, any, lowest}
-use Rattle.words.proofs.Tests.{either, and_fst, and_snd, any_found, lowest_below, lowest_holds}
-use Rattle.words.proofs.Greatest.{greatest_most, greatest_none, greatest_had, is_so}
+use borrow.Author.Tests.{leb-true, not-true}
+use Rattle.words.specs.Tests.{any}
+use Rattle.words.proofs.Tests.{either, and_fst, and_snd}
+use Rattle.words.proofs.Greatest.{greatest_most, greatest_none, greatest_had}
 use Rattle.rules.specs.declared.kind.Kind.{Kind}
 use Rattle.rules.specs.declared.file.File.{File}
 use Rattle.rules.specs.Kinds.{entries, top, last_module}
-use Rattle.rules.specs.Drive.{extent_at, entry_byte, is_empty, is_of, is_entry, entry_of, highest_extent, look_up, missing, good_fields, good_numbers, sound_image}
-use Rattle.rules.specs.Effects.{size_of, file_size}
+use Rattle.rules.specs.Drive.{extent_at, entry_byte, is_empty, is_of, highest_extent, good_fields, good_numbers, sound_image}
 use Rattle.rules.proofs.Sizes.{top_fits, top_whole}
-use Rattle.rules.proofs.Sound.{SoundImage, Is, sound_of, entry_splits, entry_is, entry_so}
+use Rattle.rules.proofs.Sound.{sound_of}
 
 -- what ex, module and count of a sound entry are at most
 record Numbers (kind : Kind) (s : List ℕ) (e : ℕ) : Type 0 where

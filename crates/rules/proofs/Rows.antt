@@ -5,7 +5,7 @@ use mathlib.Core.Bool.{true, false, not}
 use mathlib.Core.List.{List, ◌++◌}
 use lib.Dec.{leb, ltb, eqb}
 use borrow.Author.Tests.{eqb-true, eqb-false, eq-eqb, leb-true, leb-false, ltb-true, ltb-false, lt-ltb, le-ltb, not-false}
-use Rattle.words.specs.Tests.{◌and◌, ◌or◌, any, count, lowest}
+use Rattle.words.specs.Tests.{◌and◌, any, count, lowest}
 use Rattle.words.specs.Tables.{Row, any_row}
 use Rattle.words.proofs.Tests.{never, and_rest, or_fst, or_snd, any_at, lowest_over}
 use Rattle.words.proofs.Tables.{any_append, any_only}

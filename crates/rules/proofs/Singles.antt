@@ -8,7 +8,7 @@ use native.Mathlib.Omega.{arith}
 use lib.ListN.{length, take}
 use lib.Dec.{eqb, ltb}
 use borrow.Author.Tests.{eqb-true, ltb-false}
-use Rattle.words.specs.Tests.{◌and◌, ◌or◌, ◌if◌else◌}
+use Rattle.words.specs.Tests.{◌and◌, ◌if◌else◌}
 use Rattle.words.specs.Lists.{tab}
 use Rattle.words.specs.Bytes.{byte, low_from, part, put}
 use Rattle.words.specs.Tables.{first_of}

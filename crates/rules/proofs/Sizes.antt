@@ -8,7 +8,6 @@ use native.Mathlib.Omega.{arith}
 use lib.ListN.{length}
 use lib.Dec.{leb}
 use borrow.Author.Tests.{eqb-true, leb-true, leb-false}
-use Rattle.words.specs.Tests.{◌and◌}
 use Rattle.words.specs.Bytes.{byte, number_at, le}
 use Rattle.words.proofs.Tests.{either, and_fst, and_snd}
 use Rattle.rules.specs.declared.kind.Rule.{Rule}

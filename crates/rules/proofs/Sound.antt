@@ -16,13 +16,12 @@ use Rattle.words.proofs.Tests.{or_case}
 use Rattle.words.proofs.Lists.{tab_ext, tab_get_d, tab_at, length-tab}
 use Rattle.words.proofs.Counts.{count_split}
 use Rattle.words.proofs.Sets.{and_both, or_none, not_of_false}
-use Rattle.rules.specs.declared.answer.ImageAnswer.TheVariants.{Sound}
 use Rattle.rules.specs.declared.file.File.{File}
 use Rattle.rules.specs.declared.kind.Kind.{Kind}
-use Rattle.rules.specs.Kinds.{block_size, most, entries, numbers, top}
+use Rattle.rules.specs.Kinds.{block_size, most, entries, numbers}
 use Rattle.rules.specs.Drive.{good_length, blocks, is_empty, name_at, extent_at, map_number, map_place, same_low, is_named, file_from, file_at, is_of, is_entry}
 use Rattle.rules.specs.Drive.{entry_of, holds_number, names_block, is_used, is_in_use, blocks_in_use, is_free, free_blocks, good_fields, in_range, named_before}
-use Rattle.rules.specs.Drive.{is_first, is_repeat, good_entry, has_first, sound_directory, sound_image, image_check, user_byte, block_in, block_of}
+use Rattle.rules.specs.Drive.{is_first, is_repeat, good_entry, has_first, sound_directory, sound_image, user_byte, block_in, block_of}
 use Rattle.rules.proofs.Sizes.{size_whole, size_long, place_fits}
 
 -- ---- entries

@@ -18,7 +18,7 @@ use Rattle.rules.specs.declared.routine.Routine.TheVariants.{Open, Close, Search
 use Rattle.rules.specs.declared.routine.Routine.TheVariants.{TestWrite, Lock, Unlock, FreeSpace, Terminate}
 use Rattle.rules.specs.declared.routine.Chosen.{Chosen}
 use Rattle.rules.specs.declared.routine.Chosen.TheVariants.{Call, Unknown}
-use Rattle.rules.specs.Serves.{is_search, Buffers, Outcome, Did, buffers, outcome, chosen}
+use Rattle.rules.specs.Serves.{is_search, Buffers, Outcome, Did, outcome, chosen}
 use Rattle.rules.specs.Drive.{no_entry}
 use Rattle.rules.specs.Locks.{item_at, mode_unlocked, is_opened}
 use Rattle.rules.specs.Codes.{rows_inside, rows_all, rows_new, rows15, rows16, rows19, rows22, rows23, rows33, rows34, rows35, rows41, rows42, rows43}

@@ -6,7 +6,6 @@ use mathlib.Core.List.{List, [], ◌∷◌, ◌++◌}
 use native.Mathlib.Omega.{arith}
 use lib.ListN.{length, get_or, take, drop, set, replicate}
 use borrow.Author.Tests.{ltb-true, lt-ltb}
-use Rattle.words.specs.Tests.{◌and◌}
 use Rattle.words.specs.Lists.{tab, flat, turns}
 use Rattle.words.specs.Bytes.{byte, part, put, le, are_bytes}
 use Rattle.words.proofs.Tests.{and_fst, and_snd}

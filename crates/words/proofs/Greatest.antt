@@ -1,15 +1,15 @@
 -- The greatest of some numbers, and the first of those that have it: laws of a walk that keeps both. Assumes nothing.
 use Prim.Native.Nat.{ℕ, zero, suc, ◌+◌, ◌≤◌, ◌<◌}
-use mathlib.Core.Path.{◌≡◌, refl, sym, ap, ◌∙◌}
+use mathlib.Core.Path.{◌≡◌, refl, ◌∙◌}
 use mathlib.Core.Bool.{Bool, true, false}
 use mathlib.Core.Logic.{⊎_elim}
 use native.Mathlib.Omega.{arith}
 use native.Mathlib.Numerals.{add-one}
 use lib.Dec.{ltb, eqb}
-use borrow.Author.Tests.{ltb-true, ltb-false, lt-ltb, le-ltb, eq-eqb, ne_eqb, eqb-true}
+use borrow.Author.Tests.{ltb-true, ltb-false, lt-ltb, le-ltb, eq-eqb, ne_eqb}
 use Rattle.words.specs.Tests.{◌and◌, ◌or◌, ◌if◌else◌, any, lowest, greatest, lowest_or}
-use Rattle.words.proofs.Tests.{either, never, equal?, and_fst, and_snd, any_none, any_skip, any_here, any_found, any_at, any_never, any_some}
-use Rattle.words.proofs.Tests.{lowest_none, lowest_found, lowest_below, lowest_ext, any_ext}
+use Rattle.words.proofs.Tests.{either, never, equal?, and_fst, any_none, any_here, any_found, any_at, any_never}
+use Rattle.words.proofs.Tests.{lowest_none, lowest_found, lowest_below}
 
 -- ---- the lowest, or another number
 

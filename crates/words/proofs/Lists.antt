@@ -5,7 +5,7 @@ use mathlib.Core.List.{List, [], ◌∷◌, ◌++◌, map, append-nil, append_as
 use native.Mathlib.Nat.{le_of_suc-le-suc, not-suc-le-zero, mul-suc}
 use native.Mathlib.Numerals.{add-one}
 use native.Mathlib.Omega.{arith}
-use lib.ListN.{length, get_or, set, take, drop, replicate, length-append, length-map, get_or-append, drop_of_length-le, take-append-drop}
+use lib.ListN.{length, get_or, set, take, drop, replicate, length-append, length-map, get_or-append, take-append-drop}
 use lib.Seq.{get_or-append-add, drop-append-add, drop-drop, take_at}
 use Rattle.words.specs.Lists.{tab, flat, turns}
 

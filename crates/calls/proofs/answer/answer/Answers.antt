@@ -23,23 +23,18 @@ pub returns-then-code-ne0 : goal.returns-then-code-ne0
 returns-then-code-ne0 c = search ends_refused
 
 pub unpack-l-requires : goal.unpack-l-requires
-unpack-l-requires c = let long = c.before in
-    list_there _ _ _ _ _ _ _ _ _ long.before.bad-lengths.ensures long.if1.false
+unpack-l-requires c = list_there _ _ _ _ _ _ _ _ _ c.bad_lengths.ensures c.if-bad_lengths.false
 
 pub overflow_cast-process : goal.overflow_cast-process
-overflow_cast-process c = let long = c.before in
-    omega (arith, few_processes _ _ _ _ _ _ _ _ _ long.before.bad-lengths.ensures long.if1.false)
+overflow_cast-process c = omega (arith, few_processes _ _ _ _ _ _ _ _ _ c.bad_lengths.ensures c.if-bad_lengths.false)
 
 pub serve_by-requires : goal.serve_by-requires
-serve_by-requires c = let passed = c.before in
-    let long = passed.before.before.before.before.before.before in
-    let known = long.before.before.before.before.before.before in
-    let e = long.before.bad-lengths.ensures in
-    let t = long.if1.false in
-    let h = passed.before.refusal.ensures in
-    let y = passed.if2.false in (
-      is_call _ _ _ known.before.before.before.routine-of.ensures
-          (search (known.before.before.match, known.known-told.given, known.before.chosen.given)),
+serve_by-requires c =
+    let e = c.bad_lengths.ensures in
+    let t = c.if-bad_lengths.false in
+    let h = c.refusal-code.ensures in
+    let y = c.if-code-ne0.false in (
+      search is_call,
       few_processes _ _ _ _ _ _ _ _ _ e t,
       search rules,
       some_count _ _ _ _ _ _ _ e t _ h y,
@@ -50,12 +45,7 @@ serve_by-requires c = let passed = c.before in
     )
 
 pub returns : goal.returns
-returns c = let did = c.before in
-    let passed = did.before.before.before.before.before.before.before.before in
-    let long = passed.before.before.before.before.before.before in
-    let known = long.before.before.before.before.before.before in
-    let h = passed.before.refusal.ensures in
-    let y = passed.if2.false in
-    let chosen = is_call _ _ _ known.before.before.before.routine-of.ensures
-    (search (known.before.before.match, known.known-told.given, known.before.chosen.given)) in
-    ends_served _ _ _ _ _ _ _ _ long.before.bad-lengths.ensures long.if1.false _ h y _ _ _ _ chosen did.serve-by.ensures
+returns c =
+    let chosen = is_call _ _ _ c.routine_of-chosen.ensures c.in-Call.is in
+    ends_served _ _ _ _ _ _ _ _ c.bad_lengths.ensures c.if-bad_lengths.false _ c.refusal-code.ensures c.if-code-ne0.false _ _ _ _
+    chosen c.serve_by.ensures

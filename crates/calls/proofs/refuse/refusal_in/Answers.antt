@@ -1,4 +1,6 @@
 -- `calls::refuse::refusal_in` meets its contract.
+use mathlib.Core.Path.{ap}
+use mathlib.Core.Bool.{not}
 use borrow.Author.Rules.{rules}
 use Rattle.words.proofs.Sets.{codes}
 use Rattle.drive.proofs.Taken.{vectored_answer, vectored_sound, vectored_knows, vectored_long}
@@ -21,7 +23,7 @@ returns-then-not-sound_vector c = search (codes, vectored_answer) depth 8 fits 2
 pub sound_list-requires : goal.sound_list-requires
 unfolding rows_within
 sound_list-requires c = let w = c.sound_vector.ensures in
-    let t = c.if-not-sound_vector.false in
+    let t = ap not c.if-not-sound_vector.false in
     (search rules, vectored_sound _ _ _ _ _ w t, vectored_knows _ _ _ _ _ w t)
 
 pub shape_of-seen-then-not-sound_list : goal.shape_of-seen-then-not-sound_list
@@ -34,9 +36,8 @@ returns-then-not-sound_list c = search (codes, vectored_answer) depth 8 fits 200
 
 pub same-requires : goal.same-requires
 unfolding rows_within
-same-requires c = let o = c.before in
-    let a = o.before.before.before.before.before.before.before.before in
-    vectored_long _ _ _ _ _ o.sound-vector.ensures c.if-not-sound_vector.false a.args.vector.now a.requires.3
+same-requires c =
+    vectored_long _ _ _ _ _ c.sound_vector.ensures (ap not c.if-not-sound_vector.false) c.args.vector.now c.requires.3
 
 pub shape_of-seen-then-not-same : goal.shape_of-seen-then-not-same
 unfolding rows_within
@@ -44,11 +45,9 @@ shape_of-seen-then-not-same c = search rules
 
 pub returns-then-not-same : goal.returns-then-not-same
 unfolding rows_within
-returns-then-not-same c = let y = c.before in
-    let x = y.before.before.before in
-    let o = x.before.before.before.before.before in
-    within_vector _ _ _ _ _ _ _ _ _ o.sound-vector.ensures x.before.before.if1.false _ x.sound-list.ensures y.before.before.if2.false
-    o.before.before.before.before.before.before.before.before.requires.3 _ y.same.ensures c.if-not-same.true
+returns-then-not-same c =
+    within_vector _ _ _ _ _ _ _ _ _ c.sound_vector.ensures (ap not c.if-not-sound_vector.false) _ c.sound_list.ensures
+    (ap not c.if-not-sound_list.false) c.requires.3 _ c.same.ensures (ap not c.if-not-same.true)
 
 pub bad_drive-requires : goal.bad_drive-requires
 unfolding rows_within
@@ -60,11 +59,9 @@ shape_of-seen-then-bad_drive c = search rules
 
 pub returns-then-bad_drive : goal.returns-then-bad_drive
 unfolding rows_within
-returns-then-bad_drive c = let y = c.before in
-    let x = y.before.before.before in
-    let o = x.before.before.before.before.before in
-    within_drive _ _ _ _ _ _ _ _ _ o.sound-vector.ensures x.before.before.if1.false _ x.sound-list.ensures y.before.before.if2.false
-    o.before.before.before.before.before.before.before.before.requires.3 _ y.same.ensures c.if-not-same.false _
+returns-then-bad_drive c =
+    within_drive _ _ _ _ _ _ _ _ _ c.sound_vector.ensures (ap not c.if-not-sound_vector.false) _ c.sound_list.ensures
+    (ap not c.if-not-sound_list.false) c.requires.3 _ c.same.ensures (ap not c.if-not-same.false) _
     c.bad_drive.ensures c.if-bad_drive.true
 
 pub shape_of-seen : goal.shape_of-seen
@@ -73,9 +70,7 @@ shape_of-seen c = search rules
 
 pub returns : goal.returns
 unfolding rows_within
-returns c = let y = c.before in
-    let x = y.before.before.before in
-    let o = x.before.before.before.before.before in
-    within_none _ _ _ _ _ _ _ _ _ o.sound-vector.ensures x.before.before.if1.false _ x.sound-list.ensures y.before.before.if2.false
-    o.before.before.before.before.before.before.before.before.requires.3 _ y.same.ensures c.if-not-same.false _
+returns c =
+    within_none _ _ _ _ _ _ _ _ _ c.sound_vector.ensures (ap not c.if-not-sound_vector.false) _ c.sound_list.ensures
+    (ap not c.if-not-sound_list.false) c.requires.3 _ c.same.ensures (ap not c.if-not-same.false) _
     c.bad_drive.ensures c.if-bad_drive.false

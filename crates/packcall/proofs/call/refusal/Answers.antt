@@ -1,4 +1,6 @@
 -- `packcall::call::refusal` meets its contract.
+use mathlib.Core.Path.{ap}
+use mathlib.Core.Bool.{not}
 use borrow.Author.Rules.{rules}
 use Rattle.words.proofs.Sets.{codes, is_no, not_yes}
 use Rattle.drive.proofs.Walks.{known_none, walked_answer, walked_knows, image_there}
@@ -25,7 +27,7 @@ returns-then-not-sound_index c = search (codes, walked_answer) depth 8 fits 2000
 pub sound_list-requires : goal.sound_list-requires
 unfolding rows_pack
 sound_list-requires c = let w = c.sound_index.ensures in
-    let t = c.if-not-sound_index.false in
+    let t = ap not c.if-not-sound_index.false in
     (search (rules, list_long), image_there _ _ _ _ w t, walked_knows _ _ _ _ _ w t)
 
 pub returns-then-not-sound_list : goal.returns-then-not-sound_list
@@ -42,20 +44,16 @@ holds_open-requires c = search rules
 
 pub returns-then-holds_open : goal.returns-then-holds_open
 unfolding rows_pack
-returns-then-holds_open c = let looked = c.before in
-    let a = looked.before.before.before.before.before.before.before.args in
-    code_open a.kind a.image.now a.list.now a.out.now
-    (is_no _ _ looked.before.before.before.bad-lengths.ensures looked.before.before.if1.false)
-    (image_there _ _ _ _ looked.sound-index.ensures c.if-not-sound_index.false)
-    (not_yes _ _ c.sound_list.ensures c.if-not-sound_list.false)
+returns-then-holds_open c =
+    code_open c.args.kind c.args.image.now c.args.list.now c.args.out.now (is_no _ _ c.bad_lengths.ensures c.if-bad_lengths.false)
+    (image_there _ _ _ _ c.sound_index.ensures (ap not c.if-not-sound_index.false))
+    (not_yes _ _ c.sound_list.ensures (ap not c.if-not-sound_list.false))
     (open_yes _ _ _ c.holds_open.ensures c.unpack.ensures c.if-holds_open.true)
 
 pub returns : goal.returns
 unfolding rows_pack
-returns c = let looked = c.before in
-    let a = looked.before.before.before.before.before.before.before.args in
-    code_none a.kind a.image.now a.list.now a.out.now
-    (is_no _ _ looked.before.before.before.bad-lengths.ensures looked.before.before.if1.false)
-    (image_there _ _ _ _ looked.sound-index.ensures c.if-not-sound_index.false)
-    (not_yes _ _ c.sound_list.ensures c.if-not-sound_list.false)
+returns c =
+    code_none c.args.kind c.args.image.now c.args.list.now c.args.out.now (is_no _ _ c.bad_lengths.ensures c.if-bad_lengths.false)
+    (image_there _ _ _ _ c.sound_index.ensures (ap not c.if-not-sound_index.false))
+    (not_yes _ _ c.sound_list.ensures (ap not c.if-not-sound_list.false))
     (open_no _ _ _ c.holds_open.ensures c.unpack.ensures c.if-holds_open.false)

@@ -1,5 +1,4 @@
 -- `rules::kind::is_past` meets its contract.
-use borrow.Author.Rules.{rules}
 use Rattle.words.proofs.Sets.{wides}
 use Rattle.rules.proofs.Sizes.{top_as}
 use Rattle.rules.proofs.kind.is_past.Goals as goal

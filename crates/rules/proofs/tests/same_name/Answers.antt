@@ -1,8 +1,4 @@
 -- `rules::tests::same_name` meets its contract.
-use Prim.Native.Nat.{◌-◌, ◌≤◌}
-use mathlib.Core.Path.{◌≡◌}
-use mathlib.Core.Bool.{true}
-use Rattle.words.specs.Tests.{all}
 use Rattle.words.specs.Bytes.{same_byte}
 use Rattle.words.proofs.Sets.{alls}
 use Rattle.rules.specs.Locks.{same_name}

@@ -4,8 +4,6 @@ use mathlib.Core.Path.{◌≡◌}
 use mathlib.Core.Bool.{true}
 use Rattle.words.specs.Tests.{all}
 use Rattle.words.specs.Bytes.{same_byte}
-use Rattle.words.proofs.Sets.{alls}
-use Rattle.rules.specs.Locks.{same_name}
 use Rattle.rules.proofs.tests.same_name.Given as goal
 
 abbrev pub invariant-loop-k : goal.invariant-loop-k

@@ -1,5 +1,4 @@
 -- `words::bits::clear` meets its contract.
-use borrow.Author.Rules.{rules}
 use Rattle.words.proofs.Bitwise.{common, set_less}
 use Rattle.words.proofs.bits.clear.Goals as goal
 

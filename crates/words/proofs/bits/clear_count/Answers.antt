@@ -1,8 +1,4 @@
 -- `words::bits::clear_count` meets its contract.
-use Prim.Native.Nat.{◌-◌, ◌≤◌}
-use mathlib.Core.Path.{◌≡◌}
-use Rattle.words.specs.Bits.{is_clear}
-use Rattle.words.specs.Tests.{count}
 use Rattle.words.proofs.Bitwise.{clear-counts}
 use Rattle.words.proofs.bits.clear_count.Goals as goal
 

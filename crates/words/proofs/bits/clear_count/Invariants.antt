@@ -3,7 +3,6 @@ use Prim.Native.Nat.{◌-◌, ◌≤◌}
 use mathlib.Core.Path.{◌≡◌}
 use Rattle.words.specs.Bits.{is_clear}
 use Rattle.words.specs.Tests.{count}
-use Rattle.words.proofs.Bitwise.{clear-counts}
 use Rattle.words.proofs.bits.clear_count.Given as goal
 
 abbrev pub invariant-loop-b : goal.invariant-loop-b

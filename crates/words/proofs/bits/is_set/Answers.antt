@@ -1,5 +1,4 @@
 -- `words::bits::is_set` meets its contract.
-use borrow.Author.Rules.{rules}
 use Rattle.words.proofs.Bitwise.{set_and}
 use Rattle.words.proofs.bits.is_set.Goals as goal
 

@@ -1,9 +1,4 @@
 -- `words::bits::lowest_clear` meets its contract.
-use Prim.Native.Nat.{◌-◌, ◌≤◌}
-use mathlib.Core.Path.{◌≡◌}
-use mathlib.Core.Bool.{false}
-use Rattle.words.specs.Bits.{is_clear}
-use Rattle.words.specs.Tests.{any}
 use Rattle.words.proofs.Bitwise.{clears}
 use Rattle.words.proofs.bits.lowest_clear.Goals as goal
 

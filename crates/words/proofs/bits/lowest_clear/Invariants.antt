@@ -4,7 +4,6 @@ use mathlib.Core.Path.{◌≡◌}
 use mathlib.Core.Bool.{false}
 use Rattle.words.specs.Bits.{is_clear}
 use Rattle.words.specs.Tests.{any}
-use Rattle.words.proofs.Bitwise.{clears}
 use Rattle.words.proofs.bits.lowest_clear.Given as goal
 
 abbrev pub invariant-loop-b : goal.invariant-loop-b

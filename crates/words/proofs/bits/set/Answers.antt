@@ -1,5 +1,4 @@
 -- `words::bits::set` meets its contract.
-use borrow.Author.Rules.{rules}
 use Rattle.words.proofs.Bitwise.{set_or}
 use Rattle.words.proofs.bits.set.Goals as goal
 

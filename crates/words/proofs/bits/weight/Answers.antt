@@ -1,5 +1,4 @@
 -- `words::bits::weight` meets its contract.
-use borrow.Author.Rules.{rules}
 use Rattle.words.proofs.Bitwise.{weight_is}
 use Rattle.words.proofs.bits.weight.Goals as goal
 

@@ -1,10 +1,9 @@
 -- `words::byte::fill` meets its contract.
-use Prim.Native.Nat.{ℕ, ◌-◌, ◌≤◌}
+use Prim.Native.Nat.{ℕ}
 use mathlib.Core.Path.{◌≡◌, ap, ◌∙◌}
 use mathlib.Core.List.{List, ◌++◌, append-nil}
-use lib.ListN.{length, set, drop, replicate, length-set}
+use lib.ListN.{length, set, replicate, length-set}
 use lib.Seq.{drop-length}
-use borrow.Author.Rules.{rules}
 use native.Mathlib.Omega.{arith}
 use borrow.Author.Fill.{fill_more}
 use Rattle.words.proofs.byte.fill.Goals as goal

@@ -1,7 +1,5 @@
 -- `words::byte::put_bytes` meets its contract.
-use Prim.Native.Nat.{◌-◌, ◌≤◌}
-use lib.ListN.{length}
-use Rattle.words.proofs.Items.{Pasted, pastes}
+use Rattle.words.proofs.Items.{pastes}
 use Rattle.words.proofs.byte.put_bytes.Goals as goal
 
 pub loop-i-init : goal.loop-i-init

@@ -1,7 +1,7 @@
 -- `words::byte::put_bytes` meets its contract.
 use Prim.Native.Nat.{◌-◌, ◌≤◌}
 use lib.ListN.{length}
-use Rattle.words.proofs.Items.{Pasted, pastes}
+use Rattle.words.proofs.Items.{Pasted}
 use Rattle.words.proofs.byte.put_bytes.Given as goal
 
 abbrev pub invariant-loop-i : goal.invariant-loop-i

@@ -1,8 +1,4 @@
 -- `words::compare::same` meets its contract.
-use Prim.Native.Nat.{◌-◌, ◌≤◌}
-use mathlib.Core.Path.{◌≡◌}
-use lib.ListN.{length}
-use Rattle.words.specs.Tests.{all}
 use Rattle.words.specs.Bytes.{same_byte}
 use Rattle.words.proofs.Joined.{joins}
 use Rattle.words.proofs.compare.same.Goals as goal

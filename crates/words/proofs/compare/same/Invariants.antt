@@ -4,7 +4,6 @@ use mathlib.Core.Path.{◌≡◌}
 use lib.ListN.{length}
 use Rattle.words.specs.Tests.{all}
 use Rattle.words.specs.Bytes.{same_byte}
-use Rattle.words.proofs.Joined.{joins}
 use Rattle.words.proofs.compare.same.Given as goal
 
 abbrev pub invariant-loop-k : goal.invariant-loop-k

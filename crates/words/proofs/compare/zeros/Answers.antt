@@ -1,8 +1,4 @@
 -- `words::compare::zeros` meets its contract.
-use Prim.Native.Nat.{◌-◌, ◌≤◌}
-use mathlib.Core.Path.{◌≡◌}
-use lib.ListN.{length}
-use Rattle.words.specs.Tests.{all}
 use Rattle.words.specs.Bytes.{is_zero}
 use Rattle.words.proofs.Joined.{joins}
 use Rattle.words.proofs.compare.zeros.Goals as goal

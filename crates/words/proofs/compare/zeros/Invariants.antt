@@ -4,7 +4,6 @@ use mathlib.Core.Path.{◌≡◌}
 use lib.ListN.{length}
 use Rattle.words.specs.Tests.{all}
 use Rattle.words.specs.Bytes.{is_zero}
-use Rattle.words.proofs.Joined.{joins}
 use Rattle.words.proofs.compare.zeros.Given as goal
 
 abbrev pub invariant-loop-k : goal.invariant-loop-k

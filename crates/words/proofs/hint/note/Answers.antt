@@ -1,5 +1,4 @@
 -- `words::hint::note` meets its contract.
-use borrow.Author.Rules.{rules}
 use Rattle.words.proofs.Hints.{noting-hints}
 use Rattle.words.proofs.hint.note.Goals as goal
 

@@ -1,5 +1,4 @@
 -- `rules::item::Item::is_others_lock` meets its contract.
-use borrow.Author.Rules.{rules}
 use Rattle.words.proofs.Sets.{choices}
 use Rattle.rules.proofs.item.Item.is_others_lock.Goals as goal
 

@@ -1,5 +1,4 @@
 -- `rules::item::Item::opens_against` meets its contract.
-use borrow.Author.Rules.{rules}
 use Rattle.words.proofs.Sets.{choices}
 use Rattle.rules.proofs.item.Item.opens_against.Goals as goal
 

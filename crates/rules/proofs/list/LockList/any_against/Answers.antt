@@ -1,8 +1,4 @@
 -- `rules::list::LockList::any_against` meets its contract.
-use Prim.Native.Nat.{◌-◌, ◌≤◌}
-use mathlib.Core.Path.{◌≡◌}
-use mathlib.Core.Bool.{false}
-use Rattle.words.specs.Tests.{any}
 use Rattle.words.proofs.Sets.{anys}
 use Rattle.rules.specs.Codes.{stands_against_at}
 use Rattle.rules.specs.Locks.{opens_file_at}

@@ -3,9 +3,7 @@ use Prim.Native.Nat.{◌-◌, ◌≤◌}
 use mathlib.Core.Path.{◌≡◌}
 use mathlib.Core.Bool.{false}
 use Rattle.words.specs.Tests.{any}
-use Rattle.words.proofs.Sets.{anys}
 use Rattle.rules.specs.Codes.{stands_against_at}
-use Rattle.rules.specs.Locks.{opens_file_at}
 use Rattle.rules.proofs.list.LockList.any_against.Given as goal
 
 abbrev pub invariant-loop-i : goal.invariant-loop-i

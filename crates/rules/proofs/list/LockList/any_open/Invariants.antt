@@ -3,8 +3,7 @@ use Prim.Native.Nat.{◌-◌, ◌≤◌}
 use mathlib.Core.Path.{◌≡◌}
 use mathlib.Core.Bool.{false}
 use Rattle.words.specs.Tests.{any}
-use Rattle.words.proofs.Sets.{anys}
-use Rattle.rules.specs.Locks.{opens_file_at, any_open}
+use Rattle.rules.specs.Locks.{opens_file_at}
 use Rattle.rules.proofs.list.LockList.any_open.Given as goal
 
 abbrev pub invariant-loop-i : goal.invariant-loop-i

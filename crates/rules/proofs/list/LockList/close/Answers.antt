@@ -1,7 +1,6 @@
 -- `rules::list::LockList::close` meets its contract.
-use Prim.Native.Nat.{◌-◌, ◌≤◌}
-use Rattle.rules.specs.Effects.{unless_of_file, closed}
-use Rattle.rules.proofs.Lists.{Gone, gones}
+use Rattle.rules.specs.Effects.{closed}
+use Rattle.rules.proofs.Lists.{gones}
 use Rattle.rules.proofs.list.LockList.close.Goals as goal
 
 pub loop-i-init : goal.loop-i-init

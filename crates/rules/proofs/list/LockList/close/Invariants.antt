@@ -1,7 +1,7 @@
 -- `rules::list::LockList::close` meets its contract.
 use Prim.Native.Nat.{◌-◌, ◌≤◌}
-use Rattle.rules.specs.Effects.{unless_of_file, closed}
-use Rattle.rules.proofs.Lists.{Gone, gones}
+use Rattle.rules.specs.Effects.{unless_of_file}
+use Rattle.rules.proofs.Lists.{Gone}
 use Rattle.rules.proofs.list.LockList.close.Given as goal
 
 abbrev pub invariant-loop-i : goal.invariant-loop-i

@@ -2,11 +2,7 @@
 use Prim.Native.Nat.{◌-◌, ◌≤◌}
 use mathlib.Core.Path.{◌≡◌}
 use Rattle.words.specs.Tests.{count}
-use borrow.Author.Rules.{rules}
-use Rattle.words.proofs.Items.{adds}
-use Rattle.words.proofs.Sets.{count_ends}
-use Rattle.rules.specs.Locks.{locks_record_at, is_own_lock}
-use Rattle.rules.proofs.Runs.{Marked, unmarked, marks, new_count}
+use Rattle.rules.proofs.Runs.{Marked, unmarked}
 use Rattle.rules.proofs.list.LockList.count_new.Given as goal
 
 abbrev pub invariant-loop-i : goal.invariant-loop-i

@@ -1,8 +1,6 @@
 -- `rules::list::LockList::first_others` meets its contract.
-use Prim.Native.Nat.{◌-◌, ◌≤◌}
 use Rattle.rules.specs.Locks.{locks_record_at, is_others_lock}
-use Rattle.rules.proofs.Frames.{first}
-use Rattle.rules.proofs.Runs.{First, others}
+use Rattle.rules.proofs.Runs.{others}
 use Rattle.rules.proofs.list.LockList.first_others.Goals as goal
 
 pub loop-i-init : goal.loop-i-init

@@ -1,8 +1,4 @@
 -- `rules::list::LockList::free_place` meets its contract.
-use Prim.Native.Nat.{◌-◌, ◌≤◌}
-use mathlib.Core.Path.{◌≡◌}
-use mathlib.Core.Bool.{false}
-use Rattle.words.specs.Tests.{any}
 use Rattle.rules.specs.Locks.{is_empty_at, free_place}
 use Rattle.rules.proofs.Lists.{frees}
 use Rattle.rules.proofs.list.LockList.free_place.Goals as goal

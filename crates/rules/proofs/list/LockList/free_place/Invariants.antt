@@ -3,8 +3,7 @@ use Prim.Native.Nat.{◌-◌, ◌≤◌}
 use mathlib.Core.Path.{◌≡◌}
 use mathlib.Core.Bool.{false}
 use Rattle.words.specs.Tests.{any}
-use Rattle.rules.specs.Locks.{is_empty_at, free_place}
-use Rattle.rules.proofs.Lists.{frees}
+use Rattle.rules.specs.Locks.{is_empty_at}
 use Rattle.rules.proofs.list.LockList.free_place.Given as goal
 
 abbrev pub invariant-loop-i : goal.invariant-loop-i

@@ -1,7 +1,4 @@
 -- `rules::list::LockList::free_places` meets its contract.
-use Prim.Native.Nat.{◌-◌, ◌≤◌}
-use mathlib.Core.Path.{◌≡◌}
-use Rattle.words.specs.Tests.{count}
 use Rattle.words.proofs.Sets.{counts}
 use Rattle.rules.specs.Locks.{is_empty_at, free_places}
 use Rattle.rules.proofs.list.LockList.free_places.Goals as goal

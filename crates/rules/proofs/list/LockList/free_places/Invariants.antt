@@ -2,8 +2,7 @@
 use Prim.Native.Nat.{◌-◌, ◌≤◌}
 use mathlib.Core.Path.{◌≡◌}
 use Rattle.words.specs.Tests.{count}
-use Rattle.words.proofs.Sets.{counts}
-use Rattle.rules.specs.Locks.{is_empty_at, free_places}
+use Rattle.rules.specs.Locks.{is_empty_at}
 use Rattle.rules.proofs.list.LockList.free_places.Given as goal
 
 abbrev pub invariant-loop-i : goal.invariant-loop-i

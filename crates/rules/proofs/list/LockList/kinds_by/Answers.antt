@@ -1,7 +1,4 @@
 -- `rules::list::LockList::kinds_by` meets its contract.
-use Prim.Native.Nat.{◌-◌, ◌≤◌}
-use mathlib.Core.Path.{◌≡◌}
-use Rattle.words.specs.Tests.{count}
 use Rattle.words.proofs.Items.{adds}
 use Rattle.rules.specs.Locks.{is_kind_by_at}
 use Rattle.rules.proofs.list.LockList.kinds_by.Goals as goal

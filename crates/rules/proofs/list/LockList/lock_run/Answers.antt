@@ -1,12 +1,6 @@
 -- `rules::list::LockList::lock_run` meets its contract.
-use Prim.Native.Nat.{◌+◌, ◌-◌, ◌≤◌, ◌<◌}
-use mathlib.Core.Path.{◌≡◌}
-use mathlib.Core.Bool.{false}
-use lib.ListN.{length}
-use Rattle.words.specs.Tests.{any}
-use Rattle.words.specs.Lists.{turns}
 use Rattle.rules.specs.Locks.{locks_record_at, is_own_lock}
-use Rattle.rules.specs.Effects.{locked_at, locked_run}
+use Rattle.rules.specs.Effects.{locked_run}
 use Rattle.rules.proofs.Lists.{taking}
 use Rattle.rules.proofs.list.LockList.lock_run.Goals as goal
 

@@ -5,9 +5,8 @@ use mathlib.Core.Bool.{false}
 use lib.ListN.{length}
 use Rattle.words.specs.Tests.{any}
 use Rattle.words.specs.Lists.{turns}
-use Rattle.rules.specs.Locks.{locks_record_at, is_own_lock}
-use Rattle.rules.specs.Effects.{locked_at, locked_run}
-use Rattle.rules.proofs.Lists.{taking}
+use Rattle.rules.specs.Locks.{is_own_lock}
+use Rattle.rules.specs.Effects.{locked_at}
 use Rattle.rules.proofs.list.LockList.lock_run.Given as goal
 
 abbrev pub invariant-loop-i : goal.invariant-loop-i

@@ -3,8 +3,7 @@ use Prim.Native.Nat.{◌-◌, ◌≤◌}
 use mathlib.Core.Path.{◌≡◌}
 use mathlib.Core.Bool.{false}
 use Rattle.words.specs.Tests.{any}
-use Rattle.words.proofs.Sets.{anys}
-use Rattle.rules.specs.Locks.{locks_record_at, is_others_lock, locked_by_other}
+use Rattle.rules.specs.Locks.{is_others_lock}
 use Rattle.rules.proofs.list.LockList.locked_by_other.Given as goal
 
 abbrev pub invariant-loop-i : goal.invariant-loop-i

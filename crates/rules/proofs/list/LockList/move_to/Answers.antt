@@ -1,5 +1,4 @@
 -- `rules::list::LockList::move_to` meets its contract.
-use borrow.Author.Rules.{rules}
 use Rattle.rules.proofs.Lists.{movings}
 use Rattle.rules.proofs.list.LockList.move_to.Goals as goal
 

@@ -1,8 +1,4 @@
 -- `rules::list::LockList::open_of` meets its contract.
-use Prim.Native.Nat.{◌-◌, ◌≤◌}
-use mathlib.Core.Path.{◌≡◌}
-use mathlib.Core.Bool.{false}
-use Rattle.words.specs.Tests.{any}
 use Rattle.words.proofs.Sets.{lowests}
 use Rattle.rules.specs.Locks.{opens_name_at, open_of}
 use Rattle.rules.proofs.list.LockList.open_of.Goals as goal

@@ -3,8 +3,7 @@ use Prim.Native.Nat.{◌-◌, ◌≤◌}
 use mathlib.Core.Path.{◌≡◌}
 use mathlib.Core.Bool.{false}
 use Rattle.words.specs.Tests.{any}
-use Rattle.words.proofs.Sets.{lowests}
-use Rattle.rules.specs.Locks.{opens_name_at, open_of}
+use Rattle.rules.specs.Locks.{opens_name_at}
 use Rattle.rules.proofs.list.LockList.open_of.Given as goal
 
 abbrev pub invariant-loop-i : goal.invariant-loop-i

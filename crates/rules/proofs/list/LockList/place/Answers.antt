@@ -1,5 +1,4 @@
 -- `rules::list::LockList::place` meets its contract.
-use borrow.Author.Rules.{rules}
 use Rattle.rules.proofs.Lists.{placings}
 use Rattle.rules.proofs.list.LockList.place.Goals as goal
 

@@ -1,7 +1,6 @@
 -- `rules::list::LockList::terminate` meets its contract.
-use Prim.Native.Nat.{◌-◌, ◌≤◌}
-use Rattle.rules.specs.Effects.{unless_by, without_by}
-use Rattle.rules.proofs.Lists.{Gone, gones}
+use Rattle.rules.specs.Effects.{without_by}
+use Rattle.rules.proofs.Lists.{gones}
 use Rattle.rules.proofs.list.LockList.terminate.Goals as goal
 
 pub loop-i-init : goal.loop-i-init

@@ -1,7 +1,7 @@
 -- `rules::list::LockList::terminate` meets its contract.
 use Prim.Native.Nat.{◌-◌, ◌≤◌}
-use Rattle.rules.specs.Effects.{unless_by, without_by}
-use Rattle.rules.proofs.Lists.{Gone, gones}
+use Rattle.rules.specs.Effects.{unless_by}
+use Rattle.rules.proofs.Lists.{Gone}
 use Rattle.rules.proofs.list.LockList.terminate.Given as goal
 
 abbrev pub invariant-loop-i : goal.invariant-loop-i

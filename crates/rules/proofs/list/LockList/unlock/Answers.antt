@@ -1,7 +1,6 @@
 -- `rules::list::LockList::unlock` meets its contract.
-use Prim.Native.Nat.{◌-◌, ◌≤◌}
-use Rattle.rules.specs.Effects.{unless_in_run, unlocked_run}
-use Rattle.rules.proofs.Lists.{Gone, gones}
+use Rattle.rules.specs.Effects.{unlocked_run}
+use Rattle.rules.proofs.Lists.{gones}
 use Rattle.rules.proofs.list.LockList.unlock.Goals as goal
 
 pub loop-i-init : goal.loop-i-init

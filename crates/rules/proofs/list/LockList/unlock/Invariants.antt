@@ -1,7 +1,7 @@
 -- `rules::list::LockList::unlock` meets its contract.
 use Prim.Native.Nat.{◌-◌, ◌≤◌}
-use Rattle.rules.specs.Effects.{unless_in_run, unlocked_run}
-use Rattle.rules.proofs.Lists.{Gone, gones}
+use Rattle.rules.specs.Effects.{unless_in_run}
+use Rattle.rules.proofs.Lists.{Gone}
 use Rattle.rules.proofs.list.LockList.unlock.Given as goal
 
 abbrev pub invariant-loop-i : goal.invariant-loop-i
