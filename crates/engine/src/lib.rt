@@ -1,5 +1,6 @@
 // The functions that a C host calls, each told the kind of drive by a number.
 #![tactic(auto)]
+
 ghost use Rattle.std.specs.Prelude.{◌≡◌};
 ghost use Rattle.rules.specs.Kinds.{told_rule, told_kind};
 ghost use Rattle.rules.specs.Locks.{rule_in};

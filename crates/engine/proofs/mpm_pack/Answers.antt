@@ -1,0 +1,10 @@
+-- `engine::mpm_pack` meets its contract.
+use borrow.Author.Rules.{rules}
+use Rattle.engine.proofs.Told.{pack_known, pack_other}
+use Rattle.engine.proofs.mpm_pack.Goals as goal
+
+pub returns-in_default : goal.returns-in_default
+returns-in_default c = search (pack_known, pack_other)
+
+pub returns : goal.returns
+returns c = search (pack_known, pack_other)

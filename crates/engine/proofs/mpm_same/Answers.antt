@@ -1,0 +1,10 @@
+-- `engine::mpm_same` meets its contract.
+use borrow.Author.Rules.{rules}
+use Rattle.engine.proofs.Told.{same_known, same_other}
+use Rattle.engine.proofs.mpm_same.Goals as goal
+
+pub returns-in_default : goal.returns-in_default
+returns-in_default c = search (same_known, same_other)
+
+pub returns : goal.returns
+returns c = search (same_known, same_other)

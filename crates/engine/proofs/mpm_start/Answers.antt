@@ -1,0 +1,10 @@
+-- `engine::mpm_start` meets its contract.
+use borrow.Author.Rules.{rules}
+use Rattle.engine.proofs.Told.{start_known, start_other}
+use Rattle.engine.proofs.mpm_start.Goals as goal
+
+pub returns-in_default : goal.returns-in_default
+returns-in_default c = search (start_known, start_other)
+
+pub returns : goal.returns
+returns c = search (start_known, start_other)

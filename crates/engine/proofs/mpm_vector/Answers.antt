@@ -1,0 +1,10 @@
+-- `engine::mpm_vector` meets its contract.
+use borrow.Author.Rules.{rules}
+use Rattle.engine.proofs.Told.{build_known, build_other}
+use Rattle.engine.proofs.mpm_vector.Goals as goal
+
+pub returns-in_default : goal.returns-in_default
+returns-in_default c = search (build_known, build_other)
+
+pub returns : goal.returns
+returns c = search (build_known, build_other)
