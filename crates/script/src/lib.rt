@@ -1,5 +1,6 @@
 // What `mpmcalls` reads and prints: its records and its lines, as functions on bytes, and the engine called by them.
 #![tactic(auto)]
+
 pub mod caller;
 mod decimal;
 pub mod line;

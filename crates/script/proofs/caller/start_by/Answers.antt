@@ -1,0 +1,7 @@
+-- `script::caller::start_by` meets its contract.
+use borrow.Author.Rules.{rules}
+use Rattle.script.proofs.Callers.{did_start}
+use Rattle.script.proofs.caller.start_by.Goals as goal
+
+pub returns : goal.returns
+returns c = search did_start
