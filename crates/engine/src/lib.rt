@@ -1,4 +1,4 @@
-// The functions that a C host calls, each told the kind of drive by a number.
+// The functions of the engine, each told the kind of drive by a number. `engine_c` exports them for C hosts.
 #![tactic(auto)]
 
 ghost use Rattle.std.specs.Prelude.{◌≡◌};
@@ -27,8 +27,7 @@ use salvage::mend::{WRONG_LENGTH, repair_image};
 use singles::singly::answer_singly;
 
 // A call: the kind of drive, three numbers and five separate buffers in, A + 256 H out.
-#[unsafe(no_mangle)]
-pub extern "C" fn mpm_call(
+pub fn mpm_call(
     kind: u32,
     function: u32,
     process: u32,
@@ -52,8 +51,7 @@ pub extern "C" fn mpm_call(
 }
 
 // The same call by the plain engine: 33, 34 and 40 as single calls one after another, the answer that of the last.
-#[unsafe(no_mangle)]
-pub extern "C" fn mpm_singly(
+pub fn mpm_singly(
     kind: u32,
     function: u32,
     process: u32,
@@ -77,8 +75,7 @@ pub extern "C" fn mpm_singly(
 }
 
 // Start: a fresh list from the kind of drive, three numbers and sixteen users, or 255/13 and the list unchanged.
-#[unsafe(no_mangle)]
-pub extern "C" fn mpm_start(
+pub fn mpm_start(
     kind: u32,
     capacity: u32,
     opens: u32,
@@ -97,8 +94,7 @@ pub extern "C" fn mpm_start(
 }
 
 // The image check: 0 sound, 1 wrong length, 2 to 8 why the directory is unsound; and 256 times the entry that is bad.
-#[unsafe(no_mangle)]
-pub extern "C" fn mpm_check(kind: u32, rule: u32, image: &[u8]) -> u32
+pub fn mpm_check(kind: u32, rule: u32, image: &[u8]) -> u32
     ensures { result ≡ check_told (told_kind kind (told_rule rule)) image.now }
 {
     let told = told_kind(kind, told_rule(rule));
@@ -110,8 +106,7 @@ pub extern "C" fn mpm_check(kind: u32, rule: u32, image: &[u8]) -> u32
 
 // Builds the allocation vector of an image: 32 bytes on a drive of the first kind, 512 on one of the second; or 255/13 for an unknown
 // kind or another length, 255/1 for an unsound image, and the vector unchanged.
-#[unsafe(no_mangle)]
-pub extern "C" fn mpm_vector(kind: u32, rule: u32, image: &[u8], vector: &mut [u8]) -> u32
+pub fn mpm_vector(kind: u32, rule: u32, image: &[u8], vector: &mut [u8]) -> u32
     ensures { built result vector.new ≡ build_told (told_kind kind (told_rule rule)) image.now vector.old }
 {
     let told = told_kind(kind, told_rule(rule));
@@ -122,15 +117,7 @@ pub extern "C" fn mpm_vector(kind: u32, rule: u32, image: &[u8], vector: &mut [u
 }
 
 // Look: where the record's 128 bytes begin in the image, or 0 where there are none to show.
-#[unsafe(no_mangle)]
-pub extern "C" fn mpm_look(
-    kind: u32,
-    rule: u32,
-    user: u32,
-    name: &[u8],
-    number: u32,
-    image: &[u8],
-) -> u32
+pub fn mpm_look(kind: u32, rule: u32, user: u32, name: &[u8], number: u32, image: &[u8]) -> u32
     ensures { result ≡ look_told (told_kind kind (told_rule rule)) user name.now number image.now }
 {
     let told = told_kind(kind, told_rule(rule));
@@ -142,8 +129,7 @@ pub extern "C" fn mpm_look(
 
 // Salvage of a damaged image: 0 done, 1 wrong length or unknown kind, 2 report buffer not of a byte for each entry. 1 and 2 change
 // nothing.
-#[unsafe(no_mangle)]
-pub extern "C" fn mpm_salvage(kind: u32, rule: u32, image: &mut [u8], report: &mut [u8]) -> u32
+pub fn mpm_salvage(kind: u32, rule: u32, image: &mut [u8], report: &mut [u8]) -> u32
     ensures { salvaged result image.new report.new ≡ salvage_told (told_kind kind (told_rule rule)) image.old report.old }
 {
     let told = told_kind(kind, told_rule(rule));
@@ -154,8 +140,7 @@ pub extern "C" fn mpm_salvage(kind: u32, rule: u32, image: &mut [u8], report: &m
 }
 
 // Packs the book of the image into a second buffer of its length, while the list holds no open; else the buffer is left.
-#[unsafe(no_mangle)]
-pub extern "C" fn mpm_pack(kind: u32, image: &[u8], list: &[u8], packed: &mut [u8]) -> u32
+pub fn mpm_pack(kind: u32, image: &[u8], list: &[u8], packed: &mut [u8]) -> u32
     ensures { packs result packed.new ≡ pack_told (told_kind kind (rule_in list.now)) image.now list.now packed.old }
 {
     let rule = rule_in(list);
@@ -167,8 +152,7 @@ pub extern "C" fn mpm_pack(kind: u32, image: &[u8], list: &[u8], packed: &mut [u
 }
 
 // Two images: 0 they hold the same book, 1 the first is unsound, 2 the second is, 3 they hold different books.
-#[unsafe(no_mangle)]
-pub extern "C" fn mpm_same(kind: u32, first: &[u8], second: &[u8]) -> u32
+pub fn mpm_same(kind: u32, first: &[u8], second: &[u8]) -> u32
     ensures { result ≡ same_told (told_kind kind (told_rule 0)) first.now second.now }
 {
     let told = told_kind(kind, told_rule(0));
