@@ -1,12 +1,10 @@
 -- The ends of a call with the vector: refused by the general table, or served. Assumes nothing.
 use Prim.Native.Nat.{ℕ, ◌≤◌}
 use mathlib.Core.Path.{◌≡◌, refl, sym, ap, ◌∙◌}
-use mathlib.Core.Bool.{Bool, true, false, not}
-use mathlib.Core.List.{List, [], ◌∷◌, ◌++◌}
+use mathlib.Core.Bool.{Bool, true, false}
+use mathlib.Core.List.{List, [], ◌∷◌}
 use mathlib.Core.Logic.{⊎_elim}
 use native.Mathlib.Omega.{arith}
-use lib.ListN.{length}
-use borrow.Author.Tests.{not-false}
 use Rattle.words.specs.Tests.{◌or◌, ◌if◌else◌}
 use Rattle.words.specs.Tables.{◌∕◌, ◌when◌, first_of, any_row}
 use Rattle.words.proofs.Tests.{equal?, or_fst}
@@ -19,7 +17,7 @@ use Rattle.rules.specs.declared.routine.Chosen.TheVariants.{Call, Unknown}
 use Rattle.rules.specs.Serves.{Buffers, Outcome, Did, outcome, chosen, is_unknown}
 use Rattle.rules.specs.Codes.{bad_numbers, bad_drive, rows_inside, rows_all}
 use Rattle.rules.specs.Call.{Ready}
-use Rattle.rules.specs.Vector.{Five, five, DidFive, besides, rows_vector, vector_of}
+use Rattle.rules.specs.Vector.{Five, DidFive, besides, rows_vector, vector_of}
 use Rattle.rules.proofs.Tables.{nonzero_all}
 use Rattle.rules.proofs.Passed.{passed, drive_good}
 use Rattle.rules.proofs.Ends.{did_as, did_none}

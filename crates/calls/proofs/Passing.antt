@@ -8,7 +8,7 @@ use native.Mathlib.Omega.{arith}
 use lib.ListN.{length}
 use lib.Dec.{eqb}
 use borrow.Author.Tests.{eqb-true, not-false}
-use Rattle.words.specs.Tests.{◌and◌, ◌or◌, ◌if◌else◌}
+use Rattle.words.specs.Tests.{◌and◌, ◌if◌else◌}
 use Rattle.words.specs.Tables.{first_of}
 use Rattle.words.proofs.Tests.{either, or_fst, or_snd}
 use Rattle.rules.specs.declared.routine.Routine.{Routine}

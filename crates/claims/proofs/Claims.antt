@@ -20,7 +20,7 @@ use Rattle.rules.specs.declared.kind.Told.{Told}
 use Rattle.rules.specs.declared.kind.Told.TheVariants.{Known, Other}
 use Rattle.rules.specs.Kinds.{told_kind, rule_of, with_rule, is_large, vector_size}
 use Rattle.rules.specs.Serves.{Outcome, outcome}
-use Rattle.rules.specs.Drive.{look_up, sound_image, image_check, image_number, image_entry, image_told}
+use Rattle.rules.specs.Drive.{look_up, sound_image, image_number, image_entry, image_told}
 use Rattle.rules.specs.Locks.{rule_in, start}
 use Rattle.rules.specs.Several.{call_run}
 use Rattle.rules.specs.Vector.{Built, built, vector_of, five, call_five, build, rows_build}

@@ -5,9 +5,7 @@ use mathlib.Core.Bool.{true, false, true≢false}
 use mathlib.Core.List.{List, [], ◌∷◌, ◌++◌}
 use mathlib.Core.Logic.{⊎_elim}
 use native.Mathlib.Omega.{arith}
-use lib.ListN.{length}
 use Rattle.words.specs.Tests.{◌if◌else◌}
-use Rattle.words.specs.Tables.{first_of, any_row}
 use Rattle.words.proofs.Tests.{either, and_fst, and_snd}
 use Rattle.rules.specs.declared.kind.Rule.{Rule}
 use Rattle.rules.specs.declared.kind.Rule.TheVariants.{Mpm, Cpm}
@@ -15,16 +13,16 @@ use Rattle.rules.specs.declared.kind.Kind.{Kind}
 use Rattle.rules.specs.declared.kind.Kind.TheVariants.{Small, Large}
 use Rattle.rules.specs.Kinds.{rule_of, same_rule, vector_size}
 use Rattle.rules.specs.Locks.{rule_in}
-use Rattle.rules.specs.Serves.{Outcome, outcome}
+use Rattle.rules.specs.Serves.{Outcome}
 use Rattle.rules.specs.Several.{call_run}
-use Rattle.rules.specs.Vector.{Five, five, vector_of, rows_vector, call_five}
+use Rattle.rules.specs.Vector.{Five, vector_of, call_five}
 use Rattle.rules.proofs.Vector.{vector-long, vector_bytes, five_is_four, five_vector, five_refused}
-use Rattle.history.specs.History.{Ask, State, Begun, is_lendable, is_possible, are_possible, is_kept, lent, outcome_of, kept, state_after, first_state, after}
+use Rattle.history.specs.History.{Ask, State, is_lendable, is_possible, are_possible, is_kept, lent, outcome_of, kept, state_after, first_state, after}
 use Rattle.history.specs.Demands.{Demand2}
 use Rattle.history.proofs.Lendable.{lendable_so, next_kept}
 use Rattle.history.proofs.Alike.{first_kept}
 use Rattle.history.proofs.Ruled.{first_rule, rule_stays}
-use Rattle.claims.specs.Five.{FiveEngine, EachFive, OfRule, five_of, four, Beside, beside, beside_after}
+use Rattle.claims.specs.Five.{FiveEngine, EachFive, OfRule, five_of, four, beside, beside_after}
 use Rattle.claims.specs.Claims.{VectorClaims}
 
 -- the test on two rules

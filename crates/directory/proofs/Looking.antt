@@ -7,7 +7,7 @@ use mathlib.Core.Logic.{⊎_elim}
 use native.Mathlib.Omega.{arith}
 use lib.Dec.{leb, ltb, eqb}
 use borrow.Author.Rules.{rules}
-use borrow.Author.Tests.{ltb-true, ltb-false, lt-ltb, le-ltb, leb-true, leb-false, eqb-true, eqb-false, not-true, not-false}
+use borrow.Author.Tests.{ltb-true, ltb-false, leb-true, leb-false, eqb-true, eqb-false, not-true, not-false}
 use Rattle.words.specs.Tests.{◌and◌, ◌if◌else◌, greatest, lowest_or}
 use Rattle.words.proofs.Tests.{either, and_fst, and_snd, and_rest}
 use Rattle.words.proofs.Greatest.{or_skip, or_kept, or_any, or_found, or_within, or_ends, greatest_skip, greatest_kept, greatest_new, is_not, is_other, is_so}

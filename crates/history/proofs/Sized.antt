@@ -1,9 +1,9 @@
 -- The size that 35 tells, of calls with one record or several. Assumes nothing.
-use Prim.Native.Nat.{ℕ, zero, suc, ◌+◌, ◌*◌, ◌/◌, ◌%◌, ◌≤◌, ◌<◌}
-use mathlib.Core.Path.{◌≡◌, refl, sym, ap, subst, ◌∙◌}
-use mathlib.Core.Bool.{Bool, true, false}
+use Prim.Native.Nat.{ℕ, ◌+◌, ◌*◌, ◌/◌, ◌%◌, ◌≤◌, ◌<◌}
+use mathlib.Core.Path.{◌≡◌, refl, sym, ap, ◌∙◌}
+use mathlib.Core.Bool.{true, false}
 use mathlib.Core.List.{List}
-use mathlib.Core.Logic.{◌⊎◌, inl, inr, ⊎_elim}
+use mathlib.Core.Logic.{◌⊎◌, ⊎_elim}
 use native.Mathlib.Omega.{arith}
 use lib.ListN.{length}
 use lib.Dec.{leb}
@@ -12,33 +12,30 @@ use Rattle.words.specs.Tests.{◌or◌, ◌if◌else◌}
 use Rattle.words.specs.Bytes.{byte, put, le}
 use Rattle.words.specs.Tables.{first_of, any_row}
 use Rattle.words.proofs.Tests.{either, equal?, never}
-use Rattle.words.proofs.Tables.{some_applies}
 use Rattle.words.proofs.Bytes.{put_in}
 use Rattle.rules.specs.declared.kind.Kind.{Kind}
 use Rattle.rules.specs.declared.file.File.{File}
-use Rattle.rules.specs.declared.routine.Routine.TheVariants.{Delete, Rename, Write, Size, WriteZeros}
+use Rattle.rules.specs.declared.routine.Routine.TheVariants.{Delete, Rename, Size}
 use Rattle.rules.specs.declared.routine.Chosen.TheVariants.{Call}
 use Rattle.rules.specs.Kinds.{entries, top}
-use Rattle.rules.specs.Serves.{Buffers, Outcome, chosen, function_of}
-use Rattle.rules.specs.Drive.{is_of, extent_at, entry_of, highest_extent, look_up, missing, sound_image}
-use Rattle.rules.specs.Asks.{caller_file, record_of}
+use Rattle.rules.specs.Serves.{Buffers, chosen, function_of}
+use Rattle.rules.specs.Drive.{entry_of, highest_extent, look_up, missing, sound_image}
+use Rattle.rules.specs.Asks.{record_of}
 use Rattle.rules.specs.Effects.{file_size, size_of, does35}
 use Rattle.rules.specs.Codes.{rows_all}
 use Rattle.rules.specs.Call.{rows_call, asked, asked_by, rows_of, effect_of, call}
-use Rattle.rules.specs.Several.{Run, run, single, back_at, fcb_at, several, told, serves_run, call_run}
-use Rattle.rules.proofs.Tables.{nonzero_call}
+use Rattle.rules.specs.Several.{Run, run, single, back_at, several, serves_run, call_run}
 use Rattle.rules.proofs.Rows.{passes_35}
 use Rattle.rules.proofs.Sizes.{top_fits}
 use Rattle.rules.proofs.Sound.{sound_of}
 use Rattle.rules.proofs.Frames.{count_good}
 use Rattle.rules.proofs.Highest.{highest_most, highest_ends}
-use Rattle.rules.proofs.Singles.{fcb_number, fcb_from}
 use Rattle.rules.proofs.Several.{Steps, begun, done, stopped, idle, steps, told_left, run_plain, run_refused, run_told}
 use Rattle.soundness.proofs.Leaves.{list_of, file_by}
 use Rattle.soundness.proofs.Taken.{caller_long}
 use Rattle.soundness.proofs.Walk.{accepted_as}
 use Rattle.soundness.proofs.Sized.{of_is, size_had, size_none}
-use Rattle.soundness.proofs.SizedCalls.{size_kept, size_written}
+use Rattle.soundness.proofs.SizedCalls.{size_kept}
 use Rattle.history.proofs.Served.{served_as}
 
 -- a size is at most 262,144, under CP/M's rule 65,536

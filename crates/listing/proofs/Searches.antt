@@ -1,18 +1,18 @@
 -- What an accepted search answers and leaves. Assumes nothing.
-use Prim.Native.Nat.{ℕ, ◌+◌, ◌-◌, ◌*◌, ◌/◌, ◌%◌, ◌≤◌, ◌<◌}
-use mathlib.Core.Path.{◌≡◌, refl, sym, ap, subst, ◌∙◌}
-use mathlib.Core.Bool.{Bool, true, false, true≢false}
+use Prim.Native.Nat.{ℕ, ◌+◌, ◌*◌, ◌<◌}
+use mathlib.Core.Path.{◌≡◌, refl, sym, ap, ◌∙◌}
+use mathlib.Core.Bool.{true, false}
 use mathlib.Core.List.{List, [], ◌∷◌, ◌++◌, append_assoc}
 use mathlib.Core.Logic.{◌⊎◌, inl, inr, ⊎_elim}
 use native.Mathlib.Omega.{arith}
 use lib.ListN.{length, set, length-set}
 use lib.Seq.{set-append_left}
-use borrow.Author.Tests.{leb-true, leb-false}
+use borrow.Author.Tests.{leb-false}
 use lib.Dec.{leb}
 use Rattle.words.specs.Tests.{◌if◌else◌}
 use Rattle.words.specs.Lists.{tab, flat}
-use Rattle.words.specs.Bytes.{byte, byte_from, part, put, are_bytes}
-use Rattle.words.specs.Tables.{◌∕◌, any_row}
+use Rattle.words.specs.Bytes.{byte_from, are_bytes}
+use Rattle.words.specs.Tables.{any_row}
 use Rattle.words.proofs.Tests.{either}
 use Rattle.words.proofs.Lists.{tab_get_d, length-flat, set_behind}
 use Rattle.words.proofs.AreBytes.{byte_small}
@@ -20,14 +20,11 @@ use Rattle.rules.specs.declared.kind.Kind.{Kind}
 use Rattle.rules.specs.Kinds.{entries}
 use Rattle.rules.specs.declared.list.LockList.{LockList}
 use Rattle.rules.specs.declared.routine.Routine.TheVariants.{SearchFirst, SearchNext}
-use Rattle.rules.specs.declared.routine.Chosen.{Chosen}
 use Rattle.rules.specs.declared.routine.Chosen.TheVariants.{Call}
-use Rattle.rules.specs.Serves.{Buffers, Outcome, chosen, is_search}
-use Rattle.rules.specs.Drive.{no_entry}
-use Rattle.rules.specs.Locks.{moved_to, pack_item, pack, unpack, user_of, position_of}
-use Rattle.rules.specs.Effects.{match_from, searched, finds, finds_none, does17, does18}
+use Rattle.rules.specs.Serves.{Buffers, chosen}
+use Rattle.rules.specs.Locks.{moved_to, pack_item, pack}
+use Rattle.rules.specs.Effects.{searched, finds, finds_none, does17, does18}
 use Rattle.rules.specs.Call.{asked, asked_by, effect_of, rows_call, call}
-use Rattle.rules.proofs.Tables.{search_answers}
 use Rattle.rules.proofs.Packing.{packed_long, pack_unpack}
 use Rattle.rules.proofs.SoundList.{Shape}
 use Rattle.rules.proofs.Passed.{Passed}

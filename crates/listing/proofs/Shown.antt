@@ -1,6 +1,6 @@
 -- One 17, then 18s: what they show is the matching entries. Assumes nothing.
 use Prim.Native.Nat.{ℕ, zero, suc, ◌+◌, ◌*◌, ◌/◌, ◌%◌, ◌≤◌, ◌<◌}
-use mathlib.Core.Path.{◌≡◌, refl, sym, ap, subst, ◌∙◌}
+use mathlib.Core.Path.{◌≡◌, refl, sym, ap, ◌∙◌}
 use mathlib.Core.Bool.{Bool, true, false, not}
 use mathlib.Core.List.{List, [], ◌∷◌, map}
 use mathlib.Core.Logic.{⊎_elim}
@@ -12,7 +12,7 @@ use Rattle.words.specs.Tests.{◌and◌, ◌if◌else◌, lowest}
 use Rattle.words.specs.Lists.{passing}
 use Rattle.words.specs.Bytes.{byte, part, put}
 use Rattle.words.specs.Tables.{any_row}
-use Rattle.words.proofs.Tests.{either, and_snd, and_fst, lowest_holds, lowest_least, lowest_over, lowest_within}
+use Rattle.words.proofs.Tests.{either, and_fst, lowest_holds, lowest_least, lowest_over}
 use Rattle.words.proofs.Sets.{or_none, and_left}
 use Rattle.words.proofs.Bytes.{part_long, part-byte, part_alike, put_in, length-put}
 use Rattle.words.proofs.Passing.{passing_none, passing_first, passing_ext}
@@ -21,9 +21,9 @@ use Rattle.rules.specs.Kinds.{entries}
 use Rattle.rules.specs.declared.list.LockList.{LockList}
 use Rattle.rules.specs.declared.routine.Routine.TheVariants.{SearchFirst}
 use Rattle.rules.specs.declared.routine.Chosen.TheVariants.{Call}
-use Rattle.rules.specs.Serves.{Buffers, Outcome, buffers, chosen, is_unknown}
+use Rattle.rules.specs.Serves.{Buffers, buffers, chosen, is_unknown}
 use Rattle.rules.specs.Drive.{sound_image}
-use Rattle.rules.specs.Locks.{moved_to, pack, unpack, user_of, position_of}
+use Rattle.rules.specs.Locks.{moved_to, pack, user_of, position_of}
 use Rattle.rules.specs.Codes.{bad_drive, rows_inside, rows_all}
 use Rattle.rules.specs.Effects.{is_match, is_match_from, match_from, searched, finds, finds_none, does17, does18}
 use Rattle.rules.specs.Call.{asked, asked_by, rows_of, effect_of, rows_call, call}

@@ -1,16 +1,16 @@
 -- "Directory listing for the clerks" (T-02): what a search answers and leaves, and what one 17 and then 18s show. Assumes nothing.
-use Rattle.std.specs.Prelude.{ℕ, zero, suc, ◌+◌, ◌*◌, ◌≤◌, ◌<◌, ◌≡◌, false, List, [], ◌∷◌, map, ◌⊎◌, set, eqb}
+use Rattle.std.specs.Prelude.{ℕ, zero, suc, ◌+◌, ◌*◌, ◌≤◌, ◌<◌, ◌≡◌, List, [], ◌∷◌, map, ◌⊎◌, set, eqb}
 use Rattle.words.specs.Tests.{◌if◌else◌}
 use Rattle.words.specs.Lists.{passing}
 use Rattle.words.specs.Bytes.{part}
-use Rattle.words.specs.Tables.{◌∕◌, any_row}
+use Rattle.words.specs.Tables.{◌∕◌}
 use Rattle.rules.specs.declared.kind.Kind.{Kind}
 use Rattle.rules.specs.Kinds.{entries}
 use Rattle.rules.specs.Serves.{Buffers, Outcome}
 use Rattle.rules.specs.Drive.{entry_size}
 use Rattle.rules.specs.Locks.{places, place_at, user_of, unpack}
 use Rattle.rules.specs.Effects.{is_match}
-use Rattle.rules.specs.Call.{rows_call, call}
+use Rattle.rules.specs.Call.{call}
 
 -- ---- One search
 

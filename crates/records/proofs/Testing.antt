@@ -19,14 +19,13 @@ use Rattle.rules.specs.declared.spot.Spot.{Spot}
 use Rattle.rules.specs.declared.routine.Chosen.TheVariants.{Call}
 use Rattle.rules.specs.declared.routine.Routine.TheVariants.{TestWrite, FreeSpace}
 use Rattle.rules.specs.Serves.{Buffers, Did, with_dma, with_image}
-use Rattle.rules.specs.Drive.{blocks, entry_of, look_up, block_in, record_at, free_blocks, sound_image}
+use Rattle.rules.specs.Drive.{blocks, entry_of, look_up, block_in, record_at, free_blocks}
 use Rattle.rules.specs.Locks.{unpack, open_of}
 use Rattle.rules.specs.Asks.{caller_file, record_of}
 use Rattle.rules.specs.Codes.{rows_may, rows_there, differs, rows_differ, rows41}
 use Rattle.rules.specs.Effects.{spot_at, written, does41, does46}
 use Rattle.rules.specs.Call.{unless, asked_by, asked, rows_of, effect_of, served}
 use Rattle.rules.proofs.Sizes.{records_few, record_room}
-use Rattle.rules.proofs.Room.{Within, there_within}
 use Rattle.rules.proofs.Ends.{did_as, did_refuse, did_pass, did_refuse_first, did_go_on, served_as, did_left}
 use Rattle.records.specs.By.{by41}
 use Rattle.records.proofs.Writing.{nonzero_may, may_table}

@@ -15,8 +15,8 @@ use Rattle.words.proofs.Sets.{and_both, not_of_false}
 use Rattle.rules.specs.declared.kind.Kind.{Kind}
 use Rattle.rules.specs.Kinds.{entries, numbers}
 use Rattle.rules.specs.Drive.{good_length, blocks, is_empty, file_at, map_number, in_range, is_first, named_before, names_block, holds_number, sound_image}
-use Rattle.rules.proofs.Sound.{Is, Entries, Names, Maps, sound_so, length_long}
-use Rattle.rules.proofs.Frames.{Head, empty_same, extent_same, file_same, fields_so, count_good, is_same, names_same, long_same}
+use Rattle.rules.proofs.Sound.{Entries, Names, Maps, sound_so, length_long}
+use Rattle.rules.proofs.Frames.{Head, extent_same, file_same, fields_so, count_good, is_same, names_same, long_same}
 use Rattle.soundness.proofs.Numbers.{numbered}
 use Rattle.repair.specs.Salvage.{must_zero, zeroed_at, zeroed_to, cleaned_at, cleaned_to, kept, repaired}
 use Rattle.repair.proofs.Zeros.{zeroed_here, zeroed_other, numbers_few}

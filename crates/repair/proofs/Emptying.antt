@@ -1,5 +1,5 @@
 -- The first two passes: the entries that stay are good, none repeats an earlier one, and each file begins. Assumes nothing.
-use Prim.Native.Nat.{ℕ, zero, suc, ◌+◌, ◌*◌, ◌≤◌, ◌<◌}
+use Prim.Native.Nat.{ℕ, zero, suc, ◌*◌, ◌≤◌, ◌<◌}
 use mathlib.Core.Path.{◌≡◌, refl, ap, ◌∙◌}
 use mathlib.Core.Bool.{true, false, not}
 use mathlib.Core.List.{List}
@@ -7,7 +7,7 @@ use mathlib.Core.Logic.{⊎_elim}
 use native.Mathlib.Omega.{arith}
 use lib.ListN.{length}
 use borrow.Author.Tests.{not-true, not-false}
-use Rattle.words.specs.Tests.{◌and◌, ◌or◌, ◌if◌else◌, any}
+use Rattle.words.specs.Tests.{◌and◌, ◌or◌, ◌if◌else◌}
 use Rattle.words.specs.Lists.{turns}
 use Rattle.words.proofs.Tests.{either, equal?, never, and_fst, or_fst, or_snd, or_so, any_at, any_some, any_found}
 use Rattle.rules.specs.declared.file.File.{File}

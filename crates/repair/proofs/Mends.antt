@@ -16,7 +16,7 @@ use Rattle.rules.specs.Drive.{good_length, is_empty}
 use Rattle.rules.proofs.Frames.{Same, head_of, empty_same}
 use Rattle.repair.specs.Salvage.{kept, repaired}
 use Rattle.repair.specs.Mends.{FirstByte, MapByte, Mends}
-use Rattle.repair.proofs.Changes.{Gone, Empties, Zeroes, gone_empty, zeroes_empty}
+use Rattle.repair.proofs.Changes.{Gone, Zeroes, gone_empty, zeroes_empty}
 use Rattle.repair.proofs.Emptying.{kept_empties}
 use Rattle.repair.proofs.Cleaning.{good_long, repaired_zeroes, repaired-length}
 

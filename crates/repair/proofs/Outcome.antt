@@ -1,14 +1,14 @@
 -- What the routine answers: 0 exactly where no row applies, and whatever else it answers changes nothing. Assumes nothing.
 use Prim.Native.Nat.{ℕ}
 use mathlib.Core.Path.{◌≡◌, refl, sym, ap, ◌∙◌}
-use mathlib.Core.Bool.{Bool, true, false, not}
+use mathlib.Core.Bool.{Bool, true, false}
 use mathlib.Core.List.{List}
 use mathlib.Core.Logic.{⊎_elim}
 use native.Mathlib.Omega.{arith}
 use lib.ListN.{length, replicate}
 use lib.Dec.{eqb}
 use borrow.Author.Tests.{eq-eqb, ne_eqb, eqb-true, not-false}
-use Rattle.words.specs.Tests.{◌or◌, ◌if◌else◌}
+use Rattle.words.specs.Tests.{◌if◌else◌}
 use Rattle.words.specs.Tables.{first_of, any_row}
 use Rattle.words.proofs.Tests.{either}
 use Rattle.words.proofs.Tables.{none_applies, zero_none, row_off, row_rest, nonzeros}

@@ -8,7 +8,7 @@ use native.Mathlib.Omega.{arith}
 use lib.ListN.{length}
 use lib.Dec.{eqb}
 use borrow.Author.Tests.{eq-eqb, ne_eqb}
-use Rattle.words.specs.Tests.{◌and◌, ◌or◌, ◌if◌else◌, any, count}
+use Rattle.words.specs.Tests.{◌and◌, ◌or◌, ◌if◌else◌, count}
 use Rattle.words.specs.Lists.{turns}
 use Rattle.words.specs.Bytes.{byte}
 use Rattle.words.proofs.Tests.{either, equal?, never, any_ext}

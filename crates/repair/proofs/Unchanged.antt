@@ -5,7 +5,7 @@ use mathlib.Core.Bool.{true, false, not}
 use mathlib.Core.List.{List, ◌∷◌}
 use mathlib.Core.Logic.{⊎_elim}
 use native.Mathlib.Omega.{arith}
-use lib.ListN.{length, replicate}
+use lib.ListN.{replicate}
 use borrow.Author.Tests.{not-true}
 use Rattle.words.specs.Tests.{◌and◌, ◌if◌else◌, all, count}
 use Rattle.words.specs.Lists.{tab, turns}

@@ -9,7 +9,6 @@ use lib.ListN.{length, set}
 use lib.Dec.{eqb}
 use borrow.Author.Rules.{rules}
 use borrow.Author.Tests.{eq-eqb, ne_eqb, not-true, not-false}
-use Rattle.words.specs.Tests.{◌or◌, ◌if◌else◌}
 use Rattle.words.specs.Lists.{tab, turns}
 use Rattle.words.specs.Tables.{first_of}
 use Rattle.words.specs.Hints.{Hints}
@@ -19,7 +18,7 @@ use Rattle.words.proofs.Lists.{filled, filled_turn, turns_more, turns_ends}
 use Rattle.words.proofs.Sets.{if_yes, if_no, and_left, and_both, and_then, or_left, or_then, not_of_true, not_of_false, filled_none, filled_ends}
 use Rattle.rules.specs.declared.kind.Kind.{Kind}
 use Rattle.rules.specs.Kinds.{entries}
-use Rattle.rules.specs.Drive.{is_empty, good_fields, is_repeat, has_first}
+use Rattle.rules.specs.Drive.{is_empty, good_fields, has_first}
 use Rattle.rules.proofs.Frames.{Same, head_of, empty_same, extent_same, file_same}
 use Rattle.index.specs.Slots.{slot_at, in_use}
 use Rattle.index.proofs.Slots.{known_empty}

@@ -10,7 +10,7 @@ use lib.Seq.{get_or-append-add, get_or-drop}
 use lib.Dec.{eqb, leb, ltb}
 use borrow.Author.Rules.{rules}
 use borrow.Author.Tests.{ne_eqb, ltb-true, not-true, not-false}
-use Rattle.words.specs.Tests.{◌and◌, ◌or◌, ◌if◌else◌, any, count}
+use Rattle.words.specs.Tests.{◌and◌, ◌or◌, count}
 use Rattle.words.specs.Lists.{tab, turns}
 use Rattle.words.specs.Bytes.{byte, put, le}
 use Rattle.words.specs.Bits.{is_set, with_bit}
@@ -21,7 +21,7 @@ use Rattle.words.proofs.Sets.{count_more, and_both, and_left, and_right, not_of_
 use Rattle.words.proofs.Bitwise.{set_again}
 use Rattle.rules.specs.declared.kind.Kind.{Kind}
 use Rattle.rules.specs.Kinds.{entries, numbers, most, width}
-use Rattle.rules.specs.Drive.{blocks, map_at, is_empty, map_number, holds_number, names_block, named_before, in_range, is_first}
+use Rattle.rules.specs.Drive.{blocks, map_at, is_empty, map_number, holds_number, names_block, named_before, in_range}
 use Rattle.soundness.proofs.Numbers.{numbered, number_out}
 use Rattle.drive.specs.Marks.{Marks}
 use Rattle.drive.proofs.Marks.{small_none, large_none, marks_skip, marks_set, marks_long, marks_empty, marks_used, first_zero, first_marked, first_unmarked}

@@ -9,7 +9,7 @@ use lib.ListN.{length, take, drop}
 use lib.Dec.{leb, eqb}
 use borrow.Author.Rules.{rules}
 use borrow.Author.Tests.{le-leb, lt-leb}
-use Rattle.words.specs.Tests.{◌and◌, ◌or◌, ◌if◌else◌, any, lowest}
+use Rattle.words.specs.Tests.{◌or◌, ◌if◌else◌, any}
 use Rattle.words.specs.Bytes.{byte, put}
 use Rattle.words.proofs.Tests.{either, any_never, and_false, lowest_none}
 use Rattle.words.proofs.Sets.{answers, not_yes, not_no, alls, any_goes, and_left, and_both, lowest_stops_as, lowest_ends_as, row_none}

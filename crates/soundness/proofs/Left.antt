@@ -13,7 +13,6 @@ use Rattle.words.proofs.AreBytes.{bytes_part}
 use Rattle.rules.specs.declared.kind.Kind.{Kind}
 use Rattle.rules.specs.declared.file.File.{File}
 use Rattle.rules.specs.declared.item.Item.{Item}
-use Rattle.rules.specs.declared.list.LockList.{LockList}
 use Rattle.rules.specs.Serves.{Buffers, Outcome}
 use Rattle.rules.specs.Drive.{free_entry}
 use Rattle.rules.specs.Kinds.{entries}

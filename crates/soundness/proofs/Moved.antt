@@ -1,11 +1,10 @@
 -- A position set leaves the list sound (T-02). Assumes nothing.
 use Prim.Native.Nat.{ℕ, ◌≤◌, ◌<◌}
-use mathlib.Core.Path.{◌≡◌, refl, sym, ap, ◌∙◌}
-use mathlib.Core.Bool.{Bool, true, false}
+use mathlib.Core.Path.{◌≡◌, ◌∙◌}
 use mathlib.Core.List.{List}
 use mathlib.Core.Logic.{◌⊎◌, inl, inr, ⊎_elim}
 use native.Mathlib.Omega.{arith}
-use lib.ListN.{length, set, length-set}
+use lib.ListN.{length-set}
 use lib.Seq.{get_or-set_same, get_or-set_other}
 use Rattle.words.proofs.Tests.{equal?}
 use Rattle.rules.specs.declared.kind.Kind.{Kind}
@@ -13,7 +12,7 @@ use Rattle.rules.specs.declared.item.Item.{Item}
 use Rattle.rules.specs.declared.list.LockList.{LockList}
 use Rattle.rules.specs.Kinds.{entries}
 use Rattle.rules.specs.Locks.{item_at, position_of, moved_to, clash_at, keeps_limits, opens_by, locks_by, is_kind_by_at}
-use Rattle.rules.proofs.SoundList.{Shape, Holder, GoodOpen, GoodLock, Used, Vacant, SoundLocks}
+use Rattle.rules.proofs.SoundList.{Shape, GoodOpen, GoodLock, Used, Vacant, SoundLocks}
 
 module _ (l : LockList) (p e : ℕ) (h : Shape l) where
   -- the process's next entry is then e, every other's what it was

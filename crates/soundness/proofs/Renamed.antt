@@ -17,7 +17,7 @@ use Rattle.words.proofs.Lists.{tab_ext, tab_get_d, tab_at, length-tab}
 use Rattle.words.proofs.Bytes.{put_in, put_out, length-put}
 use Rattle.words.proofs.Sets.{and_both}
 use Rattle.rules.specs.declared.kind.Kind.{Kind}
-use Rattle.rules.specs.Kinds.{entries, numbers, top}
+use Rattle.rules.specs.Kinds.{entries, numbers}
 use Rattle.rules.specs.declared.file.File.{File}
 use Rattle.rules.specs.Drive.{is_empty, name_at, file_from, file_at, extent_at, map_number, is_of, legal_byte, legal_at, legal_name, good_user, good_numbers, good_fields}
 use Rattle.rules.specs.Effects.{low_changed, renamed_at, renamed}

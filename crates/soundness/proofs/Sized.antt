@@ -1,33 +1,27 @@
 -- The size of a file that 35 tells: what makes it rise, and that nothing but the file's own Delete or Rename makes it fall.
 -- Assumes nothing.
-use Prim.Native.Nat.{ℕ, ◌+◌, ◌*◌, ◌/◌, ◌%◌, ◌≤◌, ◌<◌}
+use Prim.Native.Nat.{ℕ, ◌+◌, ◌*◌, ◌≤◌, ◌<◌}
 use mathlib.Core.Path.{◌≡◌, refl, sym, ap, subst, ◌∙◌}
-use mathlib.Core.Bool.{Bool, true, false, not}
+use mathlib.Core.Bool.{true, false}
 use mathlib.Core.List.{List}
-use mathlib.Core.Logic.{◌⊎◌, inl, inr, ⊎_elim}
+use mathlib.Core.Logic.{⊎_elim}
 use native.Mathlib.Omega.{arith}
-use native.Mathlib.Nat.{le_antisymm}
 use lib.ListN.{length}
-use lib.Dec.{leb, ltb}
-use borrow.Author.Tests.{leb-true, leb-false, lt-leb, le-leb, ltb-true, ltb-false, eqb-true}
-use Rattle.words.specs.Tests.{◌and◌, ◌if◌else◌, any}
+use lib.Dec.{leb}
+use borrow.Author.Tests.{leb-true, leb-false, lt-leb, le-leb}
+use Rattle.words.specs.Tests.{◌if◌else◌, any}
 use Rattle.words.specs.Bytes.{byte}
 use Rattle.words.proofs.Tests.{either, equal?, never, and_fst, and_snd, any_found}
 use Rattle.words.proofs.Greatest.{greatest_had, is_so}
 use Rattle.rules.specs.declared.kind.Kind.{Kind}
 use Rattle.rules.specs.declared.file.File.{File}
-use Rattle.rules.specs.declared.routine.Routine.TheVariants.{Delete, Make, Rename, Write, WriteZeros, TestWrite}
-use Rattle.rules.specs.declared.routine.Chosen.TheVariants.{Call}
 use Rattle.rules.specs.Kinds.{entries}
-use Rattle.rules.specs.Serves.{Buffers, Outcome, chosen}
-use Rattle.rules.specs.Drive.{is_empty, extent_at, file_at, is_of, is_entry, entry_of, highest_extent, look_up, missing}
-use Rattle.rules.specs.Asks.{record_of}
-use Rattle.rules.specs.Effects.{size_of, file_size, count_to, made, erased, renamed}
-use Rattle.rules.specs.Call.{call}
+use Rattle.rules.specs.Drive.{extent_at, is_of, is_entry, entry_of, highest_extent, look_up, missing}
+use Rattle.rules.specs.Effects.{size_of, file_size}
 use Rattle.rules.proofs.Sound.{Is, SoundImage, entry_splits, entry_so, found_is}
-use Rattle.rules.proofs.Frames.{Same, count_good, file-of}
+use Rattle.rules.proofs.Frames.{count_good}
 use Rattle.rules.proofs.Highest.{highest_most}
-use Rattle.soundness.proofs.Changes.{Grown, Touches, Theirs}
+use Rattle.soundness.proofs.Changes.{Grown, Touches}
 use Rattle.soundness.proofs.Blocks.{only, found_below, is_grown, kept_forth, is_forth}
 
 -- ---- a file of a sound image

@@ -1,16 +1,14 @@
 -- What calls do to the size of a file. Assumes nothing.
-use Prim.Native.Nat.{ℕ, suc, ◌+◌, ◌*◌, ◌/◌, ◌%◌, ◌≤◌, ◌<◌}
-use mathlib.Core.Path.{◌≡◌, refl, sym, ap, subst, ◌∙◌}
+use Prim.Native.Nat.{ℕ, ◌+◌, ◌*◌, ◌/◌, ◌%◌, ◌≤◌, ◌<◌}
+use mathlib.Core.Path.{◌≡◌, sym, ap, ◌∙◌}
 use mathlib.Core.Bool.{Bool, true, false}
 use mathlib.Core.List.{List}
 use mathlib.Core.Logic.{◌⊎◌, inl, inr, ⊎_elim}
 use native.Mathlib.Omega.{arith}
 use lib.ListN.{length}
-use lib.Dec.{leb}
-use borrow.Author.Tests.{leb-true, leb-false}
 use Rattle.words.specs.Bytes.{byte}
 use Rattle.words.specs.Tables.{any_row}
-use Rattle.words.proofs.Tests.{either, equal?, never}
+use Rattle.words.proofs.Tests.{equal?}
 use Rattle.rules.specs.declared.kind.Kind.{Kind}
 use Rattle.rules.specs.declared.file.File.{File}
 use Rattle.rules.specs.declared.routine.Routine.TheVariants.{Delete, Make, Rename, Write, WriteZeros, TestWrite}
@@ -19,21 +17,21 @@ use Rattle.rules.specs.Kinds.{entries}
 use Rattle.rules.specs.Serves.{Buffers, Outcome, chosen}
 use Rattle.rules.specs.Drive.{is_empty, file_at, entry_of, look_up, free_entry}
 use Rattle.rules.specs.Locks.{user_of}
-use Rattle.rules.specs.Asks.{caller_file, new_file, record_of}
+use Rattle.rules.specs.Asks.{caller_file, record_of}
 use Rattle.rules.specs.Effects.{file_size, count_to, made, renamed, does22, makes, does23, does34, does41}
 use Rattle.rules.specs.Call.{call, rows_call, asked, asked_by, rows_of, effect_of}
 use Rattle.rules.proofs.Passed.{Passed}
 use Rattle.rules.proofs.Sound.{Is, SoundImage}
-use Rattle.rules.proofs.Frames.{Same, head_of, head_back, same_back, is_same, file-of, empty_same, file_same}
+use Rattle.rules.proofs.Frames.{Same, head_of, head_back, is_same, file_same}
 use Rattle.soundness.proofs.Changes.{Touches, Theirs}
-use Rattle.soundness.proofs.Entered.{none_there, made_is, made_count, made_kept}
+use Rattle.soundness.proofs.Entered.{made_is, made_count, made_kept}
 use Rattle.soundness.proofs.Erased.{erased_sound, erased_touches}
 use Rattle.soundness.proofs.Renamed.{renamed_empty, renamed_extent, renamed_count}
-use Rattle.soundness.proofs.Written.{Old, New, Wrote}
+use Rattle.soundness.proofs.Written.{Old, New}
 use Rattle.soundness.proofs.Taken.{caller_long, new_long}
 use Rattle.soundness.proofs.Sized.{of_is, there, size_had, size_least, size_rises, size_grown, size_untouched}
 use Rattle.soundness.proofs.Ends.{image-of, caller_fits, made_of, renamed_of, renamed_touch, renamed_file, written_of}
-use Rattle.soundness.proofs.Leaves.{Leaf, list_of, file_by, new_by, MayMake, MayDelete, MayRename, MayWrite, image_written, refused, reopened, newly_opened}
+use Rattle.soundness.proofs.Leaves.{Leaf, list_of, file_by, new_by, MayMake, MayRename, MayWrite, image_written, refused, reopened, newly_opened}
 use Rattle.soundness.proofs.Leaves.{newly_made, now_closed, now_erased, now_dropped, now_renamed, now_read, now_sized, now_written, now_rewritten, now_locked}
 use Rattle.soundness.proofs.Leaves.{lock_idle, now_unlocked, unlock_idle, now_told, now_ended, now_searched}
 use Rattle.soundness.proofs.Walk.{walk, accepted_as, may_make, may_write, may_rewrite, may_rename, second_full}

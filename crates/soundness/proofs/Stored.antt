@@ -14,7 +14,7 @@ use Rattle.words.proofs.Tests.{either, equal?, never, and_fst, and_snd, any_at, 
 use Rattle.words.proofs.Bytes.{put_out, length-put}
 use Rattle.words.proofs.Sets.{and_both, not_of_false}
 use Rattle.rules.specs.declared.kind.Kind.{Kind}
-use Rattle.rules.specs.Kinds.{entries, numbers, top}
+use Rattle.rules.specs.Kinds.{entries, numbers}
 use Rattle.rules.specs.declared.file.File.{File}
 use Rattle.rules.specs.Drive.{blocks, is_empty, file_at, map_number, good_fields, holds_number, names_block, is_used, is_free}
 use Rattle.rules.proofs.Sound.{Names, Maps, SoundImage, length_long, length_few}

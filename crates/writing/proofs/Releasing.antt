@@ -7,7 +7,7 @@ use mathlib.Core.Logic.{⊎_elim}
 use native.Mathlib.Numerals.{add-one}
 use native.Mathlib.Omega.{arith}
 use lib.ListN.{length}
-use lib.Dec.{eqb, leb}
+use lib.Dec.{leb}
 use borrow.Author.Tests.{eq-eqb, ne_eqb, leb-true, le-leb, ltb-true, not-true}
 use Rattle.words.specs.Tests.{◌and◌, ◌or◌, ◌if◌else◌, all, any}
 use Rattle.words.specs.Bits.{is_set, without_bit}

@@ -1,5 +1,4 @@
 -- `calls::answer::general_refusal` meets its contract.
-use borrow.Author.Rules.{rules}
 use Rattle.calls.proofs.Passing.{is_call, fcb_there, list_there, vector_there}
 use Rattle.calls.proofs.Fives.{table_five, code_long, code_other}
 use Rattle.calls.proofs.answer.general_refusal.Goals as goal

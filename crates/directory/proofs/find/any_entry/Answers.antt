@@ -1,10 +1,5 @@
 -- `directory::find::any_entry` meets its contract.
-use Prim.Native.Nat.{◌-◌, ◌≤◌}
-use mathlib.Core.Path.{◌≡◌}
-use mathlib.Core.Bool.{false}
-use Rattle.words.specs.Tests.{any}
 use Rattle.words.proofs.Sets.{anys}
-use Rattle.rules.specs.Drive.{is_entry}
 use Rattle.directory.proofs.find.any_entry.Goals as goal
 
 pub loop-e-init : goal.loop-e-init

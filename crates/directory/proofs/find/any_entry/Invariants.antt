@@ -3,7 +3,6 @@ use Prim.Native.Nat.{◌-◌, ◌≤◌}
 use mathlib.Core.Path.{◌≡◌}
 use mathlib.Core.Bool.{false}
 use Rattle.words.specs.Tests.{any}
-use Rattle.words.proofs.Sets.{anys}
 use Rattle.rules.specs.Drive.{is_entry}
 use Rattle.directory.proofs.find.any_entry.Given as goal
 

@@ -1,10 +1,6 @@
 -- `directory::find::entry_of` meets its contract.
-use Prim.Native.Nat.{◌-◌, ◌≤◌}
-use mathlib.Core.Path.{◌≡◌}
-use mathlib.Core.Bool.{false}
-use Rattle.words.specs.Tests.{any}
 use Rattle.words.proofs.Sets.{lowests-as}
-use Rattle.rules.specs.Drive.{is_entry, entry_of}
+use Rattle.rules.specs.Drive.{entry_of}
 use Rattle.directory.proofs.find.entry_of.Goals as goal
 
 pub entries-n-requires : goal.entries-n-requires

@@ -3,8 +3,7 @@ use Prim.Native.Nat.{◌-◌, ◌≤◌}
 use mathlib.Core.Path.{◌≡◌}
 use mathlib.Core.Bool.{false}
 use Rattle.words.specs.Tests.{any}
-use Rattle.words.proofs.Sets.{lowests-as}
-use Rattle.rules.specs.Drive.{is_entry, entry_of}
+use Rattle.rules.specs.Drive.{is_entry}
 use Rattle.directory.proofs.find.entry_of.Given as goal
 
 abbrev pub invariant-loop-e : goal.invariant-loop-e

@@ -1,10 +1,6 @@
 -- `directory::find::free_entry` meets its contract.
-use Prim.Native.Nat.{◌-◌, ◌≤◌}
-use mathlib.Core.Path.{◌≡◌}
-use mathlib.Core.Bool.{false}
-use Rattle.words.specs.Tests.{any}
 use Rattle.words.proofs.Sets.{lowests-as}
-use Rattle.rules.specs.Drive.{is_empty, free_entry}
+use Rattle.rules.specs.Drive.{free_entry}
 use Rattle.directory.proofs.find.free_entry.Goals as goal
 
 pub entries-n-requires : goal.entries-n-requires

@@ -1,6 +1,5 @@
 -- `directory::find::look_on` meets its contract.
 use Rattle.directory.proofs.Looking.{looks}
-use borrow.Author.Rules.{rules}
 use Rattle.directory.proofs.find.look_on.Goals as goal
 
 pub returns-then-not-is_of : goal.returns-then-not-is_of

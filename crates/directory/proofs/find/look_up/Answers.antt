@@ -1,7 +1,4 @@
 -- `directory::find::look_up` meets its contract.
-use Prim.Native.Nat.{◌-◌, ◌≤◌}
-use mathlib.Core.Path.{◌≡◌}
-use Rattle.directory.specs.Looking.{found_to}
 use Rattle.directory.proofs.Looking.{look-ups}
 use Rattle.directory.proofs.find.look_up.Goals as goal
 

@@ -2,7 +2,6 @@
 use Prim.Native.Nat.{◌-◌, ◌≤◌}
 use mathlib.Core.Path.{◌≡◌}
 use Rattle.directory.specs.Looking.{found_to}
-use Rattle.directory.proofs.Looking.{look-ups}
 use Rattle.directory.proofs.find.look_up.Given as goal
 
 abbrev pub invariant-loop-e : goal.invariant-loop-e

@@ -1,8 +1,4 @@
 -- `directory::name::eleven_from` meets its contract.
-use Prim.Native.Nat.{◌-◌, ◌≤◌}
-use mathlib.Core.Path.{◌≡◌}
-use Rattle.words.specs.Bytes.{byte_from}
-use Rattle.words.proofs.Lists.{filled}
 use Rattle.words.proofs.Sets.{fills}
 use Rattle.directory.proofs.name.eleven_from.Goals as goal
 

@@ -1,7 +1,4 @@
 -- `directory::name::is_named` meets its contract.
-use Prim.Native.Nat.{◌-◌, ◌≤◌}
-use mathlib.Core.Path.{◌≡◌}
-use Rattle.words.specs.Tests.{all}
 use Rattle.words.proofs.Joined.{joins}
 use Rattle.rules.specs.Drive.{same_low, is_named}
 use Rattle.directory.proofs.name.is_named.Goals as goal

@@ -2,8 +2,7 @@
 use Prim.Native.Nat.{◌-◌, ◌≤◌}
 use mathlib.Core.Path.{◌≡◌}
 use Rattle.words.specs.Tests.{all}
-use Rattle.words.proofs.Joined.{joins}
-use Rattle.rules.specs.Drive.{same_low, is_named}
+use Rattle.rules.specs.Drive.{same_low}
 use Rattle.directory.proofs.name.is_named.Given as goal
 
 abbrev pub invariant-loop-k : goal.invariant-loop-k

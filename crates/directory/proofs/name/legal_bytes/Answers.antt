@@ -1,7 +1,4 @@
 -- `directory::name::legal_bytes` meets its contract.
-use Prim.Native.Nat.{◌-◌, ◌≤◌}
-use mathlib.Core.Path.{◌≡◌}
-use Rattle.words.specs.Tests.{all}
 use Rattle.words.proofs.Joined.{joined_more, joins}
 use Rattle.rules.specs.Drive.{legal_at}
 use Rattle.directory.proofs.name.legal_bytes.Goals as goal

@@ -1,8 +1,4 @@
 -- `directory::name::name_from` meets its contract.
-use Prim.Native.Nat.{◌-◌, ◌≤◌}
-use mathlib.Core.Path.{◌≡◌}
-use Rattle.words.specs.Bytes.{low_from}
-use Rattle.words.proofs.Lists.{filled}
 use Rattle.words.proofs.Sets.{fills}
 use Rattle.directory.proofs.name.name_from.Goals as goal
 

@@ -3,7 +3,6 @@ use Prim.Native.Nat.{◌-◌, ◌≤◌}
 use mathlib.Core.Path.{◌≡◌}
 use Rattle.words.specs.Bytes.{low_from}
 use Rattle.words.proofs.Lists.{filled}
-use Rattle.words.proofs.Sets.{fills}
 use Rattle.directory.proofs.name.name_from.Given as goal
 
 abbrev pub invariant-loop-k : goal.invariant-loop-k

@@ -1,5 +1,4 @@
 -- `directory::run::entry_at` meets its contract.
-use borrow.Author.Rules.{rules}
 use Rattle.directory.proofs.Runs.{known_still}
 use Rattle.directory.proofs.run.entry_at.Goals as goal
 

@@ -1,5 +1,4 @@
 -- `drive::check::directory_answer` meets its contract.
-use borrow.Author.Rules.{rules}
 use Rattle.drive.proofs.Walks.{answering}
 use Rattle.drive.proofs.check.directory_answer.Goals as goal
 

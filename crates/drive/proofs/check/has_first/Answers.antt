@@ -1,5 +1,4 @@
 -- `drive::check::has_first` meets its contract.
-use borrow.Author.Rules.{rules}
 use Rattle.drive.proofs.Walks.{begun_by}
 use Rattle.drive.proofs.check.has_first.Goals as goal
 

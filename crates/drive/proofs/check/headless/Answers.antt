@@ -1,9 +1,4 @@
 -- `drive::check::headless` meets its contract.
-use Prim.Native.Nat.{◌-◌, ◌≤◌}
-use mathlib.Core.Path.{◌≡◌}
-use mathlib.Core.Bool.{false}
-use Rattle.words.specs.Tests.{any}
-use Rattle.rules.specs.Drive.{lacks_first}
 use Rattle.drive.proofs.Begun.{beginning}
 use Rattle.drive.proofs.check.headless.Goals as goal
 

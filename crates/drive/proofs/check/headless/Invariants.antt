@@ -4,7 +4,6 @@ use mathlib.Core.Path.{◌≡◌}
 use mathlib.Core.Bool.{false}
 use Rattle.words.specs.Tests.{any}
 use Rattle.rules.specs.Drive.{lacks_first}
-use Rattle.drive.proofs.Begun.{beginning}
 use Rattle.drive.proofs.check.headless.Given as goal
 
 abbrev pub invariant-loop-e : goal.invariant-loop-e

@@ -1,5 +1,4 @@
 -- `drive::check::is_repeat` meets its contract.
-use borrow.Author.Rules.{rules}
 use Rattle.drive.proofs.Walks.{repeats_by}
 use Rattle.drive.proofs.check.is_repeat.Goals as goal
 

@@ -1,13 +1,4 @@
 -- `drive::check::judge_all` meets its contract.
-use Prim.Native.Nat.{◌-◌, ◌≤◌}
-use mathlib.Core.Path.{◌≡◌}
-use mathlib.Core.Bool.{false}
-use lib.ListN.{length}
-use Rattle.words.specs.Hints.{Hints}
-use Rattle.words.specs.Tests.{any}
-use Rattle.rules.specs.Drive.{is_bad}
-use Rattle.index.specs.Slots.{slot_at, in_use}
-use Rattle.drive.specs.Marks.{Marks}
 use Rattle.drive.proofs.Marks.{entering}
 use Rattle.drive.proofs.check.judge_all.Goals as goal
 

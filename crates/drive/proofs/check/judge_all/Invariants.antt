@@ -8,7 +8,6 @@ use Rattle.words.specs.Tests.{any}
 use Rattle.rules.specs.Drive.{is_bad}
 use Rattle.index.specs.Slots.{slot_at, in_use}
 use Rattle.drive.specs.Marks.{Marks}
-use Rattle.drive.proofs.Marks.{entering}
 use Rattle.drive.proofs.check.judge_all.Given as goal
 
 abbrev pub invariant-loop-e : goal.invariant-loop-e

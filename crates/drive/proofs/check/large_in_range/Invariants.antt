@@ -5,7 +5,6 @@ use mathlib.Core.Bool.{true}
 use Rattle.words.specs.Tests.{all}
 use Rattle.rules.specs.declared.kind.Kind.TheVariants.{Large}
 use Rattle.rules.specs.Drive.{in_range}
-use Rattle.drive.proofs.Marks.{ranging}
 use Rattle.drive.proofs.check.large_in_range.Given as goal
 
 abbrev pub invariant-loop-k : goal.invariant-loop-k

@@ -1,12 +1,4 @@
 -- `drive::check::mark_small` meets its contract.
-use Prim.Native.Nat.{◌-◌, ◌≤◌}
-use mathlib.Core.Path.{◌≡◌}
-use mathlib.Core.Bool.{true}
-use lib.ListN.{length}
-use Rattle.words.specs.Tests.{all}
-use Rattle.rules.specs.declared.kind.Kind.TheVariants.{Small}
-use Rattle.rules.specs.Drive.{is_first}
-use Rattle.drive.specs.Marks.{Marks}
 use Rattle.drive.proofs.Marks.{marking}
 use Rattle.drive.proofs.check.mark_small.Goals as goal
 

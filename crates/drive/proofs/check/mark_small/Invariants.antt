@@ -7,7 +7,6 @@ use Rattle.words.specs.Tests.{all}
 use Rattle.rules.specs.declared.kind.Kind.TheVariants.{Small}
 use Rattle.rules.specs.Drive.{is_first}
 use Rattle.drive.specs.Marks.{Marks}
-use Rattle.drive.proofs.Marks.{marking}
 use Rattle.drive.proofs.check.mark_small.Given as goal
 
 abbrev pub invariant-loop-k : goal.invariant-loop-k

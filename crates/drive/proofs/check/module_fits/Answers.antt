@@ -1,5 +1,4 @@
 -- `drive::check::module_fits` meets its contract.
-use borrow.Author.Rules.{rules}
 use Rattle.words.proofs.Sets.{wides}
 use Rattle.drive.proofs.check.module_fits.Goals as goal
 

@@ -1,10 +1,4 @@
 -- `drive::check::small_in_range` meets its contract.
-use Prim.Native.Nat.{◌-◌, ◌≤◌}
-use mathlib.Core.Path.{◌≡◌}
-use mathlib.Core.Bool.{true}
-use Rattle.words.specs.Tests.{all}
-use Rattle.rules.specs.declared.kind.Kind.TheVariants.{Small}
-use Rattle.rules.specs.Drive.{in_range}
 use Rattle.drive.proofs.Marks.{ranging}
 use Rattle.drive.proofs.check.small_in_range.Goals as goal
 

@@ -1,5 +1,4 @@
 -- `drive::check::sound_marked` meets its contract.
-use borrow.Author.Rules.{rules}
 use Rattle.drive.proofs.Looking.{directory_there, blocks_few}
 use Rattle.drive.proofs.Walks.{surveying}
 use Rattle.drive.proofs.check.sound_marked.Goals as goal

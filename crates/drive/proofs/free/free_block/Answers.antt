@@ -1,5 +1,4 @@
 -- `drive::free::free_block` meets its contract.
-use borrow.Author.Rules.{rules}
 use Rattle.drive.proofs.Marks.{freeing}
 use Rattle.drive.proofs.free.free_block.Goals as goal
 

@@ -1,5 +1,4 @@
 -- `drive::look::look_at` meets its contract.
-use borrow.Author.Rules.{rules}
 use Rattle.drive.proofs.Looking.{look_begins}
 use Rattle.drive.proofs.look.look_at.Goals as goal
 

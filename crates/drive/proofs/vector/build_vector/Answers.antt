@@ -1,5 +1,4 @@
 -- `drive::vector::build_vector` meets its contract.
-use borrow.Author.Rules.{rules}
 use Rattle.drive.proofs.Taken.{building}
 use Rattle.drive.proofs.vector.build_vector.Goals as goal
 

@@ -1,5 +1,4 @@
 -- `drive::vector::sound_vector` meets its contract.
-use borrow.Author.Rules.{rules}
 use Rattle.drive.proofs.Taken.{vectoring}
 use Rattle.drive.proofs.vector.sound_vector.Goals as goal
 

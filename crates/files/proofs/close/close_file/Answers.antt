@@ -1,5 +1,4 @@
 -- `files::close::close_file` meets its contract.
-use borrow.Author.Rules.{rules}
 use Rattle.files.proofs.Opening.{close_refused, close_done}
 use Rattle.files.proofs.close.close_file.Goals as goal
 

@@ -1,5 +1,4 @@
 -- `files::delete::close_where` meets its contract.
-use borrow.Author.Rules.{rules}
 use Rattle.files.proofs.Removing.{where_same, where_closed}
 use Rattle.files.proofs.delete.close_where.Goals as goal
 

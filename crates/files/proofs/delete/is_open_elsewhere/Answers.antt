@@ -1,5 +1,4 @@
 -- `files::delete::is_open_elsewhere` meets its contract.
-use borrow.Author.Rules.{rules}
 use Rattle.files.proofs.Removing.{elsewhere_against}
 use Rattle.files.proofs.delete.is_open_elsewhere.Goals as goal
 

@@ -1,5 +1,4 @@
 -- `files::limit::at_open_limit` meets its contract.
-use borrow.Author.Rules.{rules}
 use Rattle.files.proofs.limit.at_open_limit.Goals as goal
 
 pub returns : goal.returns

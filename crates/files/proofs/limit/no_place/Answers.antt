@@ -1,5 +1,4 @@
 -- `files::limit::no_place` meets its contract.
-use borrow.Author.Rules.{rules}
 use Rattle.files.proofs.limit.no_place.Goals as goal
 
 pub returns : goal.returns

@@ -1,5 +1,4 @@
 -- `files::make::make_file` meets its contract.
-use borrow.Author.Rules.{rules}
 use Rattle.files.proofs.Making.{make_called}
 use Rattle.files.proofs.make.make_file.Goals as goal
 

@@ -1,5 +1,4 @@
 -- `files::make::no_entry` meets its contract.
-use borrow.Author.Rules.{rules}
 use Rattle.files.proofs.make.no_entry.Goals as goal
 
 pub returns : goal.returns

@@ -1,5 +1,4 @@
 -- `files::open::any_against` meets its contract.
-use borrow.Author.Rules.{rules}
 use Rattle.files.proofs.open.any_against.Goals as goal
 
 pub returns : goal.returns

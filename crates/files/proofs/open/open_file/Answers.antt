@@ -1,5 +1,4 @@
 -- `files::open::open_file` meets its contract.
-use borrow.Author.Rules.{rules}
 use Rattle.files.proofs.Opening.{open_called}
 use Rattle.files.proofs.open.open_file.Goals as goal
 

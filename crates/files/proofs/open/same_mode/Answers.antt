@@ -1,5 +1,4 @@
 -- `files::open::same_mode` meets its contract.
-use borrow.Author.Rules.{rules}
 use Rattle.files.proofs.open.same_mode.Goals as goal
 
 pub returns : goal.returns

@@ -1,5 +1,4 @@
 -- `files::rename::illegal_names` meets its contract.
-use borrow.Author.Rules.{rules}
 use Rattle.words.proofs.Sets.{choices}
 use Rattle.files.proofs.rename.illegal_names.Goals as goal
 

@@ -1,5 +1,4 @@
 -- `files::rename::is_there` meets its contract.
-use borrow.Author.Rules.{rules}
 use Rattle.words.proofs.Sets.{not_answer}
 use Rattle.files.proofs.rename.is_there.Goals as goal
 

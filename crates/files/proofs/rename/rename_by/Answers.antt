@@ -1,5 +1,4 @@
 -- `files::rename::rename_by` meets its contract.
-use borrow.Author.Rules.{rules}
 use Rattle.files.proofs.Removing.{rename_refused, rename_done}
 use Rattle.files.proofs.rename.rename_by.Goals as goal
 

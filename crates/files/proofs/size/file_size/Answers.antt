@@ -1,6 +1,5 @@
 -- `files::size::file_size` meets its contract.
 use Rattle.files.proofs.Measured.{size_called}
-use borrow.Author.Rules.{rules}
 use Rattle.files.proofs.size.file_size.Goals as goal
 
 pub returns : goal.returns

@@ -1,5 +1,4 @@
 -- `index::find::entry_below` meets its contract.
-use borrow.Author.Rules.{rules}
 use Rattle.index.proofs.Slots.{finding}
 use Rattle.index.proofs.find.entry_below.Goals as goal
 

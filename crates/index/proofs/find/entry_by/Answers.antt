@@ -1,5 +1,4 @@
 -- `index::find::entry_by` meets its contract.
-use borrow.Author.Rules.{rules}
 use Rattle.index.proofs.Slots.{finding}
 use Rattle.index.proofs.find.entry_by.Goals as goal
 

@@ -1,10 +1,5 @@
 -- `index::find::entry_from` meets its contract.
-use Prim.Native.Nat.{◌-◌, ◌≤◌}
-use mathlib.Core.Path.{◌≡◌}
-use mathlib.Core.Bool.{false}
-use Rattle.words.specs.Tests.{any}
 use Rattle.words.proofs.Sets.{lowests}
-use Rattle.rules.specs.Drive.{is_entry}
 use Rattle.index.proofs.find.entry_from.Goals as goal
 
 pub loop-e-init : goal.loop-e-init

@@ -3,7 +3,6 @@ use Prim.Native.Nat.{◌-◌, ◌≤◌}
 use mathlib.Core.Path.{◌≡◌}
 use mathlib.Core.Bool.{false}
 use Rattle.words.specs.Tests.{any}
-use Rattle.words.proofs.Sets.{lowests}
 use Rattle.rules.specs.Drive.{is_entry}
 use Rattle.index.proofs.find.entry_from.Given as goal
 

@@ -1,12 +1,5 @@
 -- `listcheck::apart::all_apart` meets its contract.
-use Prim.Native.Nat.{◌+◌, ◌-◌, ◌≤◌, ◌<◌}
 use borrow.Author.Rules.{rules}
-use mathlib.Core.Path.{◌≡◌}
-use mathlib.Core.Bool.{true, false}
-use Rattle.words.specs.Tests.{all, any}
-use Rattle.words.specs.Hints.{Hints}
-use Rattle.rules.specs.Locks.{item_at, unpack, clash_at, is_apart}
-use Rattle.listcheck.specs.Check.{item_slot_at, is_item}
 use Rattle.listcheck.proofs.Clashes.{knowing}
 use Rattle.listcheck.proofs.Checks.{aparts, kinds_go, files_go}
 use Rattle.listcheck.proofs.apart.all_apart.Goals as goal

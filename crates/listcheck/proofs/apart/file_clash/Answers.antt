@@ -1,5 +1,4 @@
 -- `listcheck::apart::file_clash` meets its contract.
-use borrow.Author.Rules.{rules}
 use Rattle.listcheck.proofs.Checks.{clashing}
 use Rattle.listcheck.proofs.apart.file_clash.Goals as goal
 

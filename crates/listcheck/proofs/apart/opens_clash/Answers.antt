@@ -1,5 +1,4 @@
 -- `listcheck::apart::opens_clash` meets its contract.
-use borrow.Author.Rules.{rules}
 use Rattle.words.proofs.Sets.{choices}
 use Rattle.listcheck.proofs.apart.opens_clash.Goals as goal
 

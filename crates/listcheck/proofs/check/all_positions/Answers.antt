@@ -1,8 +1,4 @@
 -- `listcheck::check::all_positions` meets its contract.
-use Prim.Native.Nat.{◌-◌, ◌≤◌}
-use mathlib.Core.Path.{◌≡◌}
-use mathlib.Core.Bool.{true}
-use Rattle.words.specs.Tests.{all}
 use Rattle.words.proofs.Sets.{alls}
 use Rattle.rules.specs.Locks.{is_position}
 use Rattle.listcheck.proofs.check.all_positions.Goals as goal

@@ -1,9 +1,4 @@
 -- `listcheck::check::all_zero` meets its contract.
-use Prim.Native.Nat.{◌-◌, ◌≤◌}
-use mathlib.Core.Path.{◌≡◌}
-use mathlib.Core.Bool.{true}
-use Rattle.words.specs.Tests.{all}
-use Rattle.rules.specs.Locks.{zero_at}
 use Rattle.listcheck.proofs.Checks.{zeros}
 use Rattle.listcheck.proofs.check.all_zero.Goals as goal
 

@@ -4,7 +4,6 @@ use mathlib.Core.Path.{◌≡◌}
 use mathlib.Core.Bool.{true}
 use Rattle.words.specs.Tests.{all}
 use Rattle.rules.specs.Locks.{zero_at}
-use Rattle.listcheck.proofs.Checks.{zeros}
 use Rattle.listcheck.proofs.check.all_zero.Given as goal
 
 abbrev pub invariant-loop-i : goal.invariant-loop-i

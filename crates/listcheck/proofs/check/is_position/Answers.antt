@@ -1,5 +1,4 @@
 -- `listcheck::check::is_position` meets its contract.
-use borrow.Author.Rules.{rules}
 use Rattle.words.proofs.Sets.{wides}
 use Rattle.listcheck.proofs.check.is_position.Goals as goal
 

@@ -1,10 +1,4 @@
 -- `listcheck::check::locks_opened` meets its contract.
-use Prim.Native.Nat.{◌-◌, ◌≤◌, ◌<◌}
-use mathlib.Core.Path.{◌≡◌}
-use mathlib.Core.Bool.{true, false}
-use Rattle.words.specs.Tests.{all, any}
-use Rattle.rules.specs.Locks.{item_at, unpack, opens_name_at}
-use Rattle.listcheck.specs.Check.{lock_opened_at}
 use Rattle.listcheck.proofs.Checks.{opens}
 use Rattle.listcheck.proofs.check.locks_opened.Goals as goal
 

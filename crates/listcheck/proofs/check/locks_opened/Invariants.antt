@@ -5,7 +5,6 @@ use mathlib.Core.Bool.{true, false}
 use Rattle.words.specs.Tests.{all, any}
 use Rattle.rules.specs.Locks.{item_at, unpack, opens_name_at}
 use Rattle.listcheck.specs.Check.{lock_opened_at}
-use Rattle.listcheck.proofs.Checks.{opens}
 use Rattle.listcheck.proofs.check.locks_opened.Given as goal
 
 abbrev pub invariant-loop-o : goal.invariant-loop-o

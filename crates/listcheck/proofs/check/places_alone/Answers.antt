@@ -1,10 +1,4 @@
 -- `listcheck::check::places_alone` meets its contract.
-use Prim.Native.Nat.{◌-◌, ◌≤◌}
-use mathlib.Core.Path.{◌≡◌}
-use mathlib.Core.Bool.{true}
-use Rattle.words.specs.Tests.{all}
-use Rattle.rules.specs.Locks.{unpack}
-use Rattle.listcheck.specs.Check.{place_alone_at}
 use Rattle.listcheck.proofs.Checks.{alones}
 use Rattle.listcheck.proofs.check.places_alone.Goals as goal
 

@@ -5,7 +5,6 @@ use mathlib.Core.Bool.{true}
 use Rattle.words.specs.Tests.{all}
 use Rattle.rules.specs.Locks.{unpack}
 use Rattle.listcheck.specs.Check.{place_alone_at}
-use Rattle.listcheck.proofs.Checks.{alones}
 use Rattle.listcheck.proofs.check.places_alone.Given as goal
 
 abbrev pub invariant-loop-i : goal.invariant-loop-i

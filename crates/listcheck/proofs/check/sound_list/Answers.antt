@@ -1,5 +1,4 @@
 -- `listcheck::check::sound_list` meets its contract.
-use borrow.Author.Rules.{rules}
 use Rattle.words.proofs.Sets.{and_first, and_then, answers}
 use Rattle.listcheck.proofs.Checks.{sounds, sound_fourth, sound_after}
 use Rattle.listcheck.proofs.check.sound_list.Goals as goal

@@ -1,10 +1,4 @@
 -- `listcheck::limits::all_at_most` meets its contract.
-use Prim.Native.Nat.{◌-◌, ◌≤◌}
-use mathlib.Core.Path.{◌≡◌}
-use mathlib.Core.Bool.{true}
-use Rattle.words.specs.Tests.{all}
-use Rattle.words.proofs.Sets.{counts}
-use Rattle.listcheck.specs.Check.{at_most}
 use Rattle.listcheck.proofs.Tallies.{mosts}
 use Rattle.listcheck.proofs.limits.all_at_most.Goals as goal
 

@@ -3,9 +3,7 @@ use Prim.Native.Nat.{◌-◌, ◌≤◌}
 use mathlib.Core.Path.{◌≡◌}
 use mathlib.Core.Bool.{true}
 use Rattle.words.specs.Tests.{all}
-use Rattle.words.proofs.Sets.{counts}
 use Rattle.listcheck.specs.Check.{at_most}
-use Rattle.listcheck.proofs.Tallies.{mosts}
 use Rattle.listcheck.proofs.limits.all_at_most.Given as goal
 
 abbrev pub invariant-loop-p : goal.invariant-loop-p

@@ -1,8 +1,5 @@
 -- `listcheck::limits::all_keep` meets its contract.
-use Prim.Native.Nat.{◌-◌, ◌≤◌}
 use borrow.Author.Rules.{rules}
-use Rattle.rules.specs.Locks.{unpack}
-use Rattle.listcheck.specs.Check.{Tally}
 use Rattle.listcheck.proofs.Tallies.{tallies, tally_fits, limits}
 use Rattle.listcheck.proofs.limits.all_keep.Goals as goal
 

@@ -1,5 +1,4 @@
 -- `listcheck::place::file_by` meets its contract.
-use borrow.Author.Rules.{rules}
 use Rattle.listcheck.proofs.place.file_by.Goals as goal
 
 pub returns : goal.returns

@@ -1,5 +1,4 @@
 -- `listcheck::place::kind_alone` meets its contract.
-use borrow.Author.Rules.{rules}
 use Rattle.words.proofs.Sets.{choices}
 use Rattle.listcheck.proofs.place.kind_alone.Goals as goal
 

@@ -1,8 +1,4 @@
 -- `listcheck::place::zero_name` meets its contract.
-use Prim.Native.Nat.{◌-◌, ◌≤◌}
-use mathlib.Core.Path.{◌≡◌}
-use mathlib.Core.Bool.{true}
-use Rattle.words.specs.Tests.{all}
 use Rattle.words.specs.Bytes.{is_zero}
 use Rattle.words.proofs.Sets.{alls}
 use Rattle.listcheck.proofs.place.zero_name.Goals as goal

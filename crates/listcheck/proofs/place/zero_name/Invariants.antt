@@ -4,7 +4,6 @@ use mathlib.Core.Path.{◌≡◌}
 use mathlib.Core.Bool.{true}
 use Rattle.words.specs.Tests.{all}
 use Rattle.words.specs.Bytes.{is_zero}
-use Rattle.words.proofs.Sets.{alls}
 use Rattle.listcheck.proofs.place.zero_name.Given as goal
 
 abbrev pub invariant-loop-k : goal.invariant-loop-k

@@ -1,5 +1,4 @@
 -- `locking::lock::lock_by` meets its contract.
-use borrow.Author.Rules.{rules}
 use Rattle.locking.proofs.Locking.{lock_refused, lock_passed, lock_done}
 use Rattle.locking.proofs.lock.lock_by.Goals as goal
 

@@ -1,5 +1,4 @@
 -- `locking::run::any_others` meets its contract.
-use borrow.Author.Rules.{rules}
 use Rattle.words.proofs.Sets.{lowest-any}
 use Rattle.locking.proofs.run.any_others.Goals as goal
 

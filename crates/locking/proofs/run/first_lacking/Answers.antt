@@ -1,13 +1,8 @@
 -- `locking::run::first_lacking` meets its contract.
-use Prim.Native.Nat.{◌-◌, ◌≤◌}
-use mathlib.Core.Path.{◌≡◌}
-use mathlib.Core.Bool.{false}
 use borrow.Author.Rules.{rules}
 use borrow.Author.Tests.{eq-eqb, ne_eqb}
-use Rattle.words.specs.Tests.{any}
 use Rattle.words.proofs.Sets.{is_no, any_goes, lowests}
-use Rattle.rules.specs.Codes.{lacks, first_lacking}
-use Rattle.directory.specs.Runs.{Known}
+use Rattle.rules.specs.Codes.{first_lacking}
 use Rattle.directory.proofs.Runs.{known_none, known_more}
 use Rattle.locking.proofs.Locking.{lacks_by}
 use Rattle.locking.proofs.run.first_lacking.Goals as goal

@@ -1,5 +1,4 @@
 -- `locking::run::lacking` meets its contract.
-use borrow.Author.Rules.{rules}
 use Rattle.locking.proofs.run.lacking.Goals as goal
 
 pub returns : goal.returns

@@ -1,5 +1,4 @@
 -- `locking::unlock::unlock_by` meets its contract.
-use borrow.Author.Rules.{rules}
 use Rattle.locking.proofs.Locking.{unlock_refused, unlock_passed, unlock_done}
 use Rattle.locking.proofs.unlock.unlock_by.Goals as goal
 

@@ -1,5 +1,4 @@
 -- `locking::unlock::unlock_records` meets its contract.
-use borrow.Author.Rules.{rules}
 use Rattle.locking.proofs.Locking.{unlock_called}
 use Rattle.locking.proofs.unlock.unlock_records.Goals as goal
 

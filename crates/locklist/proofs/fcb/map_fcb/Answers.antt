@@ -1,5 +1,4 @@
 -- `locklist::fcb::map_fcb` meets its contract.
-use borrow.Author.Rules.{rules}
 use Rattle.locklist.proofs.Fcbs.{fcb-mapped}
 use Rattle.locklist.proofs.fcb.map_fcb.Goals as goal
 

@@ -2,9 +2,7 @@
 use Prim.Native.Nat.{◌-◌, ◌≤◌}
 use mathlib.Core.Path.{◌≡◌}
 use mathlib.Core.Bool.{true}
-use borrow.Author.Tests.{lt-leb, le-leb}
 use Rattle.words.specs.Tests.{all}
-use Rattle.words.proofs.Sets.{alls}
 use Rattle.rules.specs.Locks.{is_user}
 use Rattle.locklist.proofs.limit.all_users.Given as goal
 

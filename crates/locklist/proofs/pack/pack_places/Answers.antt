@@ -1,6 +1,4 @@
 -- `locklist::pack::pack_places` meets its contract.
-use Prim.Native.Nat.{◌-◌, ◌≤◌}
-use Rattle.locklist.specs.Heads.{Packed}
 use Rattle.locklist.proofs.Packs.{packs}
 use Rattle.locklist.proofs.pack.pack_places.Goals as goal
 

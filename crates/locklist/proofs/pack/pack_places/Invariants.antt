@@ -1,7 +1,6 @@
 -- `locklist::pack::pack_places` meets its contract.
 use Prim.Native.Nat.{◌-◌, ◌≤◌}
 use Rattle.locklist.specs.Heads.{Packed}
-use Rattle.locklist.proofs.Packs.{packs}
 use Rattle.locklist.proofs.pack.pack_places.Given as goal
 
 abbrev pub invariant-loop-i : goal.invariant-loop-i

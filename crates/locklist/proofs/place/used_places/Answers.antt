@@ -1,6 +1,4 @@
 -- `locklist::place::used_places` meets its contract.
-use Prim.Native.Nat.{◌≤◌}
-use Rattle.locklist.specs.Places.{Unused}
 use Rattle.locklist.proofs.Places.{halving}
 use Rattle.locklist.proofs.place.used_places.Goals as goal
 

@@ -1,7 +1,6 @@
 -- `locklist::place::used_places` meets its contract.
 use Prim.Native.Nat.{◌≤◌}
 use Rattle.locklist.specs.Places.{Unused}
-use Rattle.locklist.proofs.Places.{halving}
 use Rattle.locklist.proofs.place.used_places.Given as goal
 
 abbrev pub invariant-loop-n : goal.invariant-loop-n

@@ -1,5 +1,4 @@
 -- `locklist::start::bad_rule` meets its contract.
-use borrow.Author.Rules.{rules}
 use Rattle.locklist.proofs.Starts.{bads}
 use Rattle.locklist.proofs.start.bad_rule.Goals as goal
 

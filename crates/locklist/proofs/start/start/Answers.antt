@@ -1,5 +1,4 @@
 -- `locklist::start::start` meets its contract.
-use borrow.Author.Rules.{rules}
 use Rattle.locklist.proofs.Starts.{starts}
 use Rattle.locklist.proofs.start.start.Goals as goal
 

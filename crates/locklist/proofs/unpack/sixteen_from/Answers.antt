@@ -1,9 +1,4 @@
 -- `locklist::unpack::sixteen_from` meets its contract.
-use Prim.Native.Nat.{◌-◌, ◌≤◌}
-use mathlib.Core.Path.{◌≡◌}
-use lib.ListN.{length}
-use Rattle.words.specs.Bytes.{byte_from}
-use Rattle.words.proofs.Lists.{filled}
 use Rattle.words.proofs.Sets.{fills}
 use Rattle.locklist.proofs.unpack.sixteen_from.Goals as goal
 

@@ -4,7 +4,6 @@ use mathlib.Core.Path.{◌≡◌}
 use lib.ListN.{length}
 use Rattle.words.specs.Bytes.{byte_from}
 use Rattle.words.proofs.Lists.{filled}
-use Rattle.words.proofs.Sets.{fills}
 use Rattle.locklist.proofs.unpack.sixteen_from.Given as goal
 
 abbrev pub invariant-loop-i : goal.invariant-loop-i

@@ -1,6 +1,5 @@
 -- `locklist::unpack::unpack` meets its contract.
-use Prim.Native.Nat.{◌-◌, ◌≤◌}
-use Rattle.locklist.proofs.Packs.{Placed, placing, placed_more}
+use Rattle.locklist.proofs.Packs.{placing, placed_more}
 use Rattle.locklist.proofs.unpack.unpack.Goals as goal
 
 pub sixteen_from-users-requires : goal.sixteen_from-users-requires

@@ -1,6 +1,6 @@
 -- `locklist::unpack::unpack` meets its contract.
 use Prim.Native.Nat.{◌-◌, ◌≤◌}
-use Rattle.locklist.proofs.Packs.{Placed, placing, placed_more}
+use Rattle.locklist.proofs.Packs.{Placed}
 use Rattle.locklist.proofs.unpack.unpack.Given as goal
 
 abbrev pub invariant-loop-i : goal.invariant-loop-i

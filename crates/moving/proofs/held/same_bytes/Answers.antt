@@ -1,10 +1,6 @@
 -- `moving::held::same_bytes` meets its contract.
-use Prim.Native.Nat.{◌-◌, ◌≤◌}
-use mathlib.Core.Path.{◌≡◌}
-use Rattle.words.specs.Tests.{all}
 use Rattle.words.proofs.Joined.{joins}
 use Rattle.packing.specs.Same.{same_byte}
-use Rattle.rules.proofs.Frames.{first}
 use Rattle.moving.proofs.held.same_bytes.Goals as goal
 
 pub loop-i-init : goal.loop-i-init

@@ -2,9 +2,7 @@
 use Prim.Native.Nat.{◌-◌, ◌≤◌}
 use mathlib.Core.Path.{◌≡◌}
 use Rattle.words.specs.Tests.{all}
-use Rattle.words.proofs.Joined.{joins}
 use Rattle.packing.specs.Same.{same_byte}
-use Rattle.rules.proofs.Frames.{first}
 use Rattle.moving.proofs.held.same_bytes.Given as goal
 
 abbrev pub invariant-loop-i : goal.invariant-loop-i

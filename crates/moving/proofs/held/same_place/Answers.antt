@@ -1,5 +1,4 @@
 -- `moving::held::same_place` meets its contract.
-use borrow.Author.Rules.{rules}
 use Rattle.moving.proofs.Fits.{placing}
 use Rattle.moving.proofs.held.same_place.Goals as goal
 

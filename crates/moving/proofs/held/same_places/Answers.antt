@@ -1,11 +1,5 @@
 -- `moving::held::same_places` meets its contract.
-use Prim.Native.Nat.{◌-◌, ◌≤◌}
-use mathlib.Core.Path.{◌≡◌}
-use mathlib.Core.Bool.{true}
-use Rattle.words.specs.Tests.{all}
 use Rattle.words.proofs.Sets.{alls-as}
-use Rattle.rules.proofs.Frames.{first}
-use Rattle.packing.specs.Same.{same_place}
 use Rattle.moving.proofs.held.same_places.Goals as goal
 
 pub numbers-m-requires : goal.numbers-m-requires

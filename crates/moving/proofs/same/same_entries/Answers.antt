@@ -1,11 +1,5 @@
 -- `moving::same::same_entries` meets its contract.
-use Prim.Native.Nat.{◌-◌, ◌≤◌}
-use mathlib.Core.Path.{◌≡◌}
-use mathlib.Core.Bool.{true}
-use Rattle.words.specs.Tests.{all}
 use Rattle.words.proofs.Sets.{alls-as}
-use Rattle.rules.proofs.Frames.{first}
-use Rattle.packing.specs.Same.{same_entry}
 use Rattle.moving.proofs.same.same_entries.Goals as goal
 
 pub entries-n-requires : goal.entries-n-requires

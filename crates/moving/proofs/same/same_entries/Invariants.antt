@@ -3,8 +3,6 @@ use Prim.Native.Nat.{◌-◌, ◌≤◌}
 use mathlib.Core.Path.{◌≡◌}
 use mathlib.Core.Bool.{true}
 use Rattle.words.specs.Tests.{all}
-use Rattle.words.proofs.Sets.{alls-as}
-use Rattle.rules.proofs.Frames.{first}
 use Rattle.packing.specs.Same.{same_entry}
 use Rattle.moving.proofs.same.same_entries.Given as goal
 

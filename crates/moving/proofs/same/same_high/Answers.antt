@@ -1,9 +1,5 @@
 -- `moving::same::same_high` meets its contract.
-use Prim.Native.Nat.{◌-◌, ◌≤◌}
-use mathlib.Core.Path.{◌≡◌}
-use Rattle.words.specs.Tests.{all}
 use Rattle.words.proofs.Joined.{joins}
-use Rattle.rules.proofs.Frames.{first}
 use Rattle.packing.specs.Same.{same_high}
 use Rattle.moving.proofs.same.same_high.Goals as goal
 

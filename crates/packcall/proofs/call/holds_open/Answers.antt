@@ -1,9 +1,5 @@
 -- `packcall::call::holds_open` meets its contract.
-use Prim.Native.Nat.{◌-◌, ◌≤◌}
-use mathlib.Core.Path.{◌≡◌}
-use mathlib.Core.Bool.{false}
 use borrow.Author.Tests.{eq-eqb, ne_eqb}
-use Rattle.words.specs.Tests.{any}
 use Rattle.words.proofs.Sets.{anys}
 use Rattle.packing.specs.Packs.{is_open_at, holds_open}
 use Rattle.packcall.proofs.call.holds_open.Goals as goal

@@ -1,5 +1,4 @@
 -- `packcall::call::pack` meets its contract.
-use borrow.Author.Rules.{rules}
 use Rattle.packcall.proofs.Calling.{ending}
 use Rattle.packcall.proofs.call.pack.Goals as goal
 

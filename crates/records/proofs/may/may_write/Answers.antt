@@ -1,5 +1,4 @@
 -- `records::may::may_write` meets its contract.
-use borrow.Author.Rules.{rules}
 use Rattle.records.proofs.Writing.{may_told}
 use Rattle.records.proofs.may.may_write.Goals as goal
 

@@ -1,5 +1,4 @@
 -- `records::may::write_stopped` meets its contract.
-use borrow.Author.Rules.{rules}
 use Rattle.words.proofs.Sets.{choices}
 use Rattle.records.proofs.may.write_stopped.Goals as goal
 

@@ -1,5 +1,4 @@
 -- `records::read::read_random` meets its contract.
-use borrow.Author.Rules.{rules}
 use Rattle.records.proofs.Reading.{read_called}
 use Rattle.records.proofs.read.read_random.Goals as goal
 

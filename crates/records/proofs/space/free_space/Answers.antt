@@ -1,5 +1,4 @@
 -- `records::space::free_space` meets its contract.
-use borrow.Author.Rules.{rules}
 use Rattle.records.proofs.Testing.{space_done}
 use Rattle.records.proofs.space.free_space.Goals as goal
 

@@ -1,10 +1,5 @@
 -- `records::test::any_differs` meets its contract.
-use Prim.Native.Nat.{◌-◌, ◌≤◌}
-use mathlib.Core.Path.{◌≡◌}
-use mathlib.Core.Bool.{false}
-use Rattle.words.specs.Tests.{any}
 use Rattle.words.proofs.Sets.{anys}
-use Rattle.rules.specs.Codes.{differs}
 use Rattle.records.proofs.Testing.{same_byte, other_byte}
 use Rattle.records.proofs.test.any_differs.Goals as goal
 

@@ -1,5 +1,4 @@
 -- `records::write::write_by` meets its contract.
-use borrow.Author.Rules.{rules}
 use native.Mathlib.Omega.{arith}
 use Rattle.records.proofs.Writing.{write_ended}
 use Rattle.records.proofs.Marking.{one_vector}

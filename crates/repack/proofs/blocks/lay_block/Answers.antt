@@ -1,5 +1,4 @@
 -- `repack::blocks::lay_block` meets its contract.
-use borrow.Author.Rules.{rules}
 use Rattle.repack.proofs.Laying.{copying}
 use Rattle.repack.proofs.blocks.lay_block.Goals as goal
 

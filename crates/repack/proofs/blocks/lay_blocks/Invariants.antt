@@ -2,10 +2,8 @@
 use Prim.Native.Nat.{◌-◌, ◌*◌, ◌≤◌}
 use mathlib.Core.Path.{◌≡◌}
 use lib.ListN.{length}
-use borrow.Author.Rules.{rules}
 use Rattle.rules.specs.Kinds.{numbers}
 use Rattle.repack.specs.Laying.{LaidBlocks}
-use Rattle.repack.proofs.Laying.{walking}
 use Rattle.repack.proofs.blocks.lay_blocks.Given as goal
 
 abbrev pub invariant-loop-e : goal.invariant-loop-e

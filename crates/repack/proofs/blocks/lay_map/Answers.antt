@@ -1,10 +1,5 @@
 -- `repack::blocks::lay_map` meets its contract.
-use Prim.Native.Nat.{◌+◌, ◌-◌, ◌*◌, ◌≤◌}
-use mathlib.Core.Path.{◌≡◌}
-use lib.ListN.{length}
 use borrow.Author.Rules.{rules}
-use Rattle.rules.specs.Kinds.{numbers}
-use Rattle.repack.specs.Laying.{LaidBlocks}
 use Rattle.repack.proofs.Laying.{walking}
 use Rattle.repack.proofs.blocks.lay_map.Goals as goal
 

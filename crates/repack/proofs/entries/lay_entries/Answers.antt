@@ -1,9 +1,5 @@
 -- `repack::entries::lay_entries` meets its contract.
-use Prim.Native.Nat.{◌-◌, ◌≤◌}
-use mathlib.Core.Path.{◌≡◌}
-use lib.ListN.{length}
 use borrow.Author.Rules.{rules}
-use Rattle.repack.specs.Laying.{LaidEntries}
 use Rattle.repack.proofs.Laying.{laying, entries_turn}
 use Rattle.repack.proofs.entries.lay_entries.Goals as goal
 

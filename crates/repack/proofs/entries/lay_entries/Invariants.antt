@@ -2,9 +2,7 @@
 use Prim.Native.Nat.{◌-◌, ◌≤◌}
 use mathlib.Core.Path.{◌≡◌}
 use lib.ListN.{length}
-use borrow.Author.Rules.{rules}
 use Rattle.repack.specs.Laying.{LaidEntries}
-use Rattle.repack.proofs.Laying.{laying, entries_turn}
 use Rattle.repack.proofs.entries.lay_entries.Given as goal
 
 abbrev pub invariant-loop-e : goal.invariant-loop-e

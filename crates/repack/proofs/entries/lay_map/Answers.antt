@@ -1,9 +1,5 @@
 -- `repack::entries::lay_map` meets its contract.
-use Prim.Native.Nat.{◌+◌, ◌-◌, ◌*◌, ◌≤◌}
-use mathlib.Core.Path.{◌≡◌}
-use lib.ListN.{length}
 use borrow.Author.Rules.{rules}
-use Rattle.repack.specs.Laying.{LaidPlaces}
 use Rattle.repack.proofs.Laying.{mapping, places_more}
 use Rattle.repack.proofs.entries.lay_map.Goals as goal
 

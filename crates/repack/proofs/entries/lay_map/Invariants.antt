@@ -2,9 +2,7 @@
 use Prim.Native.Nat.{◌+◌, ◌-◌, ◌*◌, ◌≤◌}
 use mathlib.Core.Path.{◌≡◌}
 use lib.ListN.{length}
-use borrow.Author.Rules.{rules}
 use Rattle.repack.specs.Laying.{LaidPlaces}
-use Rattle.repack.proofs.Laying.{mapping, places_more}
 use Rattle.repack.proofs.entries.lay_map.Given as goal
 
 abbrev pub invariant-loop-k : goal.invariant-loop-k

@@ -1,11 +1,4 @@
 -- `salvage::empty::begin` meets its contract.
-use Prim.Native.Nat.{◌-◌, ◌≤◌}
-use mathlib.Core.Path.{◌≡◌}
-use lib.ListN.{length}
-use Rattle.words.specs.Lists.{turns}
-use Rattle.rules.specs.Kinds.{entries}
-use Rattle.repair.specs.Salvage.{begun_at}
-use Rattle.salvage.specs.Passes.{Known}
 use Rattle.salvage.proofs.Emptied.{emptying}
 use Rattle.salvage.proofs.empty.begin.Goals as goal
 

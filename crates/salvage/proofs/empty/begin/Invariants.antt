@@ -6,7 +6,6 @@ use Rattle.words.specs.Lists.{turns}
 use Rattle.rules.specs.Kinds.{entries}
 use Rattle.repair.specs.Salvage.{begun_at}
 use Rattle.salvage.specs.Passes.{Known}
-use Rattle.salvage.proofs.Emptied.{emptying}
 use Rattle.salvage.proofs.empty.begin.Given as goal
 
 abbrev pub invariant-loop-e : goal.invariant-loop-e

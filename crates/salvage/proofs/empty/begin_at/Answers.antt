@@ -1,5 +1,4 @@
 -- `salvage::empty::begin_at` meets its contract.
-use borrow.Author.Rules.{rules}
 use Rattle.salvage.proofs.Emptied.{turning-out}
 use Rattle.salvage.proofs.empty.begin_at.Goals as goal
 

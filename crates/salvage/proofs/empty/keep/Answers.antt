@@ -1,5 +1,4 @@
 -- `salvage::empty::keep` meets its contract.
-use borrow.Author.Rules.{rules}
 use Rattle.salvage.proofs.Emptied.{keeping}
 use Rattle.salvage.proofs.empty.keep.Goals as goal
 

@@ -1,5 +1,4 @@
 -- `salvage::empty::must_go` meets its contract.
-use borrow.Author.Rules.{rules}
 use Rattle.salvage.proofs.Emptied.{choosing}
 use Rattle.salvage.proofs.empty.must_go.Goals as goal
 

@@ -1,9 +1,4 @@
 -- `salvage::empty::note_used` meets its contract.
-use Prim.Native.Nat.{◌-◌, ◌≤◌}
-use mathlib.Core.Path.{◌≡◌}
-use lib.ListN.{length}
-use Rattle.words.proofs.Lists.{filled}
-use Rattle.repair.specs.Salvage.{emptied_told}
 use Rattle.salvage.proofs.Emptied.{noting-used}
 use Rattle.salvage.proofs.empty.note_used.Goals as goal
 

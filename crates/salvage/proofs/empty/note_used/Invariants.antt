@@ -4,7 +4,6 @@ use mathlib.Core.Path.{◌≡◌}
 use lib.ListN.{length}
 use Rattle.words.proofs.Lists.{filled}
 use Rattle.repair.specs.Salvage.{emptied_told}
-use Rattle.salvage.proofs.Emptied.{noting-used}
 use Rattle.salvage.proofs.empty.note_used.Given as goal
 
 abbrev pub invariant-loop-e : goal.invariant-loop-e

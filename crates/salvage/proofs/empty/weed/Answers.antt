@@ -1,10 +1,4 @@
 -- `salvage::empty::weed` meets its contract.
-use Prim.Native.Nat.{◌-◌, ◌≤◌}
-use mathlib.Core.Path.{◌≡◌}
-use lib.ListN.{length}
-use Rattle.words.specs.Lists.{turns}
-use Rattle.repair.specs.Salvage.{weeded_at}
-use Rattle.salvage.specs.Passes.{Known}
 use Rattle.salvage.proofs.Emptied.{emptying}
 use Rattle.salvage.proofs.empty.weed.Goals as goal
 

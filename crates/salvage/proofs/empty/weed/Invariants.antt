@@ -5,7 +5,6 @@ use lib.ListN.{length}
 use Rattle.words.specs.Lists.{turns}
 use Rattle.repair.specs.Salvage.{weeded_at}
 use Rattle.salvage.specs.Passes.{Known}
-use Rattle.salvage.proofs.Emptied.{emptying}
 use Rattle.salvage.proofs.empty.weed.Given as goal
 
 abbrev pub invariant-loop-e : goal.invariant-loop-e

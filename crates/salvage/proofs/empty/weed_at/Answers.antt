@@ -1,5 +1,4 @@
 -- `salvage::empty::weed_at` meets its contract.
-use borrow.Author.Rules.{rules}
 use Rattle.salvage.proofs.Emptied.{turning-out}
 use Rattle.salvage.proofs.empty.weed_at.Goals as goal
 

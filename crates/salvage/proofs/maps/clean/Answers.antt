@@ -1,5 +1,4 @@
 -- `salvage::maps::clean` meets its contract.
-use borrow.Author.Rules.{rules}
 use Rattle.salvage.proofs.Zeroed.{arms}
 use Rattle.salvage.proofs.maps.clean.Goals as goal
 

@@ -1,9 +1,6 @@
 -- `salvage::maps::clean_all` meets its contract.
-use Prim.Native.Nat.{◌-◌, ◌≤◌}
-use mathlib.Core.Path.{◌≡◌}
-use lib.ListN.{length}
 use borrow.Author.Rules.{rules}
-use Rattle.salvage.proofs.Zeroed.{Cleaning, cleaning, cleaning-turns}
+use Rattle.salvage.proofs.Zeroed.{cleaning, cleaning-turns}
 use Rattle.salvage.proofs.maps.clean_all.Goals as goal
 
 pub entries-n-requires : goal.entries-n-requires

@@ -2,8 +2,7 @@
 use Prim.Native.Nat.{◌-◌, ◌≤◌}
 use mathlib.Core.Path.{◌≡◌}
 use lib.ListN.{length}
-use borrow.Author.Rules.{rules}
-use Rattle.salvage.proofs.Zeroed.{Cleaning, cleaning, cleaning-turns}
+use Rattle.salvage.proofs.Zeroed.{Cleaning}
 use Rattle.salvage.proofs.maps.clean_all.Given as goal
 
 abbrev pub invariant-loop-e : goal.invariant-loop-e

@@ -1,5 +1,4 @@
 -- `salvage::maps::clean_at` meets its contract.
-use borrow.Author.Rules.{rules}
 use Rattle.salvage.proofs.Zeroed.{entrywise}
 use Rattle.salvage.proofs.maps.clean_at.Goals as goal
 

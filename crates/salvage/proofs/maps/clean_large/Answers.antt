@@ -1,5 +1,4 @@
 -- `salvage::maps::clean_large` meets its contract.
-use borrow.Author.Rules.{rules}
 use Rattle.salvage.proofs.Zeroed.{unmarked}
 use Rattle.salvage.proofs.maps.clean_large.Goals as goal
 

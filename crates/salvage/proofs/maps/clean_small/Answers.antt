@@ -1,5 +1,4 @@
 -- `salvage::maps::clean_small` meets its contract.
-use borrow.Author.Rules.{rules}
 use Rattle.salvage.proofs.Zeroed.{unmarked}
 use Rattle.salvage.proofs.maps.clean_small.Goals as goal
 

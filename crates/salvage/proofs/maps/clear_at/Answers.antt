@@ -1,5 +1,4 @@
 -- `salvage::maps::clear_at` meets its contract.
-use borrow.Author.Rules.{rules}
 use Rattle.salvage.proofs.Zeroed.{placing}
 use Rattle.salvage.proofs.maps.clear_at.Goals as goal
 

@@ -1,8 +1,4 @@
 -- `salvage::maps::clear_map` meets its contract.
-use Prim.Native.Nat.{◌-◌, ◌≤◌}
-use mathlib.Core.Path.{◌≡◌}
-use lib.ListN.{length}
-use Rattle.salvage.specs.Passes.{PlacesDone}
 use Rattle.salvage.proofs.Zeroed.{mapping}
 use Rattle.salvage.proofs.maps.clear_map.Goals as goal
 

@@ -3,7 +3,6 @@ use Prim.Native.Nat.{◌-◌, ◌≤◌}
 use mathlib.Core.Path.{◌≡◌}
 use lib.ListN.{length}
 use Rattle.salvage.specs.Passes.{PlacesDone}
-use Rattle.salvage.proofs.Zeroed.{mapping}
 use Rattle.salvage.proofs.maps.clear_map.Given as goal
 
 abbrev pub invariant-loop-k : goal.invariant-loop-k

@@ -1,5 +1,4 @@
 -- `salvage::mend::repair` meets its contract.
-use borrow.Author.Rules.{rules}
 use Rattle.salvage.proofs.Ends.{passing}
 use Rattle.salvage.proofs.mend.repair.Goals as goal
 

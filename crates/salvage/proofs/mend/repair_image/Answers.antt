@@ -1,5 +1,4 @@
 -- `salvage::mend::repair_image` meets its contract.
-use borrow.Author.Rules.{rules}
 use Rattle.salvage.proofs.Ends.{ending}
 use Rattle.salvage.proofs.mend.repair_image.Goals as goal
 

@@ -1,9 +1,4 @@
 -- `searching::pattern::admits_name` meets its contract.
-use Prim.Native.Nat.{◌-◌, ◌≤◌}
-use mathlib.Core.Path.{◌≡◌}
-use mathlib.Core.Bool.{true}
-use Rattle.words.specs.Tests.{all}
-use Rattle.rules.specs.Effects.{admits_byte}
 use Rattle.searching.proofs.Finding.{naming}
 use Rattle.searching.proofs.pattern.admits_name.Goals as goal
 

@@ -4,7 +4,6 @@ use mathlib.Core.Path.{◌≡◌}
 use mathlib.Core.Bool.{true}
 use Rattle.words.specs.Tests.{all}
 use Rattle.rules.specs.Effects.{admits_byte}
-use Rattle.searching.proofs.Finding.{naming}
 use Rattle.searching.proofs.pattern.admits_name.Given as goal
 
 abbrev pub invariant-loop-k : goal.invariant-loop-k

@@ -1,9 +1,5 @@
 -- `searching::pattern::match_from` meets its contract.
-use Prim.Native.Nat.{◌-◌, ◌≤◌}
-use mathlib.Core.Path.{◌≡◌}
-use mathlib.Core.Bool.{false}
-use Rattle.words.specs.Tests.{any}
-use Rattle.rules.specs.Effects.{is_match_from, match_from}
+use Rattle.rules.specs.Effects.{match_from}
 use Rattle.searching.proofs.Finding.{matching}
 use Rattle.searching.proofs.pattern.match_from.Goals as goal
 

@@ -3,8 +3,7 @@ use Prim.Native.Nat.{◌-◌, ◌≤◌}
 use mathlib.Core.Path.{◌≡◌}
 use mathlib.Core.Bool.{false}
 use Rattle.words.specs.Tests.{any}
-use Rattle.rules.specs.Effects.{is_match_from, match_from}
-use Rattle.searching.proofs.Finding.{matching}
+use Rattle.rules.specs.Effects.{is_match_from}
 use Rattle.searching.proofs.pattern.match_from.Given as goal
 
 abbrev pub invariant-loop-e : goal.invariant-loop-e

@@ -1,7 +1,5 @@
 -- `searching::search::next_after` meets its contract.
-use borrow.Author.Rules.{rules}
 use Rattle.searching.proofs.Finding.{leaving}
-use Rattle.rules.proofs.kind.entries.Reads as entries-reads
 use Rattle.searching.proofs.search.next_after.Goals as goal
 
 pub returns-then-n-e : goal.returns-then-n-e

@@ -1,7 +1,5 @@
 -- `searching::search::place_told` meets its contract.
-use borrow.Author.Rules.{rules}
 use Rattle.searching.proofs.Finding.{leaving}
-use Rattle.rules.proofs.kind.entries.Reads as entries-reads
 use Rattle.searching.proofs.search.place_told.Goals as goal
 
 pub returns-then-entries-e : goal.returns-then-entries-e

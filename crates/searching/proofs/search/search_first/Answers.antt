@@ -1,13 +1,5 @@
 -- `searching::search::search_first` meets its contract.
-use borrow.Author.Rules.{rules}
 use Rattle.searching.proofs.Finding.{first_called}
-use Rattle.locklist.proofs.pack.pack.Reads as pack-reads
-use Rattle.rules.proofs.list.LockList.move_to.Reads as move-to-reads
-use Rattle.rules.proofs.list.LockList.user_of.Reads as user-of-reads
-use Rattle.searching.proofs.pattern.match_from.Reads as match-from-reads
-use Rattle.searching.proofs.search.next_after.Reads as next-after-reads
-use Rattle.searching.proofs.search.place_told.Reads as place-told-reads
-use Rattle.searching.proofs.search.show.Reads as show-reads
 use Rattle.searching.proofs.search.search_first.Goals as goal
 
 pub returns : goal.returns

@@ -1,8 +1,6 @@
 -- `searching::search::show` meets its contract.
 use borrow.Author.Rules.{rules}
 use Rattle.searching.proofs.Finding.{leaving, record_within, shown_found}
-use Rattle.words.proofs.byte.put_bytes.Reads as put-bytes-reads
-use Rattle.rules.proofs.kind.entries.Reads as entries-reads
 use Rattle.searching.proofs.search.show.Goals as goal
 
 pub returns-then-entries-e : goal.returns-then-entries-e

@@ -1,9 +1,6 @@
 -- `several::read::read_run` meets its contract.
-use Prim.Native.Nat.{◌-◌, ◌≤◌}
 use borrow.Author.Rules.{rules}
-use Rattle.rules.specs.Serves.{buffers}
 use Rattle.records.proofs.Reading.{inside_of}
-use Rattle.several.specs.So.{Reading}
 use Rattle.several.proofs.ReadTurns.{below_33, reading_none, reading_more, reading_stops, reading_ends}
 use Rattle.several.proofs.read.read_run.Goals as goal
 

@@ -1,12 +1,6 @@
 -- `several::write::write_run` meets its contract.
-use Prim.Native.Nat.{◌-◌, ◌≤◌}
-use mathlib.Core.Path.{◌≡◌}
-use lib.ListN.{length}
 use borrow.Author.Rules.{rules}
 use native.Mathlib.Omega.{arith}
-use Rattle.rules.specs.Serves.{buffers}
-use Rattle.rules.specs.Vector.{vector_of}
-use Rattle.several.specs.So.{Writing}
 use Rattle.several.proofs.WriteTurns.{lent_long, few_of, below_34, writing_none, writing_more, writing_vector, writing_stops, writing_ends}
 use Rattle.several.proofs.write.write_run.Goals as goal
 

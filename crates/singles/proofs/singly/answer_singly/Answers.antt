@@ -1,7 +1,6 @@
 -- `singles::singly::answer_singly` meets its contract.
 use mathlib.Core.Path.{ap}
 use mathlib.Core.Bool.{not}
-use borrow.Author.Rules.{rules}
 use Rattle.words.proofs.Sets.{not_yes}
 use Rattle.singles.proofs.Each.{singly_other, singly_stopped, singly_went, goes_each}
 use Rattle.singles.proofs.singly.answer_singly.Goals as goal

@@ -1,11 +1,5 @@
 -- `singles::singly::call_each` meets its contract.
-use Prim.Native.Nat.{◌+◌, ◌-◌, ◌≤◌, ◌<◌}
-use mathlib.Core.Path.{◌≡◌}
-use lib.ListN.{length}
 use borrow.Author.Rules.{rules}
-use Rattle.rules.specs.Serves.{buffers}
-use Rattle.rules.specs.Several.{run, several}
-use Rattle.rules.specs.Vector.{vector_of}
 use Rattle.singles.proofs.Each.{each_none, each_more, each_number, each_vector, each_stops, each_ends}
 use Rattle.singles.proofs.singly.call_each.Goals as goal
 

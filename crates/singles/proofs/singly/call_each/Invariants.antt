@@ -2,11 +2,9 @@
 use Prim.Native.Nat.{◌+◌, ◌-◌, ◌≤◌, ◌<◌}
 use mathlib.Core.Path.{◌≡◌}
 use lib.ListN.{length}
-use borrow.Author.Rules.{rules}
 use Rattle.rules.specs.Serves.{buffers}
 use Rattle.rules.specs.Several.{run, several}
 use Rattle.rules.specs.Vector.{vector_of}
-use Rattle.singles.proofs.Each.{each_none, each_more, each_number, each_vector, each_stops, each_ends}
 use Rattle.singles.proofs.singly.call_each.Given as goal
 
 abbrev pub invariant-loop-i : goal.invariant-loop-i

@@ -1,5 +1,4 @@
 -- `singles::singly::call_one` meets its contract.
-use borrow.Author.Rules.{rules}
 use Rattle.singles.proofs.Each.{one_refused, one_done}
 use Rattle.singles.proofs.singly.call_one.Goals as goal
 

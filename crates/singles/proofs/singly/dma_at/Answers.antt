@@ -1,5 +1,4 @@
 -- `singles::singly::dma_at` meets its contract.
-use borrow.Author.Rules.{rules}
 use Rattle.singles.proofs.Each.{dma_made}
 use Rattle.singles.proofs.singly.dma_at.Goals as goal
 

@@ -1,5 +1,4 @@
 -- `singles::singly::fcb_at` meets its contract.
-use borrow.Author.Rules.{rules}
 use Rattle.singles.proofs.Each.{fcb_made}
 use Rattle.singles.proofs.singly.fcb_at.Goals as goal
 

@@ -1,10 +1,6 @@
 -- `writing::file::erase` meets its contract.
-use Prim.Native.Nat.{◌-◌, ◌≤◌}
-use mathlib.Core.Path.{◌≡◌}
-use lib.ListN.{length}
-use Rattle.words.specs.Lists.{turns}
 use Rattle.words.proofs.Sets.{turning-as}
-use Rattle.rules.specs.Effects.{erased_at, erased}
+use Rattle.rules.specs.Effects.{erased}
 use Rattle.writing.proofs.file.erase.Goals as goal
 
 pub entries-n-requires : goal.entries-n-requires

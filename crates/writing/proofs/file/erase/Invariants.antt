@@ -3,8 +3,7 @@ use Prim.Native.Nat.{◌-◌, ◌≤◌}
 use mathlib.Core.Path.{◌≡◌}
 use lib.ListN.{length}
 use Rattle.words.specs.Lists.{turns}
-use Rattle.words.proofs.Sets.{turning-as}
-use Rattle.rules.specs.Effects.{erased_at, erased}
+use Rattle.rules.specs.Effects.{erased_at}
 use Rattle.writing.proofs.file.erase.Given as goal
 
 abbrev pub invariant-loop-e : goal.invariant-loop-e

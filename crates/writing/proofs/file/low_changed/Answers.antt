@@ -1,8 +1,4 @@
 -- `writing::file::low_changed` meets its contract.
-use Prim.Native.Nat.{◌-◌, ◌≤◌}
-use mathlib.Core.Path.{◌≡◌}
-use Rattle.words.proofs.Lists.{filled}
-use Rattle.rules.specs.Effects.{low_changed}
 use Rattle.writing.proofs.Entries.{lowering}
 use Rattle.writing.proofs.file.low_changed.Goals as goal
 

@@ -3,7 +3,6 @@ use Prim.Native.Nat.{◌-◌, ◌≤◌}
 use mathlib.Core.Path.{◌≡◌}
 use Rattle.words.proofs.Lists.{filled}
 use Rattle.rules.specs.Effects.{low_changed}
-use Rattle.writing.proofs.Entries.{lowering}
 use Rattle.writing.proofs.file.low_changed.Given as goal
 
 abbrev pub invariant-loop-k : goal.invariant-loop-k

@@ -1,10 +1,6 @@
 -- `writing::file::rename` meets its contract.
-use Prim.Native.Nat.{◌-◌, ◌≤◌}
-use mathlib.Core.Path.{◌≡◌}
-use lib.ListN.{length}
-use Rattle.words.specs.Lists.{turns}
 use Rattle.words.proofs.Sets.{turning-as}
-use Rattle.rules.specs.Effects.{renamed_at, renamed}
+use Rattle.rules.specs.Effects.{renamed}
 use Rattle.writing.proofs.file.rename.Goals as goal
 
 pub entries-n-requires : goal.entries-n-requires

@@ -3,8 +3,7 @@ use Prim.Native.Nat.{◌-◌, ◌≤◌}
 use mathlib.Core.Path.{◌≡◌}
 use lib.ListN.{length}
 use Rattle.words.specs.Lists.{turns}
-use Rattle.words.proofs.Sets.{turning-as}
-use Rattle.rules.specs.Effects.{renamed_at, renamed}
+use Rattle.rules.specs.Effects.{renamed_at}
 use Rattle.writing.proofs.file.rename.Given as goal
 
 abbrev pub invariant-loop-e : goal.invariant-loop-e

@@ -1,6 +1,5 @@
 -- `writing::record::clear_block` meets its contract.
 use Rattle.writing.proofs.Entries.{cleared_on, cleared_no, cleared_off}
-use borrow.Author.Rules.{rules}
 use Rattle.writing.proofs.record.clear_block.Goals as goal
 
 pub returns-then-w : goal.returns-then-w

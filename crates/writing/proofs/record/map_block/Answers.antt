@@ -1,6 +1,5 @@
 -- `writing::record::map_block` meets its contract.
 use Rattle.writing.proofs.Entries.{mapped_on, mapped_off}
-use borrow.Author.Rules.{rules}
 use Rattle.writing.proofs.record.map_block.Goals as goal
 
 pub returns-then-w : goal.returns-then-w

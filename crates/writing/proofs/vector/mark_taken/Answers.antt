@@ -1,5 +1,4 @@
 -- `writing::vector::mark_taken` meets its contract.
-use borrow.Author.Rules.{rules}
 use Rattle.soundness.proofs.Vectors.{taken_on, taken_off}
 use Rattle.writing.proofs.vector.mark_taken.Goals as goal
 

@@ -1,10 +1,8 @@
 -- `writing::vector::release` meets its contract.
 use Prim.Native.Nat.{◌-◌, ◌≤◌}
-use borrow.Author.Rules.{rules}
 use Rattle.rules.specs.Kinds.{most}
 use Rattle.soundness.specs.Taking.{is_block_of}
 use Rattle.writing.specs.Clears.{Cleared}
-use Rattle.writing.proofs.Releasing.{cleared_long, of_none, of_more, of_all}
 use Rattle.writing.proofs.vector.release.Given as goal
 
 abbrev pub invariant-loop-e : goal.invariant-loop-e

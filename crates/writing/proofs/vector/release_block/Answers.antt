@@ -1,5 +1,4 @@
 -- `writing::vector::release_block` meets its contract.
-use borrow.Author.Rules.{rules}
 use Rattle.writing.proofs.Releasing.{without_one, without_none}
 use Rattle.writing.proofs.vector.release_block.Goals as goal
 

@@ -1,9 +1,7 @@
 -- `writing::vector::release_entry` meets its contract.
 use Prim.Native.Nat.{◌-◌, ◌≤◌}
-use borrow.Author.Rules.{rules}
 use Rattle.rules.specs.Kinds.{most}
 use Rattle.writing.specs.Clears.{Cleared, is_block_in}
-use Rattle.writing.proofs.Releasing.{in_none, number_bit, in_more, in_all}
 use Rattle.writing.proofs.vector.release_entry.Given as goal
 
 abbrev pub invariant-loop-k : goal.invariant-loop-k
