@@ -21,7 +21,7 @@ docs=$root/docs/PERFORMANCE.md
 objects=$work/plain-small.o:$work/plain-large.o:$work/plain.o:$work/stack.o:${MPM_ARCHIVE:-$native}
 
 plain_clang() { # WORDS..
-    "$own/toolchain/bin/clang" --target="$(uname -m)-unknown-linux-gnu" --no-default-config -nostdinc \
+    "$kit/toolchain/bin/clang" --target="$(uname -m)-unknown-linux-gnu" --no-default-config -nostdinc \
         -isystem "$root/machine/libc" -I "$root/include" -std=c99 -O3 -fPIC "${warnings[@]}" "$@"
 }
 
@@ -97,7 +97,7 @@ code_size() { size "$1" | awk 'NR > 1 { sum += $1 } END { print sum }'; }
 # What a reader has to know of the run, and the sizes.
 describe() {
     echo "Run on $(nproc) cores of $(processor), Linux $(uname -m), with" \
-        "$("$own/toolchain/bin/clang" --version | head -n 1) and $(rustc --version), $(date -u +%Y-%m-%d)." \
+        "$("$kit/toolchain/bin/clang" --version | head -n 1) and $(rustc --version), $(date -u +%Y-%m-%d)." \
         "Code of the archive that ships: $(code_size "$archive") bytes;" \
         "built for this processor: $(code_size "$native")." |
         fold -s -w 120 | sed 's/ *$//'

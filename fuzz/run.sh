@@ -60,7 +60,7 @@ link() { # PROGRAM OBJECTS..
 
 # The engine for this processor, with libFuzzer's counters and AddressSanitizer in its own code.
 compile_engine() { # LEVEL
-    "$own/toolchain/bin/clang" --target="$(uname -m)-unknown-linux-gnu" --no-default-config -Wno-override-module \
+    "$kit/toolchain/bin/clang" --target="$(uname -m)-unknown-linux-gnu" --no-default-config -Wno-override-module \
         "-O$1" -fPIC -mllvm -trap-unreachable -mllvm -no-trap-after-noreturn -fsanitize=fuzzer-no-link,address \
         -c -x ir "$work/engine.ll" -o "$work/engine$1.o"
 }

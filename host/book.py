@@ -426,8 +426,11 @@ def writes_over_nothing(desk, verb, content):
     linked, named = desk.new(), desk.new()
     os.link(path, linked)
     os.symlink(path, named)
-    for new in (path, linked, named, other, os.path.join(desk.folder, ".", os.path.basename(path))):
-        desk.says([verb, path, "-o", new], [f"{new}: is there already, and nothing is written over"], FAILED)
+    try:
+        for new in (path, linked, named, other, os.path.join(desk.folder, ".", os.path.basename(path))):
+            desk.says([verb, path, "-o", new], [f"{new}: is there already, and nothing is written over"], FAILED)
+    finally:
+        os.remove(named)  # rt ci takes no links below the repository
     nowhere = os.path.join(desk.folder, "none", "new")
     desk.says([verb, path, "-o", nowhere], [f"{nowhere}: cannot be made"], FAILED)
     desk.has_kept(path, content)

@@ -5,8 +5,7 @@
 # ones (the plain engine of a bad one is as bad, so that the two do not give each other away); the desk's program on
 # images damaged in each way, its sizes, free space and lists of files, and over bad image checks, searches, vectors,
 # salvages, packers and comparisons; saving on a disk that fails and a machine that stops; the minimal host on a full
-# disk, in a read-only folder and killed 50 times. Beside the kit it wants pkg-config, python3 and, on x86-64, a C
-# compiler.
+# disk, in a read-only folder and killed 50 times. Beside the kit it wants pkg-config, python3 and a C compiler.
 # With ARCHIVE, an engine for this machine's own processor (of machine/native.sh, or the reference of
 # tests/pipe/exports): the header, the helpers, the story, the desk's program and saving with the system's compilers
 # (CC, CXX), under the sanitizers of addresses and undefined behaviour.
@@ -143,29 +142,18 @@ sees_state() { # a host has some
 
 # ---- A host outside the repository
 
-# On x86-64 the system's cc. Elsewhere a cc that is the kit's compiler for x86-64.
-cc_for_x86_64() {
-    [ "$(uname -m)" != x86_64 ] || return 0
-    mkdir -p "$work/bin"
-    printf '#!/usr/bin/env bash\n. "%s"\nkit_cc "$@"\n' "$root/machine/kit.sh" >"$work/bin/cc"
-    chmod +x "$work/bin/cc"
-    PATH=$work/bin:$PATH
-}
-
 # The minimal host, copied away with nothing of the repository but what is installed. It has to serve clerks, too.
 makes_a_host_outside() {
-    local away through=("$run")
-    [ "$(uname -m)" != x86_64 ] || through=()
+    local away
     away=$(mktemp -d) && "$here/install.sh" "$away/prefix" && cp "$here"/{minimal.c,save.c,save.h} "$away" &&
         mkdir "$away/served" &&
         (
             # shellcheck disable=SC2046 # the line that the pages give
-            cc_for_x86_64 && cd "$away" && export PKG_CONFIG_PATH=$away/prefix/lib/pkgconfig &&
+            cd "$away" && export PKG_CONFIG_PATH=$away/prefix/lib/pkgconfig &&
                 cc -std=c99 minimal.c save.c $(pkg-config --cflags --libs mpm) -o minimal &&
                 head -c 65536 /dev/zero | tr '\0' '\345' >IMAGE &&
-                "${through[@]}" ./minimal new BOOK IMAGE &&
-                "${through[@]}" ./minimal image BOOK COPY && cmp IMAGE COPY &&
-                python3 "$here/kill.py" --times 1 --seed 3 served "${through[@]}" "$away/minimal"
+                ./minimal new BOOK IMAGE && ./minimal image BOOK COPY && cmp IMAGE COPY &&
+                python3 "$here/kill.py" --times 1 --seed 3 served "$away/minimal"
         ) && rm -r "$away"
 }
 

@@ -1,47 +1,32 @@
 #!/usr/bin/env bash
 # native.sh [ARCHIVE]: the engine as an archive for this machine's own processor, for tests and measurements with the
-# system's compiler. Makes target/native/libengine.a unless said otherwise. Never shipped: what the kit makes is
-# for x86-64. The engine is proved and compiled as for the shipped archive; a compiler put in between keeps the bitcode
-# that it is given, and that is compiled once more. Beside the archive is left its mpm.h, under the archive's name: from
-# it bench/run.sh --before knows how an earlier engine is called.
+# system's compiler, and its LLVM text, target/native/engine.ll. Makes target/native/libengine.a unless said otherwise.
+# Never shipped. The engine is proved and compiled as for the shipped archive; a compiler put in between keeps the
+# bitcode that it is given, and that is compiled once more. Beside the archive is left its mpm.h, under the archive's
+# name: from it bench/run.sh --before knows how an earlier engine is called.
 set -euo pipefail
 unset MPM_ARCHIVE
 # shellcheck source=kit.sh
 . "$(dirname "${BASH_SOURCE[0]}")/kit.sh"
 work=$root/target/native
 result=$(realpath -m "${1:-$native}")
-real=$own/toolchain/bin
+real=$kit/toolchain/bin
+# Not below the repository, where rt refuses links.
+between=$(mktemp -d)
+trap 'rm -rf "$between"' EXIT
 
 # A toolchain as the kit's, whose clang first keeps a copy of the bitcode.
 put_between() {
-    mkdir -p "$work/toolchain/bin"
-    ln -s "$own/toolchain/lib" "$work/toolchain/lib"
-    ln -s "$real/ld.lld" "$real/llvm-ar" "$work/toolchain/bin/"
-    cat >"$work/toolchain/bin/clang" <<SCRIPT
+    mkdir "$between/bin"
+    ln -s "$kit/toolchain/lib" "$between/lib"
+    ln -s "$real"/* "$between/bin/"
+    rm "$between/bin/clang"
+    cat >"$between/bin/clang" <<SCRIPT
 #!/bin/sh
 for word in "\$@"; do case \$word in *.bc) cp "\$word" '$work/engine.bc' ;; esac; done
 exec '$real/clang' "\$@"
 SCRIPT
-    chmod +x "$work/toolchain/bin/clang"
-}
-
-# The words that name a crate the engine cites: one of the repository, else of the kit.
-extern() {
-    if [ -d "$root/crates/$1" ]; then
-        echo "--extern=$1=$root/target/rlib/$1.rlib"
-    else
-        echo "--extern=$1=$own/rlib/$1.rlib"
-    fi
-}
-
-keep_bitcode() {
-    local words=("--extern=std=$own/rlib/std.rlib") cited crate
-    cited=$(sed -n 's/#.*//; s/^engine: *//p' "$root/crates.txt")
-    for crate in $cited; do words+=("$(extern "$crate")"); done
-    "$own/bin/rattle" build --crate-name engine "$root/crates/engine/src/lib.rt" "${words[@]}" \
-        -L "dependency=$root/target/rlib" -L "dependency=$own/rlib" \
-        --antt-project "$kit/logic/antt-project.json" --logic-built "$own/logic-built" \
-        --toolchain "$work/toolchain" --crate-type staticlib -o "$work/x86-64.a"
+    chmod +x "$between/bin/clang"
 }
 
 compile_again() {
@@ -56,10 +41,12 @@ compile_again() {
 }
 
 make_archive
+[ -d "$root/crates/engine/out/rlib/engine.rlib" ] || prove_engine
 echo "builds the engine for this machine's own processor, a minute or two" >&2
 rm -rf "$work"
+mkdir -p "$work"
 put_between
-keep_bitcode >"$work/log" 2>&1 || {
+build_engine "$between" "$work/x86-64.a" >"$work/log" 2>&1 || {
     cat "$work/log" >&2
     exit 1
 }

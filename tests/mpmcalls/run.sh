@@ -1,5 +1,6 @@
 #!/usr/bin/env bash
-# Runs the built program mpmcalls (target/bin/mpmcalls, made by `rt check mpmcalls`) on the cases of cases.py.
+# Runs the built program mpmcalls (crates/mpmcalls/out/mpmcalls, which `rt run` and `rt ci` make) on the cases of
+# cases.py. MPMCALLS=FILE takes another build.
 # run.sh [--only TEXT] [--document]: by machine/run.sh.
 # run.sh .. -- COMMAND [ARGUMENT...]: another program, by its whole path.
 set -euo pipefail
@@ -14,9 +15,9 @@ if [ $# -gt 0 ]; then
     shift
     exec python3 "$here/cases.py" ${words[@]+"${words[@]}"} -- "$@"
 fi
-program=${MPMCALLS:-$root/target/bin/mpmcalls}
+program=${MPMCALLS:-$root/crates/mpmcalls/out/mpmcalls}
 if [ ! -x "$program" ]; then
-    echo "no $program: run 'rt check mpmcalls' first"
+    echo "no $program: run 'rt run </dev/null' in crates/mpmcalls first"
     exit 2
 fi
 program=$(readlink -f "$program")

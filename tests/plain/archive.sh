@@ -31,4 +31,4 @@ compile large.o plain.c -DKIND=LARGE
 compile plain.o plain_call.c
 compile mpm.o mpm.c
 rm -f "$1"
-"$own/toolchain/bin/llvm-ar" rcs "$1" "$work"/{small,large,plain,mpm}.o
+"$kit/toolchain/bin/llvm-ar" rcs "$1" "$work"/{small,large,plain,mpm}.o
