@@ -7,7 +7,6 @@ ghost use Rattle.io.specs.Counts.{IsPrefixLen};
 use script::{caller, line, record};
 use std::fs::File;
 use std::io::Read;
-use std::rt::Files;
 use std::{fs, io};
 
 // Says in one line on standard error what failed, and why. Where that fails too, nothing is left to say it to.
