@@ -25,7 +25,7 @@ def pages():
 def texts():
     found = [p for folder in FOLDERS for p in (ROOT / folder).rglob("*") if p.is_file()]
     own = pathlib.Path(__file__).resolve()
-    return [p for p in found if "target" not in p.parts and p.suffix not in (".lock", ".pyc") and p != own]
+    return [p for p in found if not {"target", "out"} & set(p.parts) and p.suffix not in (".lock", ".pyc") and p != own]
 
 
 # ---- Blocks of a page

@@ -1,5 +1,4 @@
 -- `engine::mpm_call` meets its contract.
-use borrow.Author.Rules.{rules}
 use Rattle.engine.proofs.Told.{call_known, call_other}
 use Rattle.engine.proofs.mpm_call.Goals as goal
 

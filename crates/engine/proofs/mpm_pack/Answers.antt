@@ -1,5 +1,4 @@
 -- `engine::mpm_pack` meets its contract.
-use borrow.Author.Rules.{rules}
 use Rattle.engine.proofs.Told.{pack_known, pack_other}
 use Rattle.engine.proofs.mpm_pack.Goals as goal
 

@@ -1,5 +1,4 @@
 -- `engine::mpm_salvage` meets its contract.
-use borrow.Author.Rules.{rules}
 use Rattle.engine.proofs.Told.{salvage_known, salvage_other}
 use Rattle.engine.proofs.mpm_salvage.Goals as goal
 

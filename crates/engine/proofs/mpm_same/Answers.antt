@@ -1,5 +1,4 @@
 -- `engine::mpm_same` meets its contract.
-use borrow.Author.Rules.{rules}
 use Rattle.engine.proofs.Told.{same_known, same_other}
 use Rattle.engine.proofs.mpm_same.Goals as goal
 

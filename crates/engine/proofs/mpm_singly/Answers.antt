@@ -1,5 +1,4 @@
 -- `engine::mpm_singly` meets its contract.
-use borrow.Author.Rules.{rules}
 use Rattle.engine.proofs.Told.{singly_known, singly_other_kind}
 use Rattle.engine.proofs.mpm_singly.Goals as goal
 

@@ -1,5 +1,4 @@
 -- `engine::mpm_start` meets its contract.
-use borrow.Author.Rules.{rules}
 use Rattle.engine.proofs.Told.{start_known, start_other}
 use Rattle.engine.proofs.mpm_start.Goals as goal
 

@@ -1,5 +1,4 @@
 -- `engine::mpm_vector` meets its contract.
-use borrow.Author.Rules.{rules}
 use Rattle.engine.proofs.Told.{build_known, build_other}
 use Rattle.engine.proofs.mpm_vector.Goals as goal
 

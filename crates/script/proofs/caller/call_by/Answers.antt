@@ -1,5 +1,4 @@
 -- `script::caller::call_by` meets its contract.
-use borrow.Author.Rules.{rules}
 use Rattle.script.proofs.Callers.{did_call}
 use Rattle.script.proofs.caller.call_by.Goals as goal
 

@@ -1,5 +1,4 @@
 -- `script::caller::start_by` meets its contract.
-use borrow.Author.Rules.{rules}
 use Rattle.script.proofs.Callers.{did_start}
 use Rattle.script.proofs.caller.start_by.Goals as goal
 

@@ -1,5 +1,4 @@
 -- `script::caller::vector_by` meets its contract.
-use borrow.Author.Rules.{rules}
 use Rattle.script.proofs.Callers.{did_build}
 use Rattle.script.proofs.caller.vector_by.Goals as goal
 

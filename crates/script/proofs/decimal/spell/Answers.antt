@@ -1,5 +1,5 @@
 -- `script::decimal::spell` meets its contract.
-use Rattle.script.proofs.Digits.{Spelt, spells}
+use Rattle.script.proofs.Digits.{spells}
 use Rattle.script.proofs.decimal.spell.Goals as goal
 
 pub last_digit-requires : goal.last_digit-requires

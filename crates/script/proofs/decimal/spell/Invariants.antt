@@ -1,5 +1,5 @@
 -- `script::decimal::spell` meets its contract.
-use Rattle.script.proofs.Digits.{Spelt, spells}
+use Rattle.script.proofs.Digits.{Spelt}
 use Rattle.script.proofs.decimal.spell.Given as goal
 
 abbrev pub invariant-loop-rest : goal.invariant-loop-rest

@@ -1,7 +1,6 @@
 -- `script::line::add` meets its contract.
 use mathlib.Core.Path.{refl}
 use native.Mathlib.Omega.{arith}
-use borrow.Author.Rules.{rules}
 use Rattle.script.proofs.Lines.{added}
 use Rattle.script.proofs.line.add.Goals as goal
 

@@ -1,5 +1,4 @@
 -- `script::line::call_line` meets its contract.
-use borrow.Author.Rules.{rules}
 use Rattle.script.proofs.Callers.{line_of}
 use Rattle.script.proofs.line.call_line.Goals as goal
 
