@@ -8,7 +8,7 @@ import sys
 
 ROOT = pathlib.Path(__file__).resolve().parent.parent
 FUNCTION = re.compile(
-    r"(?P<comment>(?://[^\n]*\n)+)(?P<mark>#\[unsafe\(no_mangle\)\]\n)?"
+    r"(?P<comment>(?://[^\n]*\n)+)(?P<marks>(?:#\[[^\n]*\n)*)"
     r'pub (?P<abi>extern "C" )?fn (?P<name>\w+)\((?P<parameters>[^)]*)\) -> u32\n(?P<clauses>(?:    [^\n]*\n)+)\{\n'
     r"(?P<body>.*?)\n\}\n",
     re.S,
@@ -45,7 +45,7 @@ def differences():
     for function, export in zip(functions, exports):
         if promise(function) != promise(export):
             yield f"{export['name']}: comment, parameters or clauses are not those of engine"
-        if not (export["mark"] and export["abi"]):
+        if "#[unsafe(no_mangle)]\n" not in export["marks"] or not export["abi"]:
             yield f"{export['name']}: is not exported"
         if not hands_on(export):
             yield f"{export['name']}: does not hand its parameters on in order"
