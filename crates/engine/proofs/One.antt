@@ -12,6 +12,6 @@ module _ {A : Type 0} (x : A) where
   pub one_bounded : (P : A → Type 0) (r q : A) → (r ≡ x) × P r → (q ≡ x) × P q → r ≡ q
   one_bounded P r q h k = one_answer r q h.0 k.0
 
--- `now s.exit ≡ x`: one content of a buffer that was lent
+-- `s.new ≡ x`: one content of a buffer that was lent
 pub one_left : (x s t : List ℕ) → s ≡ x → t ≡ x → s ≡ t
 one_left x s t h k = one_answer x s t h k
