@@ -81,7 +81,7 @@ module _ (c o k : ℕ) (callers : List ℕ) (limits : (1 ≤ c) × (c ≤ 64)) (
     capacity = refl;
     openlimit = refl;
     locklimit = refl;
-    opens_by = λ x. none_kind 1 x (λ (z : 1 ≡ 0). absurd (omega arith));
+    opens-by = λ x. none_kind 1 x (λ (z : 1 ≡ 0). absurd (omega arith));
     locks-by = λ x. none_kind 2 x (λ (z : 2 ≡ 0). absurd (omega arith));
     opens_are = λ i m one. absurd (let z = empty i m in omega arith);
     locks_are = λ i m two. absurd (let z = empty i m in omega arith);

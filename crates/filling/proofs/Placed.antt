@@ -44,7 +44,7 @@ pub record Facts (c o k : ℕ) (opens locks : ℕ → ℕ) (r n : ℕ) (l : Lock
   pub capacity : l.capacity ≡ c
   pub openlimit : l.openlimit ≡ o
   pub locklimit : l.locklimit ≡ k
-  pub opens_by : (x : ℕ) → opens_by l x ≡ opens x
+  pub opens-by : (x : ℕ) → opens_by l x ≡ opens x
   pub locks-by : (x : ℕ) → locks_by l x ≡ locks x
   pub opens_are : (i : ℕ) → i < 64 → (item_at l i).kind ≡ 1 → OpenOf opens (item_at l i)
   pub locks_are : (i : ℕ) → i < 64 → (item_at l i).kind ≡ 2 → (item_at l i).number < r
@@ -107,7 +107,7 @@ module _ (c o k : ℕ) (opens locks : ℕ → ℕ) (r n : ℕ) (l : LockList) (g
       users = w.users;
       unopened = lowest_none (opens_name_at l q (name_of (opens q))) 64 (any_never (opens_name_at l q (name_of (opens q))) 64 not_opened);
       none_against = any_never (stands_against_at l q (file_no (opens q)) 1) 64 not_against;
-      within = let a = w.opens_by q in let b = w.openlimit in omega arith;
+      within = let a = w.opens-by q in let b = w.openlimit in omega arith;
     }
 
   module _ (q : ℕ) (some : 1 ≤ opens q) (few : locks q < k) (high : r < 64) where
@@ -210,7 +210,7 @@ module _ (c o k : ℕ) (opens locks : ℕ → ℕ) (r n : ℕ) (l : LockList) (h
         capacity = w.capacity;
         openlimit = w.openlimit;
         locklimit = w.locklimit;
-        opens_by = λ x. by_kind l h g room it s 1 x (λ (z : 1 ≡ 0). absurd (omega arith)) ∙ ap (λ (y : ℕ). y + (1 if eqb q x else 0)) (w.opens_by x);
+        opens-by = λ x. by_kind l h g room it s 1 x (λ (z : 1 ≡ 0). absurd (omega arith)) ∙ ap (λ (y : ℕ). y + (1 if eqb q x else 0)) (w.opens-by x);
         locks-by = λ x. by_kind l h g room it s 2 x (λ (z : 2 ≡ 0). absurd (omega arith)) ∙ ap (λ (y : ℕ). y + 0) (w.locks-by x) ∙ omega arith;
         opens_are = λ i m one. ⊎_elim
             (λ (e : (i ≡ j l h g room it s) × (item_at (now l h g room it s) i ≡ it)).
@@ -259,7 +259,7 @@ module _ (c o k : ℕ) (opens locks : ℕ → ℕ) (r n : ℕ) (l : LockList) (h
         capacity = w.capacity;
         openlimit = w.openlimit;
         locklimit = w.locklimit;
-        opens_by = λ x. by_kind l h g room it s 1 x (λ (z : 1 ≡ 0). absurd (omega arith)) ∙ ap (λ (y : ℕ). y + 0) (w.opens_by x) ∙ omega arith;
+        opens-by = λ x. by_kind l h g room it s 1 x (λ (z : 1 ≡ 0). absurd (omega arith)) ∙ ap (λ (y : ℕ). y + 0) (w.opens-by x) ∙ omega arith;
         locks-by = λ x. by_kind l h g room it s 2 x (λ (z : 2 ≡ 0). absurd (omega arith)) ∙ ap (λ (y : ℕ). y + (1 if eqb q x else 0)) (w.locks-by x);
         opens_are = λ i m one. ⊎_elim
             (λ (e : (i ≡ j l h g room it s) × (item_at (now l h g room it s) i ≡ it)).

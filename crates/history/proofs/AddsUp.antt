@@ -114,7 +114,7 @@ module _ (kind : Kind) (l : LockList) (s : List ℕ) (g : SoundLocks kind l s) w
           let c = empty_or_not l l.capacity in
           omega arith;
       beyond = beyond_empty;
-      opens_by = λ p. t.as_many (is_kind_by 1 p) (kinds 1 p (λ (z : 1 ≡ 0). absurd (omega arith)));
+      opens-by = λ p. t.as_many (is_kind_by 1 p) (kinds 1 p (λ (z : 1 ≡ 0). absurd (omega arith)));
       locks-by = λ p. t.as_many (is_kind_by 2 p) (kinds 2 p (λ (z : 2 ≡ 0). absurd (omega arith)));
       sum = held_many ∙ sym (places_sum 64 (omega arith));
     }

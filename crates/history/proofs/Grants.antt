@@ -93,5 +93,5 @@ module _ (kind : Kind) (g : Begun kind) (s : State) (items : List Item) (groups 
   unfolding items_by
   none_left p w = record {
     none_held = w.none;
-    none_listed = (let a = add_up.opens_by p in let b = add_up.locks-by p in let c = kind_by 1 p items w in let d = kind_by 2 p items w in omega arith);
+    none_listed = (let a = add_up.opens-by p in let b = add_up.locks-by p in let c = kind_by 1 p items w in let d = kind_by 2 p items w in omega arith);
   }

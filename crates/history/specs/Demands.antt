@@ -79,7 +79,7 @@ items_by l p = opens_by l p + locks_by l p
 pub record AddUp (capacity : ℕ) (l : LockList) (items : List Item) : Type 0 where
   pub adds : length items + free_places l ≡ capacity
   pub beyond : (i : ℕ) → capacity ≤ i → i < places → is_empty_at l i ≡ true
-  pub opens_by : (p : ℕ) → opens_by l p ≡ tally (is_kind_by an_open p) items
+  pub opens-by : (p : ℕ) → opens_by l p ≡ tally (is_kind_by an_open p) items
   pub locks-by : (p : ℕ) → locks_by l p ≡ tally (is_kind_by a_lock p) items
   pub sum : length items ≡ sum_below (items_by l) processes
 
