@@ -1,13 +1,13 @@
 #!/usr/bin/env python3
 """forms.py [-l POINT] [COMMIT]: counts the older forms in the crates' src/ (and answers in proofs/), a row for each, in the
-working tree or at a commit. -l POINT lists the places of a row, as -l 3a."""
+working tree or at a commit. -l POINT lists the places of a row, as -l 3a. Rows 1e, 2a, 2b, 4a and 6b go by the names that
+the places had at first: under a new name they are not seen, and have to be looked for by eye."""
 
 import re
 import subprocess
 import sys
 
 ROWS = [
-    ("1a", "own enums of the shape of Option or Result", r"^pub enum (Told|Chosen|ImageAnswer)\b"),
     ("1b", "refusals as numbers: constants", r"^pub const [A-Z_]+: u32 = \d+( \+ 256 \* \d+)?;"),
     ("1c", "refusals as numbers: returned", r"\breturn [A-Z][A-Z_]+;|^\s+[A-Z][A-Z_]+$"),
     ("1d", "refusals as numbers: asked for", r"\bif (code|refused|full|lacking|why|field_reason\(.*\)) != 0 "),
@@ -44,6 +44,14 @@ def clauses(source):
         yield {re.sub(r"\b(image|list|fcb|dma|vector|first|second|seen|s)\.(now|old)\b", r"\1", fact.strip(" ()")) for fact in m[1].split(" × ")}
 
 
+def mixed(source):
+    """The enums of which some variants hold a value and some hold none, as Option's and Result's own shape is."""
+    for m in re.finditer(r"(?m)^(?:pub )?enum (\w+) \{\n(.*?)^\}", source, re.DOTALL):
+        variants = re.findall(r"(?m)^    [A-Z]\w*(\(?)", m[2])
+        if "(" in variants and "" in variants:
+            yield m[1]
+
+
 def main():
     words = sys.argv[1:]
     wanted = None
@@ -51,6 +59,12 @@ def main():
         wanted, words = words[1], words[2:]
     commit = words[0] if words else None
     sources = {n: text(commit, n) for n in files(commit, r"src/\w+\.rt$")}
+    enums = [(n, name) for n, source in sources.items() for name in mixed(source)]
+    if wanted is None:
+        print(f"1a  {len(enums):4}  own enums with and without a value in a variant")
+    if wanted == "1a":
+        for n, name in enums:
+            print(n, name)
     for point, what, pattern in ROWS:
         places = [(n, i, line) for n, s in sources.items() for i, line in enumerate(s.split("\n"), 1) if re.search(pattern, line)]
         if wanted == point:
