@@ -1,5 +1,5 @@
 -- The ends of a call with the vector: refused by the general table, or served. Assumes nothing.
-use Prim.Native.Nat.{ℕ, ◌≤◌}
+use Prim.Native.Nat.{ℕ}
 use mathlib.Core.Path.{◌≡◌, refl, sym, ap, ◌∙◌}
 use mathlib.Core.Bool.{Bool, true, false}
 use mathlib.Core.List.{List, [], ◌∷◌}
@@ -12,14 +12,16 @@ use Rattle.words.proofs.Tables.{first_then, first_stays, both_zero, row_off, row
 use Rattle.words.proofs.Sets.{row_yes, row_no}
 use Rattle.rules.specs.declared.kind.Kind.{Kind}
 use Rattle.rules.specs.declared.routine.Routine.{Routine}
-use Rattle.rules.specs.declared.routine.Chosen.{Chosen}
-use Rattle.rules.specs.declared.routine.Chosen.TheVariants.{Call, Unknown}
-use Rattle.rules.specs.Serves.{Buffers, Outcome, Did, outcome, chosen, is_unknown}
+use Rattle.std.specs.Prelude.{Option, None}
+use Rattle.rules.specs.Serves.{Buffers, Outcome, Did, outcome, chosen, function_of, is_unknown}
 use Rattle.rules.specs.Codes.{bad_numbers, bad_drive, rows_inside, rows_all}
-use Rattle.rules.specs.Call.{Ready}
 use Rattle.rules.specs.Vector.{Five, DidFive, besides, rows_vector, vector_of}
 use Rattle.rules.proofs.Tables.{nonzero_all}
-use Rattle.rules.proofs.Passed.{passed, drive_good}
+use Rattle.rules.proofs.Passed.{Passed, passed, drive_good}
+use Rattle.rules.proofs.Answers.{chosen_back}
+use Rattle.rules.proofs.Refused.{code_some}
+use Rattle.rules.specs.declared.code.Refusal.{Refusal}
+use Rattle.rules.specs.Refusals.{code_of}
 use Rattle.rules.proofs.Ends.{did_as, did_none}
 use Rattle.rules.proofs.Vector.{besides_refused, besides_passed, besides_whole, five_passed, nonzero_vector}
 use Rattle.calls.specs.Calls.{DidBeside, call_by, five_by, served_by}
@@ -90,31 +92,24 @@ module _ (kind : Kind) (n p c : ℕ) (v : List ℕ) (b : Buffers) where
       })
 
   -- an unknown function
-  pub code_other : (r : Chosen) → r ≡ chosen n → r ≡ Unknown → 255 ∕ 13 ≡ first_of (rows_five kind n p c v b)
+  pub code_other : (r : Option Routine) → r ≡ chosen n → r ≡ None → 255 ∕ 13 ≡ first_of (rows_five kind n p c v b)
   unfolding rows_five rows_vector bad_numbers is_unknown first_of ◌or◌ ◌if◌else◌
-  code_other r g u = let h : chosen n ≡ Unknown = sym g ∙ u in rw h
+  code_other r g u = let h : chosen n ≡ None = sym g ∙ u in rw h
 
 -- ---- what a call that passed the general table may rely on
 
-module _ (kind : Kind) (n p c : ℕ) (v : List ℕ) (b : Buffers) (r : Bool) (e : r ≡ bad_lengths kind n p c b.fcb b.dma b.list v)
-    (t : r ≡ false) (code : ℕ) (h : code ≡ first_of (rows_within kind n b.fcb b.list b.image v)) (y : code ≡ 0) where
+module _ (kind : Kind) (n p c : ℕ) (v : List ℕ) (b : Buffers) (z : 0 ≡ first_of (rows_five kind n p c v b)) where
   none : (first_of (rows_vector kind n p c v b) ≡ 0) × (first_of (rows_all kind n p c b) ≡ 0)
-  none = passed_five kind n p c v b (sym (table_five kind n p c v b r e t code h) ∙ y)
+  none = passed_five kind n p c v b (sym z)
 
   no_row : any_row (rows_all kind n p c b) ≡ false
   no_row = zero_none (rows_all kind n p c b) (nonzero_all kind n p c b) none.1
 
-  pub some_count : 1 ≤ c
-  some_count = (passed kind n p c b no_row).run_some
+  pub let_pass : Passed kind p c b
+  let_pass = passed kind n p c b no_row
 
-  pub few_count : c ≤ 16
-  few_count = (passed kind n p c b no_row).run_fits
-
-  pub buffers_ready : Ready kind b
-  buffers_ready = (passed kind n p c b no_row).ready
-
-  pub own_drive : bad_drive n b.fcb ≡ false
-  own_drive = drive_good kind n p c b no_row
+  pub own_drive : (k : Routine) → n ≡ function_of k → bad_drive (function_of k) b.fcb ≡ false
+  own_drive k e = rw e at (drive_good kind n p c b no_row)
 
   pub own_vector : v ≡ vector_of kind b.image
   own_vector = five_passed kind n p c v b none.0
@@ -126,26 +121,23 @@ module _ (kind : Kind) (z : Bool) (n p c : ℕ) (v : List ℕ) (b : Buffers) whe
   unfolding five_by
   stopped code = refused_five kind n p c v b (call_by kind z n p c b) (by_refused kind z n p c b) code
 
-  pub ends_unknown : (r : Chosen) → r ≡ chosen n → r ≡ Unknown → DidFive (five_by kind z n p c v b) 3583 b v
-  ends_unknown r g u = stopped 3583 (code_other kind n p c v b r g u) (λ q. omega arith)
+  -- a general refusal
+  pub ends_refused : (r : Refusal) (a : ℕ) → code_of r ≡ first_of (rows_five kind n p c v b) → a ≡ code_of r → DidFive (five_by kind z n p c v b) a b v
+  ends_refused r a h e = rw e (stopped (code_of r) h (code_some r))
 
-  module _ (r : Bool) (e : r ≡ bad_lengths kind n p c b.fcb b.dma b.list v) where
-    pub ends_bad : r ≡ true → DidFive (five_by kind z n p c v b) 3583 b v
-    ends_bad t = stopped 3583 (code_long kind n p c v b r e t) (λ q. omega arith)
+  -- 255/13
+  pub ends_unsized : 255 ∕ 13 ≡ first_of (rows_five kind n p c v b) → DidFive (five_by kind z n p c v b) (255 ∕ 13) b v
+  ends_unsized h = stopped (255 ∕ 13) h (λ y. omega arith)
 
-    module _ (t : r ≡ false) (code : ℕ) (h : code ≡ first_of (rows_within kind n b.fcb b.list b.image v)) where
-      -- another general refusal
-      pub ends_refused : (code ≡ 0 → ⊥) → DidFive (five_by kind z n p c v b) code b v
-      ends_refused = stopped code (table_five kind n p c v b r e t code h)
-
-      -- the call is served
-      pub ends_served : code ≡ 0 → (k : Routine) (a : ℕ) (left : Buffers) (u : List ℕ) → chosen n ≡ Call k
-          → DidBeside kind (served_by kind z n k p c b) a left u → DidFive (five_by kind z n p c v b) a left u
-      unfolding five_by
-      ends_served y k a left u g d =
-          let o = none kind n p c v b r e t code h y in
-          passed_did kind n p c v b (call_by kind z n p c b) o.0 a left u
-          (did_as _ _ a left (sym (by_served kind z n p c b k g o.1)) d.did) d.agrees
+  -- the call is served
+  pub ends_served : 0 ≡ first_of (rows_five kind n p c v b) → (k : Routine) → n ≡ function_of k → (a : ℕ) (left : Buffers) (u : List ℕ)
+      → DidBeside kind (served_by kind z (function_of k) k p c b) a left u → DidFive (five_by kind z n p c v b) a left u
+  unfolding five_by
+  ends_served y k e a left u d =
+      let o = none kind n p c v b y in
+      let f : DidBeside kind (served_by kind z n k p c b) a left u = rw e d in
+      passed_did kind n p c v b (call_by kind z n p c b) o.0 a left u
+      (did_as _ _ a left (sym (by_served kind z n p c b k (ap chosen e ∙ chosen_back k) o.1)) f.did) f.agrees
 
   -- with the vector of the image: the call of four buffers, and the vector of the image that it left
   pub five_did : (a : ℕ) (left : Buffers) (u : List ℕ) → v ≡ vector_of kind b.image → DidFive (five_by kind z n p c v b) a left u

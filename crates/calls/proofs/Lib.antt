@@ -3,3 +3,4 @@ pub mod Passing
 pub mod Serving
 pub mod Within
 pub mod Fives
+pub mod Admitted

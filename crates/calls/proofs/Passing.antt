@@ -14,8 +14,7 @@ use Rattle.words.proofs.Tests.{either, or_fst, or_snd}
 use Rattle.rules.specs.declared.routine.Routine.{Routine}
 use Rattle.rules.specs.declared.routine.Routine.TheVariants.{Open, Close, SearchFirst, SearchNext, Delete, Make, Rename, Read, Write, Size, WriteZeros}
 use Rattle.rules.specs.declared.routine.Routine.TheVariants.{TestWrite, Lock, Unlock, FreeSpace, Terminate}
-use Rattle.rules.specs.declared.routine.Chosen.{Chosen}
-use Rattle.rules.specs.declared.routine.Chosen.TheVariants.{Call, Unknown}
+use Rattle.std.specs.Prelude.{Option, Some, None}
 use Rattle.rules.specs.Serves.{Buffers, outcome, function_of, chosen, is_unknown}
 use Rattle.rules.specs.Codes.{rows_all}
 use Rattle.rules.specs.Call.{served, call}
@@ -31,27 +30,27 @@ use Rattle.rules.specs.declared.kind.Kind.{Kind}
 
 -- ---- the chosen routine
 
-pub known : (n : ℕ) (k : Routine) → chosen n ≡ Call k → is_unknown (chosen n) ≡ false
+pub known : (n : ℕ) (k : Routine) → chosen n ≡ Some k → is_unknown (chosen n) ≡ false
 unfolding is_unknown
 known n k h = ap is_unknown h
 
--- after `let Chosen::Call(routine) = routine_of(function)`
-pub is_call : (n : ℕ) (r : Chosen) (k : Routine) → r ≡ chosen n → r ≡ Call k → chosen n ≡ Call k
+-- after `let Option Routine::Some(routine) = routine_of(function)`
+pub is_call : (n : ℕ) (r : Option Routine) (k : Routine) → r ≡ chosen n → r ≡ Some k → chosen n ≡ Some k
 is_call n r k g h = sym g ∙ h
 
 -- one step down the list of function numbers
-key : (n m : ℕ) (j k : Routine) (rest : Chosen) → function_of j ≡ m → (Call j if eqb n m else rest) ≡ Call k → (rest ≡ Call k → n ≡ function_of k)
+key : (n m : ℕ) (j k : Routine) (rest : Option Routine) → function_of j ≡ m → (Some j if eqb n m else rest) ≡ Some k → (rest ≡ Some k → n ≡ function_of k)
     → n ≡ function_of k
 unfolding ◌if◌else◌
 key n m j k rest g h next =
     ⊎_elim
     (λ (e : eqb n m ≡ true).
-    let q : Call j ≡ Call k = rw e at h in
+    let q : Some j ≡ Some k = rw e at h in
     let i : j ≡ k = cc in
     eqb-true n m e ∙ sym g ∙ ap function_of i)
     (λ (e : eqb n m ≡ false). next (rw e at h)) (either (eqb n m))
 
-pub chosen_number : (n : ℕ) (k : Routine) → chosen n ≡ Call k → n ≡ function_of k
+pub chosen_number : (n : ℕ) (k : Routine) → chosen n ≡ Some k → n ≡ function_of k
 unfolding chosen function_of
 chosen_number n k h =
     key n 15 Open k _ refl h (λ h. key n 16 Close k _ refl h (λ h. key n 17 SearchFirst k _ refl h (λ h.
@@ -59,9 +58,9 @@ chosen_number n k h =
     key n 23 Rename k _ refl h (λ h. key n 33 Read k _ refl h (λ h. key n 34 Write k _ refl h (λ h. key n 35 Size k _ refl h (λ h.
     key n 40 WriteZeros k _ refl h (λ h. key n 41 TestWrite k _ refl h (λ h. key n 42 Lock k _ refl h (λ h. key n 43 Unlock k _ refl h (λ h. key n 46
     FreeSpace k _ refl h (λ h.
-    key n 143 Terminate k _ refl h (λ (h : Unknown ≡ Call k). let z : ◌≡◌ {A = ℕ} 0 1 = cc in absurd (omega arith)))))))))))))))))
+    key n 143 Terminate k _ refl h (λ (h : None ≡ Some k). let z : ◌≡◌ {A = ℕ} 0 1 = cc in absurd (omega arith)))))))))))))))))
 
-drive_by : (k : Routine) → reads_drive k ≡ (not (eqb (function_of k) 46) and not (eqb (function_of k) 143))
+pub drive_by : (k : Routine) → reads_drive k ≡ (not (eqb (function_of k) 46) and not (eqb (function_of k) 143))
 unfolding reads_drive function_of ◌and◌
 drive_by Open = refl
 drive_by Close = refl
@@ -80,7 +79,7 @@ drive_by Unlock = refl
 drive_by FreeSpace = refl
 drive_by Terminate = refl
 
-pub drive_told : (n : ℕ) (k : Routine) (t : Bool) → chosen n ≡ Call k → t ≡ reads_drive k → t ≡ (not (eqb n 46) and not (eqb n 143))
+pub drive_told : (n : ℕ) (k : Routine) (t : Bool) → chosen n ≡ Some k → t ≡ reads_drive k → t ≡ (not (eqb n 46) and not (eqb n 143))
 drive_told n k t h e = e ∙ drive_by k ∙ ap (λ (m : ℕ). not (eqb m 46) and not (eqb m 143)) (sym (chosen_number n k h))
 
 -- ---- good numbers and lengths
@@ -95,6 +94,9 @@ module _ (kind : Kind) (n p c : ℕ) (fcb dma list v : List ℕ) (r : Bool) (e :
 
   pub fcb_there : length fcb ≡ 36
   fcb_there = numbers.fcb_long
+
+  pub dma_there : length dma ≡ 2048
+  dma_there = numbers.dma_long
 
   pub list_there : length list ≡ 1316
   list_there = numbers.list_long
@@ -116,12 +118,12 @@ module _ (kind : Kind) (z : Bool) (n p c : ℕ) (b : Buffers) where
       each true = run_first kind n p c b h
 
   -- none
-  pub by_served : (k : Routine) → chosen n ≡ Call k → first_of (rows_all kind n p c b) ≡ 0 → call_by kind z n p c b ≡ served_by kind z n k p c b
+  pub by_served : (k : Routine) → chosen n ≡ Some k → first_of (rows_all kind n p c b) ≡ 0 → call_by kind z n p c b ≡ served_by kind z n k p c b
   unfolding call_by served_by ◌if◌else◌
   by_served k g h = each z
     where
-      plain : call kind n p c b ≡ served kind (Call k) p c b
-      plain = call-served kind n p c b h ∙ ap (λ (m : Chosen). served kind m p c b) g
+      plain : call kind n p c b ≡ served kind (Some k) p c b
+      plain = call-served kind n p c b h ∙ ap (λ (m : Option Routine). served kind m p c b) g
 
       each : (y : Bool) → call_by kind y n p c b ≡ served_by kind y n k p c b
       each false = plain

@@ -1,16 +1,16 @@
 -- From a routine's outcome to the call's. Assumes nothing.
 use Prim.Native.Nat.{ℕ, ◌<◌}
 use mathlib.Core.Path.{◌≡◌, refl, sym, ap, ◌∙◌}
-use mathlib.Core.Bool.{Bool, true, false, not, true≢false}
+use mathlib.Core.Bool.{Bool, true, false, true≢false}
 use mathlib.Core.List.{List}
 use native.Mathlib.Omega.{arith}
-use borrow.Author.Tests.{ne_eqb, not-true, not-false}
+use borrow.Author.Rules.{rules}
 use Rattle.words.specs.Tests.{◌or◌, ◌if◌else◌}
 use Rattle.rules.specs.declared.routine.Routine.{Routine}
 use Rattle.rules.specs.declared.routine.Routine.TheVariants.{Open, Close, SearchFirst, SearchNext, Delete, Make, Rename, Read, Write, Size, WriteZeros}
 use Rattle.rules.specs.declared.routine.Routine.TheVariants.{TestWrite, Lock, Unlock, FreeSpace, Terminate}
-use Rattle.rules.specs.declared.routine.Chosen.TheVariants.{Call}
-use Rattle.rules.specs.Serves.{Buffers, Did}
+use Rattle.std.specs.Prelude.{Some}
+use Rattle.rules.specs.Serves.{Buffers, Outcome, Did, function_of}
 use Rattle.rules.specs.Codes.{bad_drive}
 use Rattle.rules.specs.Call.{Ready, asked_by, asked, rows_of, effect_of, served}
 use Rattle.rules.specs.Vector.{vector_of}
@@ -23,7 +23,7 @@ use Rattle.calls.specs.Drives.{uses_count}
 use Rattle.rules.specs.declared.kind.Kind.{Kind}
 
 -- a call that does not use count is the same for every count
-any_count : (kind : Kind) (k : Routine) (p c d : ℕ) (b : Buffers) → uses_count k ≡ false → served kind (Call k) p c b ≡ served kind (Call k) p d b
+any_count : (kind : Kind) (k : Routine) (p c d : ℕ) (b : Buffers) → uses_count k ≡ false → served kind (Some k) p c b ≡ served kind (Some k) p d b
 unfolding served asked asked_by rows_of effect_of uses_count
 any_count kind Open p c d b h = refl
 any_count kind Close p c d b h = refl
@@ -44,23 +44,23 @@ any_count kind Terminate p c d b h = refl
 
 -- in the arm for routine j
 module _ (kind : Kind) (j k : Routine) (p c : ℕ) (b : Buffers) (a : ℕ) (left : Buffers) (e : k ≡ j) where
-  pub serve_any : uses_count j ≡ false → Did (served kind (Call j) p 1 b) a left → Did (served kind (Call k) p c b) a left
+  pub serve_any : uses_count j ≡ false → Did (served kind (Some j) p 1 b) a left → Did (served kind (Some k) p c b) a left
   serve_any h d =
       did_as _ _ a left
-      (any_count kind j p 1 c b h ∙ ap (λ (r : Routine). served kind (Call r) p c b) (sym e)) d
+      (any_count kind j p 1 c b h ∙ ap (λ (r : Routine). served kind (Some r) p c b) (sym e)) d
 
-  pub serve_run : Did (served kind (Call j) p c b) a left → Did (served kind (Call k) p c b) a left
-  serve_run d = did_as _ _ a left (ap (λ (r : Routine). served kind (Call r) p c b) (sym e)) d
+  pub serve_run : Did (served kind (Some j) p c b) a left → Did (served kind (Some k) p c b) a left
+  serve_run d = did_as _ _ a left (ap (λ (r : Routine). served kind (Some r) p c b) (sym e)) d
 
 -- ---- with the vector
 
 -- in the arm for routine j, which left the vector of the image that it left
 module _ (kind : Kind) (j k : Routine) (p c : ℕ) (b : Buffers) (a : ℕ) (left : Buffers) (v : List ℕ) (e : k ≡ j) where
-  pub beside-any : uses_count j ≡ false → Did (served kind (Call j) p 1 b) a left → v ≡ vector_of kind left.image
-      → DidBeside kind (served kind (Call k) p c b) a left v
+  pub beside-any : uses_count j ≡ false → Did (served kind (Some j) p 1 b) a left → v ≡ vector_of kind left.image
+      → DidBeside kind (served kind (Some k) p c b) a left v
   beside-any h d w = record { did = serve_any kind j k p c b a left e h d; agrees = w }
 
-  pub beside-run : Did (served kind (Call j) p c b) a left → v ≡ vector_of kind left.image → DidBeside kind (served kind (Call k) p c b) a left v
+  pub beside-run : Did (served kind (Some j) p c b) a left → v ≡ vector_of kind left.image → DidBeside kind (served kind (Some k) p c b) a left v
   beside-run d w = record { did = serve_run kind j k p c b a left e d; agrees = w }
 
 -- what a call may rely on, of one record
@@ -70,37 +70,63 @@ one_passed kind p b few r = record { process_fits = few; run_some = omega arith;
 -- Make and Rename leave the vector as it was
 module _ (kind : Kind) (k : Routine) (p c : ℕ) (b : Buffers) (a : ℕ) (left : Buffers) (v : List ℕ) (few : p < 16) (r : Ready kind b)
     (w : v ≡ vector_of kind b.image) where
-  pub beside_make : k ≡ Make → Did (served kind (Call Make) p 1 b) a left → DidBeside kind (served kind (Call k) p c b) a left v
+  pub beside_make : k ≡ Make → Did (served kind (Some Make) p 1 b) a left → DidBeside kind (served kind (Some k) p c b) a left v
   unfolding uses_count
   beside_make e d =
       beside-any kind Make k p c b a left v e refl d
       (w ∙ sym (make_vector kind p 1 b (one_passed kind p b few r)) ∙ ap (λ (x : Buffers). vector_of kind x.image) (sym d.leaves))
 
-  pub beside_rename : k ≡ Rename → Did (served kind (Call Rename) p 1 b) a left → DidBeside kind (served kind (Call k) p c b) a left v
+  pub beside_rename : k ≡ Rename → Did (served kind (Some Rename) p 1 b) a left → DidBeside kind (served kind (Some k) p c b) a left v
   unfolding uses_count
   beside_rename e d =
       beside-any kind Rename k p c b a left v e refl d
       (w ∙ sym (rename_vector kind p 1 b (one_passed kind p b few r)) ∙ ap (λ (x : Buffers). vector_of kind x.image) (sym d.leaves))
 
+-- what the answer's number is, is what it is of the routine's refusal
+pub told_beside : (kind : Kind) (o : Outcome) (r a : ℕ) (left : Buffers) (v : List ℕ) → r ≡ a → DidBeside kind o a left v → DidBeside kind o r left v
+told_beside kind o r a left v e d = rw e d
+
+pub ruleset serving = (rules, refl, beside-any, beside-run, beside_make, beside_rename)
+
 -- ---- with several records to a call, or with one
 
-module _ (kind : Kind) (z : Bool) (n p c : ℕ) (k : Routine) (b : Buffers) (a : ℕ) (left : Buffers) (v : List ℕ) where
+module _ (kind : Kind) (z : Bool) (p c : ℕ) (k : Routine) (b : Buffers) (a : ℕ) (left : Buffers) (v : List ℕ) where
   -- one record
-  pub by_one : not z ≡ true → DidBeside kind (served kind (Call k) p c b) a left v → DidBeside kind (served_by kind z n k p c b) a left v
+  pub by_one : z ≡ false → DidBeside kind (served kind (Some k) p c b) a left v → DidBeside kind (served_by kind z (function_of k) k p c b) a left v
   unfolding served_by
-  by_one h d = let q : z ≡ false = not-true z h in rw q d
+  by_one q d = rw q d
 
-  -- a call that takes no run of records
-  pub by_none : not z ≡ false → (n ≡ 33 → ⊥) → (n ≡ 34 → ⊥) → (n ≡ 40 → ⊥) → DidBeside kind (served kind (Call k) p c b) a left v
-      → DidBeside kind (served_by kind z n k p c b) a left v
-  unfolding served_by serves_run ◌or◌ ◌if◌else◌
-  by_none h x y w d = let q : z ≡ true = not-false z h in rw (q, ne_eqb n 33 x, ne_eqb n 34 y, ne_eqb n 40 w) d
-
-  -- one that does, of that number
-  pub by_run : (m : ℕ) → not z ≡ false → n ≡ m → serves_run m ≡ true → Did (told (several kind m p c b)) a left
-      → v ≡ vector_of kind left.image → DidBeside kind (served_by kind z n k p c b) a left v
+  -- a run of records, by a call that takes one
+  pub by_run : (m : ℕ) → z ≡ true → (j : Routine) → k ≡ j → function_of j ≡ m → serves_run m ≡ true → Did (told (several kind m p c b)) a left
+      → v ≡ vector_of kind left.image → DidBeside kind (served_by kind z (function_of k) k p c b) a left v
   unfolding served_by ◌if◌else◌
-  by_run m h e s d w = let q : z ≡ true = not-false z h in rw (q, e, s) (record { did = d; agrees = w })
+  by_run m q j e f s d w = rw (q, e, f, s) (record { did = d; agrees = w })
+
+-- a call that takes no run of records
+no_run : (k : Routine) → (k ≡ Read → ⊥) → (k ≡ Write → ⊥) → (k ≡ WriteZeros → ⊥) → serves_run (function_of k) ≡ false
+unfolding serves_run function_of ◌or◌ ◌if◌else◌
+no_run Open x y w = refl
+no_run Close x y w = refl
+no_run SearchFirst x y w = refl
+no_run SearchNext x y w = refl
+no_run Delete x y w = refl
+no_run Make x y w = refl
+no_run Rename x y w = refl
+no_run Read x y w = absurd (x refl)
+no_run Write x y w = absurd (y refl)
+no_run Size x y w = refl
+no_run WriteZeros x y w = absurd (w refl)
+no_run TestWrite x y w = refl
+no_run Lock x y w = refl
+no_run Unlock x y w = refl
+no_run FreeSpace x y w = refl
+no_run Terminate x y w = refl
+
+pub by_plain : (kind : Kind) (z : Bool) (p c : ℕ) (k : Routine) (b : Buffers) (a : ℕ) (left : Buffers) (v : List ℕ) → (k ≡ Read → ⊥) → (k ≡ Write → ⊥)
+    → (k ≡ WriteZeros → ⊥) → DidBeside kind (served kind (Some k) p c b) a left v → DidBeside kind (served_by kind z (function_of k) k p c b) a left v
+unfolding served_by ◌if◌else◌
+by_plain kind true p c k b a left v x y w d = rw (no_run k x y w) d
+by_plain kind false p c k b a left v x y w d = d
 
 pub serves_33 : serves_run 33 ≡ true
 unfolding serves_run ◌or◌

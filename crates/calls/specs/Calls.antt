@@ -1,9 +1,8 @@
 -- A call with several records, and with one. Assumes nothing.
-use Rattle.std.specs.Prelude.{ℕ, ◌≡◌, Bool, true, false, List}
+use Rattle.std.specs.Prelude.{ℕ, ◌≡◌, Bool, true, false, List, Some}
 use Rattle.words.specs.Tests.{◌if◌else◌}
 use Rattle.words.specs.Tables.{first_of}
 use Rattle.rules.specs.declared.routine.Routine.{Routine}
-use Rattle.rules.specs.declared.routine.Chosen.TheVariants.{Call}
 use Rattle.rules.specs.Serves.{Buffers, Outcome, Did}
 use Rattle.rules.specs.Call.{served, call}
 use Rattle.rules.specs.Several.{serves_run, several, told, call_run}
@@ -17,8 +16,8 @@ call_by kind false = call kind
 
 -- once the general table lets it pass
 unfoldable pub served_by : Kind → Bool → ℕ → Routine → ℕ → ℕ → Buffers → Outcome
-served_by kind true n k p c b = told (several kind n p c b) if serves_run n else served kind (Call k) p c b
-served_by kind false n k p c b = served kind (Call k) p c b
+served_by kind true n k p c b = told (several kind n p c b) if serves_run n else served kind (Some k) p c b
+served_by kind false n k p c b = served kind (Some k) p c b
 
 -- ---- With the vector beside the image (T-04)
 

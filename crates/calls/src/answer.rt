@@ -1,19 +1,53 @@
 ghost use Rattle.std.specs.Prelude.{◌≡◌};
-ghost use Rattle.words.specs.Tables.{first_of};
 ghost use Rattle.rules.specs.Serves.{buffers};
 ghost use Rattle.rules.specs.Vector.{DidFive};
 ghost use Rattle.calls.specs.Calls.{five_by};
-ghost use Rattle.calls.specs.Five.{rows_five};
 
-use crate::choose::routine_of;
-use crate::refuse::{bad_lengths, refusal};
+use crate::refuse::admitted_sized;
 use crate::serve::serve_by;
 use locklist::unpack::unpack;
-use rules::code::BAD_CALL;
+use rules::code::Refusal;
 use rules::kind::Kind;
-use rules::routine::Chosen;
+use rules::size::{DMA_SIZE, FCB_SIZE, LIST_SIZE};
 
-// A call on the buffers: the general refusals, then the routine. `several`: count serves 33, 34 and 40 too; else they take one record.
+// A call on buffers of their lengths: the general refusals, then the routine.
+fn answer_sized(
+    kind: Kind,
+    several: bool,
+    function: u32,
+    process: u32,
+    count: u32,
+    fcb: &mut [u8; FCB_SIZE],
+    dma: &mut [u8; DMA_SIZE],
+    list: &mut [u8; LIST_SIZE],
+    image: &mut [u8],
+    vector: &mut [u8],
+) -> u32
+    ensures { DidFive (five_by kind several function process count vector.old (buffers fcb.old dma.old list.old image.old)) result (buffers fcb.new dma.new list.new image.new) vector.new }
+{
+    let routine = match admitted_sized(
+        kind, function, process, count, &*fcb, &*dma, &*list, &*image, &*vector,
+    ) {
+        Ok(routine) => routine,
+        Err(refusal) => return refusal.code(),
+    };
+    let l = unpack(&*list);
+    serve_by(
+        kind,
+        several,
+        routine,
+        process as u8,
+        count,
+        &l,
+        fcb,
+        dma,
+        list,
+        image,
+        vector,
+    )
+}
+
+// A call on the buffers. `several`: count serves 33, 34 and 40 too; else they take one record.
 pub fn answer(
     kind: Kind,
     several: bool,
@@ -28,58 +62,16 @@ pub fn answer(
 ) -> u32
     ensures { DidFive (five_by kind several function process count vector.old (buffers fcb.old dma.old list.old image.old)) result (buffers fcb.new dma.new list.new image.new) vector.new }
 {
-    let chosen = routine_of(function);
-    let Chosen::Call(routine) = chosen else {
-        return BAD_CALL;
+    let Some(fcb) = fcb.as_mut_array() else {
+        return Refusal::BadCall.code();
     };
-    if bad_lengths(
-        kind, function, routine, process, count, &*fcb, &*dma, &*list, &*vector,
-    ) {
-        return BAD_CALL;
-    }
-    let code = refusal(kind, function, routine, &*fcb, &*list, &*image, &*vector);
-    if code != 0 {
-        return code;
-    }
-    let l = unpack(&*list);
-    serve_by(
-        kind,
-        several,
-        function,
-        routine,
-        process as u8,
-        count,
-        l,
-        fcb,
-        dma,
-        list,
-        image,
-        vector,
+    let Some(dma) = dma.as_mut_array() else {
+        return Refusal::BadCall.code();
+    };
+    let Some(list) = list.as_mut_array() else {
+        return Refusal::BadCall.code();
+    };
+    answer_sized(
+        kind, several, function, process, count, fcb, dma, list, image, vector,
     )
-}
-
-// The code of the first general refusal, or 0.
-pub fn general_refusal(
-    kind: Kind,
-    function: u32,
-    process: u32,
-    count: u32,
-    fcb: &[u8],
-    dma: &[u8],
-    list: &[u8],
-    image: &[u8],
-    vector: &[u8],
-) -> u32
-    ensures { result ≡ first_of (rows_five kind function process count vector.now (buffers fcb.now dma.now list.now image.now)) }
-{
-    let chosen = routine_of(function);
-    let Chosen::Call(routine) = chosen else {
-        return BAD_CALL;
-    };
-    if bad_lengths(
-        kind, function, routine, process, count, fcb, dma, list, vector,
-    ) {
-        return BAD_CALL;
-    }
-    refusal(kind, function, routine, fcb, list, image, vector)
 }

@@ -3,5 +3,5 @@
 
 pub mod answer;
 mod choose;
-mod refuse;
+pub mod refuse;
 mod serve;

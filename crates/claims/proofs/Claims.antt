@@ -16,11 +16,10 @@ use Rattle.rules.specs.declared.kind.Rule.{Rule}
 use Rattle.rules.specs.declared.kind.Rule.TheVariants.{Mpm}
 use Rattle.rules.specs.declared.kind.Kind.{Kind}
 use Rattle.rules.specs.declared.kind.Kind.TheVariants.{Small, Large}
-use Rattle.rules.specs.declared.kind.Told.{Told}
-use Rattle.rules.specs.declared.kind.Told.TheVariants.{Known, Other}
+use Rattle.std.specs.Prelude.{Option, Some, None}
 use Rattle.rules.specs.Kinds.{told_kind, rule_of, with_rule, is_large, vector_size}
 use Rattle.rules.specs.Serves.{Outcome, outcome}
-use Rattle.rules.specs.Drive.{look_up, sound_image, image_number, image_entry, image_told}
+use Rattle.rules.specs.Drive.{look_up, sound_image, fault_number, fault_entry, image_number, image_entry, image_told}
 use Rattle.rules.specs.Locks.{rule_in, start}
 use Rattle.rules.specs.Several.{call_run}
 use Rattle.rules.specs.Vector.{Built, built, vector_of, five, call_five, build, rows_build}
@@ -118,13 +117,13 @@ module _ (e : ℕ → FiveEngine) (keeps : KeepsContract e) where
       λ j. record { did = did_is _ _ _ w.outcome_so j; vector = w.vector_so j }
 
   of_kind : (k : ℕ) (kind : Kind) → is_word k ≡ true → (before : List Ask) (q : Ask) (s : State) (v : List ℕ)
-      → is_possible q ≡ true → is_kept s ≡ true → is_lendable v ≡ true → told_kind k (rule_in s.list) ≡ Known kind
+      → is_possible q ≡ true → is_kept s ≡ true → is_lendable v ≡ true → told_kind k (rule_in s.list) ≡ Some kind
       → five_of (e k) before q s v ≡ call_five kind q.function q.process q.count v (lent q s)
   unfolding five_told
   of_kind k kind word before q s v may h b told =
-      told_so k word before q s v may h b ∙ ap (λ (t : Told). five_told t q.function q.process q.count v (lent q s)) told
+      told_so k word before q s v may h b ∙ ap (λ (t : Option Kind). five_told t q.function q.process q.count v (lent q s)) told
 
-  other_kind : (k : ℕ) (u : Rule) → (k ≡ 0 → ⊥) → (k ≡ 1 → ⊥) → told_kind k u ≡ Other
+  other_kind : (k : ℕ) (u : Rule) → (k ≡ 0 → ⊥) → (k ≡ 1 → ⊥) → told_kind k u ≡ None
   unfolding told_kind ◌if◌else◌
   other_kind k u a b = rw (ne_eqb k 0 a, ne_eqb k 1 b)
 
@@ -133,11 +132,11 @@ module _ (e : ℕ → FiveEngine) (keeps : KeepsContract e) where
   unfolding five_told
   unknown k a b word before q s v may h y =
       told_so k word before q s v may h y
-      ∙ ap (λ (t : Told). five_told t q.function q.process q.count v (lent q s)) (other_kind k (rule_in s.list) a b)
+      ∙ ap (λ (t : Option Kind). five_told t q.function q.process q.count v (lent q s)) (other_kind k (rule_in s.list) a b)
 
   -- a book of one kind, told the other: f is the kind that k tells
   refuses : (own : Kind) (f : Rule → Kind) (k : ℕ) → is_word k ≡ true → ((u : Rule) → is_large own ≡ is_large (f u) → ⊥)
-      → ((u : Rule) → told_kind k u ≡ Known (f u)) → (before : List Ask) (q : Ask) (s : State) (v : List ℕ)
+      → ((u : Rule) → told_kind k u ≡ Some (f u)) → (before : List Ask) (q : Ask) (s : State) (v : List ℕ)
       → is_possible q ≡ true → is_kept s ≡ true → is_lendable v ≡ true → sound_image own s.image ≡ true → Refuses e k before q s v
   unfolding Refuses
   refuses own f k word other told before q s v may h b sound =
@@ -145,11 +144,11 @@ module _ (e : ℕ → FiveEngine) (keeps : KeepsContract e) where
       let r = of_kind k (f u) word before q s v may h b (told u) in
       ⊎_elim (λ z. inl (r ∙ z)) (λ z. inr (r ∙ z)) (other_five own (f u) (other u) s.image sound q.function q.process q.count (lent q s) refl v)
 
-  first_told : (u : Rule) → told_kind 0 u ≡ Known (Small u)
+  first_told : (u : Rule) → told_kind 0 u ≡ Some (Small u)
   unfolding told_kind ◌if◌else◌
   first_told u = refl
 
-  second_told : (u : Rule) → told_kind 1 u ≡ Known (Large u)
+  second_told : (u : Rule) → told_kind 1 u ≡ Some (Large u)
   unfolding told_kind ◌if◌else◌
   second_told u = refl
 
@@ -197,7 +196,7 @@ build_claims = record {
     quiet : (kind : Kind) (s v : List ℕ) → sound_image kind s ≡ true → length v ≡ vector_size kind → any_row (rows_build kind s v) ≡ false
     quiet kind s v sound long = unfold rows_build any_row in or_none _ _ (ap not (eq-eqb _ _ long)) (or_none _ _ (ap not sound) refl)
 
-    built_well : (kind : Kind) (s v : List ℕ) → sound_image kind s ≡ true → length v ≡ vector_size kind → build_told (Known kind) s v ≡ built (0 ∕ 0) (vector_of kind s)
+    built_well : (kind : Kind) (s v : List ℕ) → sound_image kind s ≡ true → length v ≡ vector_size kind → build_told (Some kind) s v ≡ built (0 ∕ 0) (vector_of kind s)
     built_well kind s v sound long = unfold build_told in build_accepted kind s v (quiet kind s v sound long)
 
     known : (kind : Kind) (s v : List ℕ) → ((build kind s v).answer ≡ 0 → ⊥) → (build kind s v).vector ≡ v
@@ -206,9 +205,9 @@ build_claims = record {
         (λ (h : any_row (rows_build kind s v) ≡ false). absurd (z (ap (λ (x : Built). x.answer) (build_accepted kind s v h))))
         (either (any_row (rows_build kind s v)))
 
-    unbuilt : (told : Told) (s v : List ℕ) → ((build_told told s v).answer ≡ 0 → ⊥) → (build_told told s v).vector ≡ v
-    unbuilt (Known kind) s v z = unfold build_told in known kind s v z
-    unbuilt Other s v z = unfold build_told in refl
+    unbuilt : (told : Option Kind) (s v : List ℕ) → ((build_told told s v).answer ≡ 0 → ⊥) → (build_told told s v).vector ≡ v
+    unbuilt (Some kind) s v z = unfold build_told in known kind s v z
+    unbuilt None s v z = unfold build_told in refl
 
 session_claims : TheSession
 session_claims = record { first-list = started; as_listed = the_session }
@@ -224,11 +223,11 @@ look_claims = record {
   other_look = looks;
 }
   where
-    checks : (own kind : Kind) → (is_large own ≡ is_large kind → ⊥) → (s : List ℕ) → sound_image own s ≡ true → check_told (Known kind) s ≡ 1
-    checks own kind other s sound = unfold check_told image_told image_number image_entry in ap image_told (other_check own kind other s sound)
+    checks : (own kind : Kind) → (is_large own ≡ is_large kind → ⊥) → (s : List ℕ) → sound_image own s ≡ true → check_told (Some kind) s ≡ 1
+    checks own kind other s sound = unfold check_told image_told image_number image_entry fault_number fault_entry in ap image_told (other_check own kind other s sound)
 
     looks : (own kind : Kind) → (is_large own ≡ is_large kind → ⊥) → (s : List ℕ) → sound_image own s ≡ true → (user : ℕ) (name : List ℕ) (r : ℕ)
-        → look_told (Known kind) user name r s ≡ 0
+        → look_told (Some kind) user name r s ≡ 0
     looks own kind other s sound user name r = unfold look_told in other_look own kind other s sound user name r
 
 check_claims : CheckClaims
@@ -285,8 +284,8 @@ same_claims = record {
   packed_form = λ kind s h.
       let g = sound_zero kind s h in
       let e = packed_rule Mpm kind s in (
-        subst (λ (t : List ℕ). same_told (Known (with_rule Mpm kind)) s t ≡ 0) e (packed_accepted (with_rule Mpm kind) s g),
-        subst (λ (t : List ℕ). same_told (Known (with_rule Mpm kind)) t s ≡ 0) e (accepted_packed (with_rule Mpm kind) s g),
+        subst (λ (t : List ℕ). same_told (Some (with_rule Mpm kind)) s t ≡ 0) e (packed_accepted (with_rule Mpm kind) s g),
+        subst (λ (t : List ℕ). same_told (Some (with_rule Mpm kind)) t s ≡ 0) e (accepted_packed (with_rule Mpm kind) s g),
       );
   itself = same_refl;
   turned = same_sym;

@@ -1,6 +1,6 @@
 -- What is claimed: a field for each promise, under the customer's sentence, in the customer's numbering. `proofs/Claims` gives the whole record.
 -- What goes beyond the customer's text is marked with a plus. Assumes nothing.
-use Rattle.std.specs.Prelude.{ℕ, ◌+◌, ◌*◌, ◌%◌, ◌≤◌, ◌<◌, ◌≡◌, true, false, List, [], ◌⊎◌, length, replicate, leb}
+use Rattle.std.specs.Prelude.{Result, ℕ, ◌+◌, ◌*◌, ◌%◌, ◌≤◌, ◌<◌, ◌≡◌, true, false, List, [], ◌⊎◌, length, replicate, leb, Option, Some, None}
 use Rattle.words.specs.Bytes.{byte, are_bytes}
 use Rattle.words.specs.Bits.{is_set}
 use Rattle.words.specs.Tables.{◌∕◌, first_of, any_row}
@@ -8,14 +8,11 @@ use Rattle.rules.specs.declared.kind.Rule.{Rule}
 use Rattle.rules.specs.declared.kind.Rule.TheVariants.{Mpm, Cpm}
 use Rattle.rules.specs.declared.kind.Kind.{Kind}
 use Rattle.rules.specs.declared.kind.Kind.TheVariants.{Small, Large}
-use Rattle.rules.specs.declared.kind.Told.{Told}
 use Rattle.rules.specs.declared.file.File.{File}
 use Rattle.rules.specs.declared.routine.Routine.TheVariants.{SearchFirst, SearchNext, Delete, Make, Rename, Write, Size, WriteZeros, TestWrite}
-use Rattle.rules.specs.declared.routine.Chosen.TheVariants.{Call}
-use Rattle.rules.specs.declared.kind.Told.TheVariants.{Known, Other}
 use Rattle.rules.specs.Kinds.{told_rule, told_kind, with_rule, is_large, entries, most, vector_size, top, last_module}
 use Rattle.rules.specs.Serves.{Buffers, outcome, chosen, is_search, list_size}
-use Rattle.rules.specs.declared.answer.ImageAnswer.{ImageAnswer}
+use Rattle.rules.specs.declared.answer.ImageFault.{ImageFault}
 use Rattle.rules.specs.Drive.{entry_size, record_size, good_length, file_from, entry_byte, extent_at, is_of, no_entry, entry_of, look_up, is_free, free_blocks, blocks_in_use, is_empty, block_of, sound_image, image_check, image_told}
 use Rattle.rules.specs.Checks.{CheckTells}
 use Rattle.rules.specs.Locks.{rule_at, pack, unpack, rule_in, sound_list, start}
@@ -159,47 +156,47 @@ pub record LookClaims : Type 0 where
       → ((file_from u m 0 ≡ file_from v n 0) × (r ≡ q))
       ⊎ ((look_at kind u m r s + record_size ≤ look_at kind v n q s) ⊎ (look_at kind v n q s + record_size ≤ look_at kind u m r s))
   -- T-09: told the other kind, with either rule, the image check answers 1 and Look shows an empty part.
-  pub other_check : (own other : Kind) → (is_large own ≡ is_large other → ⊥) → (s : List ℕ) → sound_image own s ≡ true → check_told (Known other) s ≡ 1
+  pub other_check : (own other : Kind) → (is_large own ≡ is_large other → ⊥) → (s : List ℕ) → sound_image own s ≡ true → check_told (Some other) s ≡ 1
   pub other_look : (own other : Kind) → (is_large own ≡ is_large other → ⊥) → (s : List ℕ) → sound_image own s ≡ true
-      → (user : ℕ) (name : List ℕ) (r : ℕ) → look_told (Known other) user name r s ≡ 0
+      → (user : ℕ) (name : List ℕ) (r : ℕ) → look_told (Some other) user name r s ≡ 0
 
 -- T-01: "Tell the lowest bad entry and why." Of every image, for either kind of drive; + another answer is another number.
 pub record CheckClaims : Type 0 where
   pub tells : (kind : Kind) (s : List ℕ) → CheckTells kind s
-  pub told : (kind : Kind) (s : List ℕ) → check_told (Known kind) s ≡ image_told (image_check kind s)
-  pub told_apart : (a b : ImageAnswer) → image_told a ≡ image_told b → a ≡ b
+  pub told : (kind : Kind) (s : List ℕ) → check_told (Some kind) s ≡ image_told (image_check kind s)
+  pub told_apart : (a b : Result (Unit {0}) ImageFault) → image_told a ≡ image_told b → a ≡ b
 
 -- T-13, of what `mpm_call` promises, told whatever number: the three statements, + any number of Unlocks in any order, and that a Lock and the
 -- Unlock of its run never give back a list in which the caller held a record of the run. + Three other Unlocks fall.
 pub record UnlockClaims : Type 0 where
-  pub unlocking : (t : Told) → Unlocking (locks_told t) (unlocks_told t)
+  pub unlocking : (t : Option Kind) → Unlocking (locks_told t) (unlocks_told t)
   pub wrong_fall : WrongUnlocks
 
 -- T-05, "Compute File Size", of every call that a row does not refuse; f is any file, its name of eleven bytes.
 pub record SizeClaims : Type 0 where
   -- "FCB bytes 33 to 35 become 128 times the highest extent plus that extent's count .. up to 262,144" (under rule 1, 65,536); no entry has a higher extent
-  pub told : (kind : Kind) (n p c : ℕ) (b : Buffers) → any_row (rows_call kind n p c b) ≡ false → chosen n ≡ Call Size
+  pub told : (kind : Kind) (n p c : ℕ) (b : Buffers) → any_row (rows_call kind n p c b) ≡ false → chosen n ≡ Some Size
       → record_of (call kind n p c b).left.fcb ≡ file_size kind b.image (file_in p b)
   pub most : (kind : Kind) (s : List ℕ) (f : File) → length f.name ≡ 11 → sound_image kind s ≡ true → file_size kind s f ≤ top kind + 1
   pub highest : (kind : Kind) (s : List ℕ) (f : File) (e : ℕ) → e < entries kind → is_of s f e ≡ true → extent_at s e ≤ (look_up kind s f).extent
   -- + a file just made has size 0; after a 34, 40 or 41 of record r it is at least r + 1; ..
-  pub made : (kind : Kind) (n p c : ℕ) (b : Buffers) → any_row (rows_call kind n p c b) ≡ false → chosen n ≡ Call Make
+  pub made : (kind : Kind) (n p c : ℕ) (b : Buffers) → any_row (rows_call kind n p c b) ≡ false → chosen n ≡ Some Make
       → file_size kind (call kind n p c b).left.image (file_in p b) ≡ 0
   pub written : (kind : Kind) (n p c : ℕ) (b : Buffers) → any_row (rows_call kind n p c b) ≡ false
-      → (chosen n ≡ Call Write) ⊎ (chosen n ≡ Call WriteZeros) → record_of b.fcb + 1 ≤ file_size kind (call kind n p c b).left.image (file_in p b)
-  pub rewritten : (kind : Kind) (n p c : ℕ) (b : Buffers) → any_row (rows_call kind n p c b) ≡ false → chosen n ≡ Call TestWrite
+      → (chosen n ≡ Some Write) ⊎ (chosen n ≡ Some WriteZeros) → record_of b.fcb + 1 ≤ file_size kind (call kind n p c b).left.image (file_in p b)
+  pub rewritten : (kind : Kind) (n p c : ℕ) (b : Buffers) → any_row (rows_call kind n p c b) ≡ false → chosen n ≡ Some TestWrite
       → record_of b.fcb + 1 ≤ file_size kind (call kind n p c b).left.image (file_in p b)
   -- .. no call, with one record or several, lowers it but the file's own Delete or Rename; and Rename gives the new name the old size.
   pub kept : (kind : Kind) (n p c : ℕ) (b : Buffers) (f : File) → length f.name ≡ 11
-      → ((chosen n ≡ Call Delete) ⊎ (chosen n ≡ Call Rename) → f ≡ file_in p b → ⊥)
+      → ((chosen n ≡ Some Delete) ⊎ (chosen n ≡ Some Rename) → f ≡ file_in p b → ⊥)
       → file_size kind b.image f ≤ file_size kind (call_run kind n p c b).left.image f
-  pub renamed : (kind : Kind) (n p c : ℕ) (b : Buffers) → any_row (rows_call kind n p c b) ≡ false → chosen n ≡ Call Rename
+  pub renamed : (kind : Kind) (n p c : ℕ) (b : Buffers) → any_row (rows_call kind n p c b) ≡ false → chosen n ≡ Some Rename
       → file_size kind (call kind n p c b).left.image (new_file p (unpack b.list) b.fcb) ≡ file_size kind b.image (file_in p b)
 
 -- T-02, "Directory listing for the clerks", of every search that no row refuses; that no call moves another process's position is in demand 3.
 pub record SearchClaims : Type 0 where
   -- "A is its place there, 0 to 3"; "no match answers 255/0, and this one answer does set the position"; + nothing else changes
-  pub searched : (kind : Kind) (n p c : ℕ) (b : Buffers) → (chosen n ≡ Call SearchFirst) ⊎ (chosen n ≡ Call SearchNext)
+  pub searched : (kind : Kind) (n p c : ℕ) (b : Buffers) → (chosen n ≡ Some SearchFirst) ⊎ (chosen n ≡ Some SearchNext)
       → any_row (rows_call kind n p c b) ≡ false → are_bytes b.list ≡ true → Searched kind p b (call kind n p c b)
   -- + one 17, then 18s until 255/0: the 32 bytes at DMA 32·A are the matching entries', each once, in rising order
   pub lists : (kind : Kind) (p c : ℕ) (b : Buffers) → any_row (rows_call kind 17 p c b) ≡ false → ShowsMatching kind p c b
@@ -207,9 +204,9 @@ pub record SearchClaims : Type 0 where
 -- T-08, "Salvage for damaged books", of what `mpm_salvage` promises, told whatever number; s is the image, r the report buffer as lent.
 pub record SalvageClaims : Type 0 where
   -- "Refusals: 1 wrong image length, 2 report buffer not 64 bytes, both changing nothing"; else it is done
-  pub refused : (told : Told) (s r : List ℕ) → ((salvage_told told s r).answer ≡ 0 → ⊥) → ((salvage_told told s r).image ≡ s) × ((salvage_told told s r).report ≡ r)
+  pub refused : (told : Option Kind) (s r : List ℕ) → ((salvage_told told s r).answer ≡ 0 → ⊥) → ((salvage_told told s r).image ≡ s) × ((salvage_told told s r).report ≡ r)
   pub done : (kind : Kind) (s r : List ℕ) → good_length kind s ≡ true → length r ≡ entries kind
-      → salvage_told (Known kind) s r ≡ salvaged 0 (repaired kind s) (report_of kind s)
+      → salvage_told (Some kind) s r ≡ salvaged 0 (repaired kind s) (report_of kind s)
   -- "The result is sound, a sound image is unchanged, and no byte changes but byte 0 of emptied entries and the zeroed map bytes."
   pub sound : (kind : Kind) (s : List ℕ) → good_length kind s ≡ true → sound_image kind (repaired kind s) ≡ true
   pub unchanged : (kind : Kind) (s : List ℕ) → sound_image kind s ≡ true → (repaired kind s ≡ s) × (report_of kind s ≡ replicate (entries kind) 0)
@@ -219,24 +216,24 @@ pub record SalvageClaims : Type 0 where
       → byte (report_of kind s) e ≡ compared kind s (repaired kind s) e
   -- + salvaged twice is salvaged once, the second report all zeros
   pub twice : (kind : Kind) (s r : List ℕ) → good_length kind s ≡ true → length r ≡ entries kind
-      → salvage_told (Known kind) (repaired kind s) r ≡ salvaged 0 (repaired kind s) (replicate (entries kind) 0)
+      → salvage_told (Some kind) (repaired kind s) r ≡ salvaged 0 (repaired kind s) (replicate (entries kind) 0)
 
 -- T-04, the building routine, of what `mpm_vector` promises; s is the image, v the vector as lent.
 pub record BuildClaims : Type 0 where
   -- "255/13 for the vector's length, then 255/1, the vector unchanged"; an unknown kind is refused too
-  pub refused : (told : Told) (s v : List ℕ) → ((build_told told s v).answer ≡ 0 → ⊥) → (build_told told s v).vector ≡ v
-  pub done : (kind : Kind) (s v : List ℕ) → sound_image kind s ≡ true → length v ≡ vector_size kind → build_told (Known kind) s v ≡ built (0 ∕ 0) (vector_of kind s)
+  pub refused : (told : Option Kind) (s v : List ℕ) → ((build_told told s v).answer ≡ 0 → ⊥) → (build_told told s v).vector ≡ v
+  pub done : (kind : Kind) (s v : List ℕ) → sound_image kind s ≡ true → length v ≡ vector_size kind → build_told (Some kind) s v ≡ built (0 ∕ 0) (vector_of kind s)
   -- "the high bit of byte 0 standing for block 0, a bit set where a block is used or belongs to the directory, bits from n on clear"
   pub bit : (kind : Kind) (s : List ℕ) (b : ℕ) → b < most kind → is_set (vector_of kind s) b ≡ is_taken kind s b
 
 -- T-12, "Packing a book", of what `mpm_pack` promises; s is the image, list the list, out the second buffer as lent.
 pub record PackClaims : Type 0 where
   -- "Refusals: .. the second buffer unchanged": it is done exactly where the kind is known and no row applies (image and list are only read)
-  pub refused : (told : Told) (s list out : List ℕ) → ((pack_told told s list out).answer ≡ 0 → ⊥) → (pack_told told s list out).out ≡ out
+  pub refused : (told : Option Kind) (s list out : List ℕ) → ((pack_told told s list out).answer ≡ 0 → ⊥) → (pack_told told s list out).out ≡ out
   pub done : (kind : Kind) (s list out : List ℕ) → any_row (rows_pack kind s list out) ≡ false
-      → pack_told (Known kind) s list out ≡ packs (0 ∕ 0) (packed kind s)
-  pub done_only : (told : Told) (s list out : List ℕ) → (pack_told told s list out).answer ≡ 0
-      → (kind : Kind) × (told ≡ Known kind) × (any_row (rows_pack kind s list out) ≡ false)
+      → pack_told (Some kind) s list out ≡ packs (0 ∕ 0) (packed kind s)
+  pub done_only : (told : Option Kind) (s list out : List ℕ) → (pack_told told s list out).answer ≡ 0
+      → (kind : Kind) × (told ≡ Some kind) × (any_row (rows_pack kind s list out) ≡ false)
   -- "Look, attributes and counts of every file stay": bytes 0 to 15 of every extent; + the packed book is sound, and as long
   pub sound : (kind : Kind) (s : List ℕ) → sound_image kind s ≡ true → sound_image kind (packed kind s) ≡ true
   pub as_long : (kind : Kind) (s : List ℕ) → sound_image kind s ≡ true → length (packed kind s) ≡ length s
@@ -257,19 +254,19 @@ pub record PackClaims : Type 0 where
 pub record SameClaims : Type 0 where
   -- "accepts the pair exactly when both are sound, hold the same files with the same extent 0 attributes, and Look shows for each record
   -- the same 128 bytes or nothing in both"
-  pub accepted : (kind : Kind) (s t : List ℕ) → sound_image kind s ≡ true → sound_image kind t ≡ true → SameBook kind s t → same_told (Known kind) s t ≡ 0
-  pub accepted_only : (told : Told) (s t : List ℕ) → same_told told s t ≡ 0
-      → (kind : Kind) × (told ≡ Known kind) × (sound_image kind s ≡ true) × (sound_image kind t ≡ true) × SameBook kind s t
+  pub accepted : (kind : Kind) (s t : List ℕ) → sound_image kind s ≡ true → sound_image kind t ≡ true → SameBook kind s t → same_told (Some kind) s t ≡ 0
+  pub accepted_only : (told : Option Kind) (s t : List ℕ) → same_told told s t ≡ 0
+      → (kind : Kind) × (told ≡ Some kind) × (sound_image kind s ≡ true) × (sound_image kind t ≡ true) × SameBook kind s t
   -- "Refusals: 1 first image unsound or kind of drive unknown, 2 second unsound, 3 they hold different books"
-  pub unknown_kind : (s t : List ℕ) → same_told Other s t ≡ 1
-  pub first_unsound : (kind : Kind) (s t : List ℕ) → sound_image kind s ≡ false → same_told (Known kind) s t ≡ 1
-  pub second_unsound : (kind : Kind) (s t : List ℕ) → sound_image kind s ≡ true → sound_image kind t ≡ false → same_told (Known kind) s t ≡ 2
+  pub unknown_kind : (s t : List ℕ) → same_told None s t ≡ 1
+  pub first_unsound : (kind : Kind) (s t : List ℕ) → sound_image kind s ≡ false → same_told (Some kind) s t ≡ 1
+  pub second_unsound : (kind : Kind) (s t : List ℕ) → sound_image kind s ≡ true → sound_image kind t ≡ false → same_told (Some kind) s t ≡ 2
   pub different : (kind : Kind) (s t : List ℕ) → sound_image kind s ≡ true → sound_image kind t ≡ true → (SameBook kind s t → ⊥)
-      → same_told (Known kind) s t ≡ 3
+      → same_told (Some kind) s t ≡ 3
   -- "A book and its packed form from T-12 are always accepted": in either order, whatever the rule that it was packed by (T-11: "pairs of
   -- images, where compared, are judged by rule 0"); + it is an equivalence
   pub packed_form : (kind : Kind) (s : List ℕ) → sound_image kind s ≡ true
-      → (same_told (Known (with_rule Mpm kind)) s (packed kind s) ≡ 0) × (same_told (Known (with_rule Mpm kind)) (packed kind s) s ≡ 0)
+      → (same_told (Some (with_rule Mpm kind)) s (packed kind s) ≡ 0) × (same_told (Some (with_rule Mpm kind)) (packed kind s) s ≡ 0)
   pub itself : (kind : Kind) (s : List ℕ) → SameBook kind s s
   pub turned : (kind : Kind) (s t : List ℕ) → SameBook kind s t → SameBook kind t s
   pub through : (kind : Kind) (s t v : List ℕ) → SameBook kind s t → SameBook kind t v → SameBook kind s v

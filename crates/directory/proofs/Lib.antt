@@ -1,5 +1,6 @@
 -- The proofs of `directory`.
-pub mod Arms
+pub mod Blocks
+pub mod Finding
 pub mod Places
 pub mod Looking
 pub mod Runs

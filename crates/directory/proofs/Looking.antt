@@ -1,13 +1,6 @@
 -- What one more entry adds to what looking up a file has found. Assumes nothing.
-use Prim.Native.Nat.{ℕ, ◌+◌, ◌≤◌, ◌<◌}
-use mathlib.Core.Path.{◌≡◌, refl, sym, ap, ◌∙◌}
-use mathlib.Core.Bool.{Bool, true, false, not}
-use mathlib.Core.List.{List}
-use mathlib.Core.Logic.{⊎_elim}
-use native.Mathlib.Omega.{arith}
-use lib.Dec.{leb, ltb, eqb}
-use borrow.Author.Rules.{rules}
-use borrow.Author.Tests.{ltb-true, ltb-false, leb-true, leb-false, eqb-true, eqb-false, not-true, not-false}
+use Rattle.std.proofs.Common.{ℕ, ◌+◌, ◌≤◌, ◌<◌, ◌≡◌, refl, sym, ap, ◌∙◌, Bool, true, false, not, List, ⊎_elim, arith, leb, ltb, eqb, rules, ltb-true, ltb-false, leb-true, leb-false, eqb-true}
+use borrow.Author.Tests.{eqb-false, not-true, not-false}
 use Rattle.words.specs.Tests.{◌and◌, ◌if◌else◌, greatest, lowest_or}
 use Rattle.words.proofs.Tests.{either, and_fst, and_snd, and_rest}
 use Rattle.words.proofs.Greatest.{or_skip, or_kept, or_any, or_found, or_within, or_ends, greatest_skip, greatest_kept, greatest_new, is_not, is_other, is_so}
@@ -130,4 +123,4 @@ module _ (none : ℕ) (s : List ℕ) (f : File) (e : ℕ) (x : Found) (r : Bool)
 
 pub ruleset looks = (rules, look_skip, look_kept, look_new)
 
-pub ruleset look-ups = (rules, found_none, found_ends, first_within, last_within)
+pub ruleset look_ups = (rules, found_none, found_ends, first_within, last_within)

@@ -1,102 +1,93 @@
 ghost use Rattle.std.specs.Prelude.{◌≡◌, ◌+◌, ◌*◌, ◌<◌, ◌≤◌, length};
 ghost use Rattle.rules.specs.Kinds.{numbers};
-ghost use Rattle.words.specs.Bytes.{byte};
-ghost use Rattle.rules.specs.Drive.{is_empty, extent_at, map_number, file_at, is_of, is_entry};
+ghost use Rattle.rules.specs.Drive.{is_empty, extent_at, map_number, file_at, is_of, is_entry, read_only};
 
 use crate::name::{file_from, is_named};
 use rules::file::File;
 use rules::kind::Kind;
-use words::byte::wide;
 
-// Entry `e` is empty.
-pub fn is_empty(image: &[u8], e: usize) -> bool
-    requires { 32 * e + 32 ≤ length image.now }
-    ensures { result ≡ is_empty image.now e }
-{
-    image[32 * e] == 0xE5
+// The 32 bytes of an image at an entry's place.
+#[derive(Clone, Copy)]
+pub struct Entry<'a> {
+    pub image: &'a [u8],
+    pub place: usize,
+    ghost within: { 32 * place + 32 ≤ length image.now },
 }
 
-// The extent number of entry `e`.
-pub fn extent_at(image: &[u8], e: usize) -> usize
-    requires { 32 * e + 32 ≤ length image.now }
-    ensures { result ≡ extent_at image.now e }
-{
-    wide(image[32 * e + 12]) + 32 * wide(image[32 * e + 14])
-}
-
-// A one-byte number.
-fn small_number(image: &[u8], e: usize, k: usize) -> usize
-    requires { (32 * e + 32 ≤ length image.now) × (k < 16) }
-    ensures { (result ≡ byte image.now (32 * e + (16 + k))) × (result < 65536) }
-{
-    wide(image[32 * e + (16 + k)])
-}
-
-// Two bytes, low byte first.
-fn two_bytes(a: u8, b: u8) -> usize
-    ensures { (result ≡ a + 256 * b) × (result < 65536) }
-{
-    a as usize + 256 * (b as usize)
-}
-
-// A two-byte number.
-fn large_number(image: &[u8], e: usize, k: usize) -> usize
-    requires { (32 * e + 32 ≤ length image.now) × (k < 8) }
-    ensures { (result ≡ byte image.now (32 * e + (16 + 2 * k)) + 256 * byte image.now (32 * e + (16 + 2 * k) + 1)) × (result < 65536) }
-{
-    let at = 32 * e + (16 + 2 * k);
-    two_bytes(image[at], image[at + 1])
-}
-
-// The number in place `k` of entry `e`'s map.
-pub fn map_number(kind: Kind, image: &[u8], e: usize, k: usize) -> usize
-    requires { (32 * e + 32 ≤ length image.now) × (k < numbers kind) }
-    ensures { (result ≡ map_number kind image.now e k) × (result < 65536) }
-{
-    match kind {
-        Kind::Small(_) => small_number(image, e, k),
-        Kind::Large(_) => large_number(image, e, k),
+impl<'a> Entry<'a> {
+    // The one at a place.
+    pub fn at(image: &'a [u8], place: usize) -> Self
+        requires { 32 * place + 32 ≤ length image.now }
+        ensures { (result.image.now ≡ image.now) × (result.place ≡ place) }
+    {
+        Entry { image, place }
     }
-}
 
-// The file of entry `e`.
-pub fn file_at(image: &[u8], e: usize) -> File
-    requires { 32 * e + 32 ≤ length image.now }
-    ensures { result ≡ file_at image.now e }
-{
-    let user = image[32 * e];
-    file_from(user, image, 32 * e + 1)
-}
+    // It is empty.
+    #[tactic(auto, using(words::proofs::Sets::choices), unfolding(rules::specs::Drive::is_empty))]
+    pub fn is_empty(&self) -> bool
+        ensures { result ≡ is_empty self.now.image.now self.now.place }
+    {
+        self.image[32 * self.place] == 0xE5
+    }
 
-// Entry `e` is in use and of the file.
-pub fn is_of(image: &[u8], f: File, e: usize) -> bool
-    requires { 32 * e + 32 ≤ length image.now }
-    ensures { result ≡ is_of image.now f e }
-{
-    if image[32 * e] == 0xE5 {
-        return false;
+    // Its extent number.
+    pub fn extent(&self) -> usize
+        ensures { result ≡ extent_at self.now.image.now self.now.place }
+    {
+        usize::from(self.image[32 * self.place + 12])
+            + 32 * usize::from(self.image[32 * self.place + 14])
     }
-    if image[32 * e] != f.user {
-        return false;
-    }
-    let name = f.name;
-    is_named(image, 32 * e + 1, name)
-}
 
-// Entry `e` is that extent of the file.
-pub fn is_entry(image: &[u8], f: File, extent: usize, e: usize) -> bool
-    requires { 32 * e + 32 ≤ length image.now }
-    ensures { result ≡ is_entry image.now f extent e }
-{
-    if image[32 * e] == 0xE5 {
-        return false;
+    // The number in place `k` of its map.
+    #[tactic(auto, unfolding(rules::specs::Kinds::numbers, rules::specs::Kinds::width, rules::specs::Drive::map_number, words::specs::Bytes::number_at))]
+    pub fn map_number(&self, kind: Kind, k: usize) -> usize
+        requires { k < numbers kind }
+        ensures { (result ≡ map_number kind self.now.image.now self.now.place k) × (result < 65536) }
+    {
+        match kind {
+            Kind::Small(_) => usize::from(self.image[32 * self.place + 16 + k]),
+            Kind::Large(_) => {
+                let at = 32 * self.place + 16 + 2 * k;
+                usize::from(u16::from_le_bytes([self.image[at], self.image[at + 1]]))
+            }
+        }
     }
-    if image[32 * e] != f.user {
-        return false;
+
+    // Its file.
+    #[tactic(auto, unfolding(rules::specs::Drive::file_at))]
+    pub fn file(&self) -> File
+        ensures { result ≡ file_at self.now.image.now self.now.place }
+    {
+        file_from(self.image[32 * self.place], self.image, 32 * self.place + 1)
     }
-    if extent_at(image, e) != extent {
-        return false;
+
+    // It is in use and of the file.
+    #[tactic(auto, using(words::proofs::Sets::choices), unfolding(rules::specs::Drive::is_of))]
+    pub fn is_of(&self, f: File) -> bool
+        ensures { result ≡ is_of self.now.image.now f self.now.place }
+    {
+        !self.is_empty()
+            && self.image[32 * self.place] == f.user
+            && is_named(self.image, 32 * self.place + 1, f.name)
     }
-    let name = f.name;
-    is_named(image, 32 * e + 1, name)
+
+    // It is that extent of the file.
+    #[tactic(auto, using(words::proofs::Sets::choices), unfolding(rules::specs::Drive::is_entry))]
+    pub fn is_extent(&self, f: File, extent: usize) -> bool
+        ensures { result ≡ is_entry self.now.image.now f extent self.now.place }
+    {
+        !self.is_empty()
+            && self.image[32 * self.place] == f.user
+            && self.extent() == extent
+            && is_named(self.image, 32 * self.place + 1, f.name)
+    }
+
+    // The file, whose extent 0 it is, has the read-only attribute.
+    #[tactic(auto, using(words::proofs::Sets::choices), unfolding(rules::specs::Drive::read_only))]
+    pub fn is_read_only(&self) -> bool
+        ensures { result ≡ read_only self.now.image.now self.now.place }
+    {
+        128 <= self.image[32 * self.place + 9]
+    }
 }

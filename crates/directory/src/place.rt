@@ -5,6 +5,7 @@ ghost use Rattle.rules.specs.Drive.{blocks, map_place, record_at};
 use rules::kind::{Kind, block_records, block_size};
 
 // The number of blocks.
+#[tactic(auto, using(crate::proofs::Places::places))]
 pub fn blocks_in(kind: Kind, image: &[u8]) -> usize
     ensures { result ≡ blocks kind image.now }
 {
@@ -12,6 +13,7 @@ pub fn blocks_in(kind: Kind, image: &[u8]) -> usize
 }
 
 // The place of a record in its extent's map.
+#[tactic(auto, using(crate::proofs::Places::places))]
 pub fn map_place(kind: Kind, r: usize) -> usize
     ensures { (result ≡ map_place kind r) × (result < numbers kind) }
 {
@@ -34,6 +36,7 @@ fn rest_of(kind: Kind, r: usize) -> usize
 }
 
 // Where a record begins in its block of the image.
+#[tactic(auto, using(crate::proofs::Places::places))]
 pub fn record_at(kind: Kind, block: usize, r: usize) -> usize
     requires { block < 65536 }
     ensures { (result ≡ record_at kind block r) × (result ≤ 134219648) }

@@ -1,39 +1,16 @@
 -- What passing the tests of the check and of Look says. Assumes nothing.
-use Prim.Native.Nat.{ℕ, ◌+◌, ◌-◌, ◌*◌, ◌%◌, ◌≤◌, ◌<◌}
-use mathlib.Core.Path.{◌≡◌, sym, ap, ◌∙◌}
-use mathlib.Core.Bool.{Bool, true, false, not}
-use mathlib.Core.List.{List, []}
-use native.Mathlib.Omega.{arith}
-use lib.ListN.{length, take, drop}
-use lib.Dec.{leb, eqb}
-use borrow.Author.Tests.{leb-true, eqb-true, eq-eqb, ne_eqb, le-leb, lt-leb, not-true, not-false}
-use Rattle.words.specs.Tests.{◌and◌, ◌if◌else◌}
+use Rattle.std.proofs.Common.{ℕ, ◌+◌, ◌-◌, ◌*◌, ◌%◌, ◌≤◌, ◌<◌, ◌≡◌, sym, ap, ◌∙◌, Bool, true, false, not, List, [], arith, rules, length, take}
+use Rattle.std.proofs.Common.{drop, leb, eqb, leb-true, eqb-true, eq-eqb, ne_eqb, le-leb}
+use borrow.Author.Tests.{not-true, not-false}
+use Rattle.words.specs.Tests.{◌if◌else◌}
 use Rattle.words.proofs.Tests.{and_fst, and_snd}
 use Rattle.rules.specs.declared.kind.Kind.{Kind}
-use Rattle.rules.specs.Kinds.{block_size, fewest, most, entries}
+use Rattle.rules.specs.Kinds.{most, entries}
 use Rattle.rules.specs.Drive.{blocks, good_length, file_from, block_of}
 use Rattle.rules.specs.Look.{may_look, look_block, part_at, look_at, part_from, look}
 use Rattle.rules.specs.declared.file.File.{File}
 use Rattle.rules.proofs.Sound.{length_long, length_few, sound_length}
 use Rattle.rules.proofs.Look.{look_inside}
-
--- the answers of the test of a length
-module _ (kind : Kind) (s : List ℕ) where
-  pub length_odd : (n : ℕ) → n ≡ block_size kind → (length s % n ≡ 0 → ⊥) → false ≡ good_length kind s
-  unfolding good_length ◌and◌
-  length_odd n h q = rw (ne_eqb (length s % block_size kind) 0 (rw h at q))
-
-  module _ (n b : ℕ) (h : n ≡ block_size kind) (z : length s % n ≡ 0) (is : b ≡ blocks kind s) where
-    whole : eqb (length s % block_size kind) 0 ≡ true
-    whole = eq-eqb _ _ (rw h at z)
-
-    pub length_below : (m : ℕ) → m ≡ fewest kind → b < m → false ≡ good_length kind s
-    unfolding good_length ◌and◌
-    length_below m g l = rw (whole, lt-leb (fewest kind) (blocks kind s) (omega arith))
-
-    pub length_else : (m t : ℕ) → m ≡ fewest kind → t ≡ most kind → m ≤ b → leb b t ≡ good_length kind s
-    unfolding good_length ◌and◌
-    length_else m t g f l = rw (whole, le-leb (fewest kind) (blocks kind s) (omega arith), is, f)
 
 -- after `if !good_length(image) { return .. }`
 pub directory_there : (kind : Kind) (r : Bool) (s : List ℕ) → r ≡ good_length kind s → not r ≡ false → 32 * entries kind ≤ length s
@@ -91,4 +68,6 @@ module _ (kind : Kind) (at u : ℕ) (name : List ℕ) (q : ℕ) (s : List ℕ) (
   unfolding look part_from ◌if◌else◌
   look_some n end h = let k : end - at ≡ 128 = omega arith in rw (← e, ne_eqb _ _ n, k)
 
-pub ruleset lengths = (length_odd, length_below, length_else)
+pub ruleset looks = (rules, looked_image, looked_user, looked_long, looked_block, looked_not)
+
+pub ruleset looking = (look_room, look_none, look_some)

@@ -1,17 +1,11 @@
 -- The marks of a sound directory, with the bits of its own two blocks, are the vector of the image. Assumes nothing.
-use Prim.Native.Nat.{ℕ, ◌+◌, ◌-◌, ◌*◌, ◌≤◌, ◌<◌}
-use mathlib.Core.Path.{◌≡◌, refl, sym, ap, ◌∙◌}
-use mathlib.Core.Bool.{Bool, true, false, not, true≢false}
-use mathlib.Core.List.{List, ◌++◌, append-nil}
-use mathlib.Core.Logic.{⊎_elim}
-use native.Mathlib.Omega.{arith}
-use lib.ListN.{length, take, drop, replicate, length-replicate}
-use lib.Seq.{drop-length}
-use lib.Dec.{eqb, ltb}
-use borrow.Author.Rules.{rules}
-use borrow.Author.Tests.{eq-eqb, ne_eqb, eqb-true, leb-true, lt-ltb, le-ltb, ltb-true, ltb-false, not-true, not-false}
+use Rattle.std.proofs.Common.{ℕ, ◌+◌, ◌-◌, ◌*◌, ◌≤◌, ◌<◌, ◌≡◌, refl, sym, ap, ◌∙◌, Bool, true, false, not, true≢false, List, ◌++◌, append-nil}
+use Rattle.std.proofs.Common.{⊎_elim, arith, length, take, drop, replicate, eqb, ltb, rules, eq-eqb, ne_eqb, eqb-true, leb-true, lt-ltb, le-ltb}
+use Rattle.std.proofs.Common.{ltb-true, ltb-false}
+use Rattle.std.proofs.Math.ListN.{length-replicate}
+use borrow.Author.Tests.{not-true, not-false}
 use Rattle.words.specs.Tests.{◌and◌, ◌or◌, ◌if◌else◌, all}
-use Rattle.words.specs.Bytes.{put, same_byte}
+use Rattle.words.specs.Bytes.{same_byte}
 use Rattle.words.specs.Bits.{is_set, with_bit}
 use Rattle.words.specs.Hints.{Hints}
 use Rattle.words.specs.Tables.{first_of}
@@ -170,12 +164,6 @@ module _ (kind : Kind) (s : List ℕ) (r : Bool) (seen hints : List ℕ) (w : Ve
 
 -- ---- the ends of the routine that builds it
 
--- as long as what it is put into
-put_whole : (v s : List ℕ) → length v ≡ length s → put 0 v s ≡ v
-unfolding put
-put_whole v s h = let e : 0 + length v ≡ length s = omega arith in
-    ap (λ (n : ℕ). v ++ drop n s) e ∙ ap (λ (x : List ℕ). v ++ x) (drop-length s) ∙ append-nil v
-
 module _ (kind : Kind) (s v zs : List ℕ) (z : zs ≡ replicate (vector_size kind) 0) where
   size : length zs ≡ vector_size kind
   size = ap length z ∙ length-replicate (vector_size kind) 0
@@ -195,20 +183,21 @@ module _ (kind : Kind) (s v zs : List ℕ) (z : zs ≡ replicate (vector_size ki
     build_unsound n = let q : sound_image kind s ≡ false = sym w.answer ∙ not-true r n in rw (fits, q)
 
     module _ (n : not r ≡ false) where
-      as_long : length seen ≡ length v
-      as_long = ap length (w.vector (not-false r n)) ∙ vector-long kind s ∙ sym size ∙ sym l
-
       -- the vector is built
-      pub build_done : (u : List ℕ) → u ≡ put 0 seen v → built 0 u ≡ build kind s v
+      pub build_done : (u : List ℕ) → u ≡ seen → built 0 u ≡ build kind s v
       unfolding build build_ends rows_build first_of ◌if◌else◌
       build_done u h =
           let q : sound_image kind s ≡ true = sym w.answer ∙ not-false r n in
-          let e : u ≡ vector_of kind s = h ∙ put_whole seen v as_long ∙ w.vector (not-false r n) in rw (fits, q, e)
+          let e : u ≡ vector_of kind s = h ∙ w.vector (not-false r n) in rw (fits, q, e)
 
 -- the first bytes of an array of zeros, as many as the kind has
-pub lent_zeros : (kind : Kind) (n : ℕ) → n ≡ vector_size kind → n ≤ 512 → take {A = ℕ} (n - 0) (drop 0 (replicate 512 0)) ≡ replicate (vector_size kind) 0
+pub lent_first : (kind : Kind) (n : ℕ) → n ≡ vector_size kind → take {A = ℕ} n (replicate 512 0) ≡ replicate (vector_size kind) 0
 unfolding vector_size
-lent_zeros (Small u) n h l = rw h refl
-lent_zeros (Large u) n h l = rw h refl
+lent_first (Small u) n h = rw h refl
+lent_first (Large u) n h = rw h refl
 
-pub ruleset building = (rules, build_long, build_unsound, build_done, lent_zeros)
+-- .. where the part is written with its beginning
+pub lent_zeros : (kind : Kind) (n : ℕ) → n ≡ vector_size kind → n ≤ 512 → take {A = ℕ} (n - 0) (drop 0 (replicate 512 0)) ≡ replicate (vector_size kind) 0
+lent_zeros kind n h l = let e : n - 0 ≡ n = omega arith in rw e (lent_first kind n h)
+
+pub ruleset building = (rules, build_long, build_unsound, build_done)

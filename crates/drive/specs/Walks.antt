@@ -1,7 +1,7 @@
 -- What a walk over the directory answers, what its hints then know and its marks say. Assumes nothing.
-use Rattle.std.specs.Prelude.{ℕ, ◌+◌, ◌≡◌, Bool, true, List}
+use Rattle.std.specs.Prelude.{ℕ, ◌+◌, ◌≡◌, Bool, true, List, Result}
 use Rattle.words.specs.Hints.{Hints}
-use Rattle.rules.specs.declared.answer.ImageAnswer.{ImageAnswer}
+use Rattle.rules.specs.declared.answer.ImageFault.{ImageFault}
 use Rattle.rules.specs.declared.kind.Kind.{Kind}
 use Rattle.rules.specs.Kinds.{entries}
 use Rattle.rules.specs.Drive.{is_repeat, is_sound, sound_image}
@@ -20,12 +20,12 @@ pub record Walked (test : Bool) (s : List ℕ) (n : ℕ) (r : Bool) (hints : Lis
   pub knows : r ≡ true → Hints (slot_at s) (in_use s) n hints
 
 -- asked for an answer of the image check: where it is sound, the hints know the first n entries
-pub record Answered (told : ImageAnswer) (s : List ℕ) (n : ℕ) (r : ImageAnswer) (hints : List ℕ) : Type 0 where
+pub record Answered (told : Result (Unit {0}) ImageFault) (s : List ℕ) (n : ℕ) (r : Result (Unit {0}) ImageFault) (hints : List ℕ) : Type 0 where
   pub answer : r ≡ told
   pub knows : is_sound r ≡ true → Hints (slot_at s) (in_use s) n hints
 
 -- .. and each block that any of them names has its mark
-pub record Surveyed (told : ImageAnswer) (kind : Kind) (s : List ℕ) (r : ImageAnswer) (seen hints : List ℕ) : Type 0 where
+pub record Surveyed (told : Result (Unit {0}) ImageFault) (kind : Kind) (s : List ℕ) (r : Result (Unit {0}) ImageFault) (seen hints : List ℕ) : Type 0 where
   pub walk : Answered told s (entries kind) r hints
   pub marks : is_sound r ≡ true → Marks kind 1 s (entries kind) 0 seen
 

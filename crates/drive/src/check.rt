@@ -2,24 +2,26 @@ ghost use Rattle.std.specs.Prelude.{◌≡◌, true, ◌+◌, ◌*◌, ◌<◌, 
 ghost use Rattle.words.specs.Tests.{◌and◌, ◌or◌, all, any};
 ghost use Rattle.words.specs.Hints.{Hints};
 ghost use Rattle.words.specs.Tables.{first_of};
-ghost use Rattle.rules.specs.declared.kind.Kind.TheVariants.{Small, Large};
-ghost use Rattle.rules.specs.Kinds.{entries, numbers, most, last_module};
-ghost use Rattle.rules.specs.Drive.{good_length, blocks, good_numbers, in_range, file_at, is_entry, has_first, sound_image, bad_for, judged, headless, directory_answer, image_check};
+ghost use Rattle.rules.specs.Kinds.{entries, numbers, most};
+ghost use Rattle.rules.specs.Drive.{good_length, blocks, good_numbers, in_range, is_entry, has_first, sound_image, judged, directory_answer, image_check};
 ghost use Rattle.index.specs.Slots.{slot_at, in_use};
-ghost use Rattle.drive.specs.Marks.{Marks, Marked, field_reasons, Judged};
+ghost use Rattle.drive.specs.Marks.{kind_with, Marks, Marked, field_reasons, told_for, Judged};
 ghost use Rattle.drive.specs.Walks.{Repeats, Walked, Answered, Surveyed, Marking};
 
-use directory::entry::{extent_at, file_at, is_empty, map_number};
+use directory::entry::Entry;
+use directory::find::Directory;
 use directory::name::legal_name;
 use directory::place::blocks_in;
-use index::find::{entry_below, entry_by};
+use index::find::{Index, entry_below};
 use index::slot::slot_of;
-use rules::answer::{ImageAnswer, is_sound};
+use rules::answer::ImageFault;
+use rules::file::File;
 use rules::kind::{Kind, Rule, block_size, entries, fewest, last_module, most, numbers};
 use words::bits::{is_set, set};
 use words::hint::note;
 
 // A length that the kind of drive has.
+#[tactic(auto, using(words::proofs::Sets::choices, words::proofs::Sets::wides), unfolding(rules::specs::Drive::good_length))]
 pub fn good_length(kind: Kind, image: &[u8]) -> bool
     ensures { result ≡ good_length kind image.now }
 {
@@ -27,34 +29,22 @@ pub fn good_length(kind: Kind, image: &[u8]) -> bool
         return false;
     }
     let n = blocks_in(kind, image);
-    if n < fewest(kind) {
-        return false;
-    }
-    n <= most(kind)
-}
-
-// A module is at most that of the highest record.
-fn module_fits(kind: Kind, number: u8) -> bool
-    ensures { result ≡ leb number (last_module kind) }
-{
-    number <= last_module(kind)
+    fewest(kind) <= n && n <= most(kind)
 }
 
 // Ex to 31, the module to that of the highest record, the record count to 128.
-fn good_numbers(kind: Kind, image: &[u8], e: usize) -> bool
-    requires { 32 * e + 32 ≤ length image.now }
-    ensures { result ≡ good_numbers kind image.now e }
+#[tactic(auto, using(words::proofs::Sets::choices, words::proofs::Sets::wides), unfolding(rules::specs::Drive::good_numbers))]
+fn good_numbers(kind: Kind, entry: &Entry) -> bool
+    ensures { result ≡ good_numbers kind entry.now.image.now entry.now.place }
 {
-    if 31 < image[32 * e + 12] {
-        return false;
-    }
-    if !module_fits(kind, image[32 * e + 14]) {
-        return false;
-    }
-    image[32 * e + 15] <= 128
+    let at = 32 * entry.place;
+    entry.image[at + 12] <= 31
+        && entry.image[at + 14] <= last_module(kind)
+        && entry.image[at + 15] <= 128
 }
 
-// A block number is 0 or 2 to n - 1.
+// A block number is 0 or 2 to n - 1. Three tests one after the other: joined in one the image check took a tenth longer.
+#[tactic(auto, using(words::proofs::Sets::choices))]
 pub fn in_range(b: usize, n: usize) -> bool
     ensures { result ≡ (eqb b 0 or (leb 2 b and ltb b n)) }
 {
@@ -67,279 +57,226 @@ pub fn in_range(b: usize, n: usize) -> bool
     b < n
 }
 
-// All block numbers of entry `e` are in range. This loop and those that mark stand once for each kind, so that the kind is no
-// question inside them.
-fn small_in_range(rule: Rule, image: &[u8], e: usize) -> bool
-    requires { 32 * e + 32 ≤ length image.now }
-    ensures { result ≡ all (in_range (Small rule) image.now e) (numbers (Small rule)) }
+// The kind of drive of that rule: the second, or the first. The loops over an entry's map are built once for each, so that
+// the kind is no question inside them.
+fn kind_with(large: bool, rule: Rule) -> Kind
+    ensures { result ≡ kind_with large rule }
 {
-    let n = blocks_in(Kind::Small(rule), image);
-    let m = numbers(Kind::Small(rule));
-    let mut k = 0;
-    while k < m {
-        if !in_range(map_number(Kind::Small(rule), image, e, k), n) {
+    if large {
+        Kind::Large(rule)
+    } else {
+        Kind::Small(rule)
+    }
+}
+
+// All block numbers of an entry are in range.
+#[tactic(auto, using(crate::proofs::Marks::ranging))]
+fn numbers_in_range<const LARGE: bool>(rule: Rule, entry: &Entry) -> bool
+    ensures { result ≡ all (in_range (kind_with LARGE rule) entry.now.image.now entry.now.place) (numbers (kind_with LARGE rule)) }
+{
+    let kind = kind_with(LARGE, rule);
+    let n = blocks_in(kind, entry.image);
+    for k in 0..numbers(kind) {
+        if !in_range(entry.map_number(kind, k), n) {
             return false;
         }
-        k += 1;
     }
     true
 }
 
-fn large_in_range(rule: Rule, image: &[u8], e: usize) -> bool
-    requires { 32 * e + 32 ≤ length image.now }
-    ensures { result ≡ all (in_range (Large rule) image.now e) (numbers (Large rule)) }
+fn all_in_range(kind: Kind, entry: &Entry) -> bool
+    ensures { result ≡ all (in_range kind entry.now.image.now entry.now.place) (numbers kind) }
 {
-    let n = blocks_in(Kind::Large(rule), image);
-    let m = numbers(Kind::Large(rule));
-    let mut k = 0;
-    while k < m {
-        if !in_range(map_number(Kind::Large(rule), image, e, k), n) {
+    match kind {
+        Kind::Small(rule) => numbers_in_range::<false>(rule, entry),
+        Kind::Large(rule) => numbers_in_range::<true>(rule, entry),
+    }
+}
+
+// Marks the block numbers of an entry, all in range, and refuses a second mark.
+#[tactic(auto, using(crate::proofs::Marks::marking))]
+fn mark_numbers<const LARGE: bool>(rule: Rule, entry: &Entry, seen: &mut [u8]) -> bool
+    requires { (blocks (kind_with LARGE rule) entry.now.image.now ≤ most (kind_with LARGE rule)) × (all (in_range (kind_with LARGE rule) entry.now.image.now entry.now.place) (numbers (kind_with LARGE rule)) ≡ true) × Marks (kind_with LARGE rule) 1 entry.now.image.now entry.now.place 0 seen.old }
+    ensures { Marked (kind_with LARGE rule) entry.now.image.now entry.now.place result seen.new }
+{
+    let kind = kind_with(LARGE, rule);
+    for k in 0..numbers(kind) {
+        let b = entry.map_number(kind, k);
+        if b == 0 {
+            continue;
+        }
+        if is_set(seen, b) {
             return false;
         }
-        k += 1;
+        set(seen, b);
     }
     true
 }
 
-fn all_in_range(kind: Kind, image: &[u8], e: usize) -> bool
-    requires { 32 * e + 32 ≤ length image.now }
-    ensures { result ≡ all (in_range kind image.now e) (numbers kind) }
+fn mark_entry(kind: Kind, entry: &Entry, seen: &mut [u8]) -> bool
+    requires { (blocks kind entry.now.image.now ≤ most kind) × (all (in_range kind entry.now.image.now entry.now.place) (numbers kind) ≡ true) × Marks kind 1 entry.now.image.now entry.now.place 0 seen.old }
+    ensures { Marked kind entry.now.image.now entry.now.place result seen.new }
 {
     match kind {
-        Kind::Small(rule) => small_in_range(rule, image, e),
-        Kind::Large(rule) => large_in_range(rule, image, e),
+        Kind::Small(rule) => mark_numbers::<false>(rule, entry, seen),
+        Kind::Large(rule) => mark_numbers::<true>(rule, entry, seen),
     }
 }
 
-// Marks the block numbers of entry `e`, all in range, and refuses a second mark.
-fn mark_small(rule: Rule, image: &[u8], e: usize, seen: &mut [u8]) -> bool
-    requires { (32 * e + 32 ≤ length image.now) × (blocks (Small rule) image.now ≤ most (Small rule)) × (all (in_range (Small rule) image.now e) (numbers (Small rule)) ≡ true) × Marks (Small rule) 1 image.now e 0 seen.old }
-    ensures { Marked (Small rule) image.now e result seen.new }
+// An entry before this one has its file and extent; the hints, which know the entries before it, then know it too.
+pub fn is_repeat(entry: &Entry, hints: &mut [u8; 256]) -> bool
+    requires { (entry.now.place < 256) × Hints (slot_at entry.now.image.now) (in_use entry.now.image.now) entry.now.place hints.old }
+    ensures { Repeats entry.now.image.now entry.now.place result hints.new }
 {
-    let m = numbers(Kind::Small(rule));
-    let mut k = 0;
-    while k < m {
-        let b = map_number(Kind::Small(rule), image, e, k);
-        k += 1;
-        if b != 0 {
-            if is_set(seen, b) {
-                return false;
-            }
-            set(seen, b);
-        }
-    }
-    true
-}
-
-fn mark_large(rule: Rule, image: &[u8], e: usize, seen: &mut [u8]) -> bool
-    requires { (32 * e + 32 ≤ length image.now) × (blocks (Large rule) image.now ≤ most (Large rule)) × (all (in_range (Large rule) image.now e) (numbers (Large rule)) ≡ true) × Marks (Large rule) 1 image.now e 0 seen.old }
-    ensures { Marked (Large rule) image.now e result seen.new }
-{
-    let m = numbers(Kind::Large(rule));
-    let mut k = 0;
-    while k < m {
-        let b = map_number(Kind::Large(rule), image, e, k);
-        k += 1;
-        if b != 0 {
-            if is_set(seen, b) {
-                return false;
-            }
-            set(seen, b);
-        }
-    }
-    true
-}
-
-fn mark_entry(kind: Kind, image: &[u8], e: usize, seen: &mut [u8]) -> bool
-    requires { (32 * e + 32 ≤ length image.now) × (blocks kind image.now ≤ most kind) × (all (in_range kind image.now e) (numbers kind) ≡ true) × Marks kind 1 image.now e 0 seen.old }
-    ensures { Marked kind image.now e result seen.new }
-{
-    match kind {
-        Kind::Small(rule) => mark_small(rule, image, e, seen),
-        Kind::Large(rule) => mark_large(rule, image, e, seen),
-    }
-}
-
-// An entry before `e` has its file and extent; the hints, which know the entries before `e`, then know `e` too.
-pub fn is_repeat(image: &[u8], e: usize, hints: &mut [u8; 256]) -> bool
-    requires { (32 * e + 32 ≤ length image.now) × (e < 256) × Hints (slot_at image.now) (in_use image.now) e hints.old }
-    ensures { Repeats image.now e result hints.new }
-{
-    let f = file_at(image, e);
-    let extent = extent_at(image, e);
+    let f = entry.file();
+    let extent = entry.extent();
     let h = slot_of(f, extent);
-    let d = entry_below(image, &*hints, h, f, extent, e);
-    note(hints, h, e as u8);
-    d < e
+    let d = entry_below(entry.image, &*hints, h, f, extent, entry.place);
+    note(hints, h, entry.place as u8);
+    d < entry.place
 }
 
-// Whether the user, the name or ex, module and count of entry `e` are bad: the first that is, 0 where none is.
-pub fn field_reason(kind: Kind, image: &[u8], e: usize) -> u32
-    requires { 32 * e + 32 ≤ length image.now }
-    ensures { result ≡ first_of (field_reasons kind image.now e) }
+// The user, the name or ex, module and count of an entry are bad: the first that is.
+#[tactic(auto, using(crate::proofs::Marks::faults))]
+pub fn field_fault(kind: Kind, entry: &Entry) -> Result<(), ImageFault>
+    ensures { result ≡ told_for (first_of (field_reasons kind entry.now.image.now entry.now.place)) entry.now.place }
 {
-    if 15 < image[32 * e] {
-        return 2;
+    let at = 32 * entry.place;
+    if 15 < entry.image[at] {
+        return Err(ImageFault::BadUser(entry.place));
     }
-    if !legal_name(image, 32 * e + 1) {
-        return 3;
+    if !legal_name(entry.image, at + 1) {
+        return Err(ImageFault::BadName(entry.place));
     }
-    if !good_numbers(kind, image, e) {
-        return 4;
+    if !good_numbers(kind, entry) {
+        return Err(ImageFault::BadNumbers(entry.place));
     }
-    0
+    Ok(())
 }
 
-// Why entry `e` is bad, 0 where it is not, the blocks seen before it being marked and the entries before it known.
-fn judge_entry(kind: Kind, image: &[u8], e: usize, seen: &mut [u8], hints: &mut [u8; 256]) -> u32
-    requires { (32 * e + 32 ≤ length image.now) × (e < 256) × (blocks kind image.now ≤ most kind) × Marks kind 1 image.now e 0 seen.old × Hints (slot_at image.now) (in_use image.now) e hints.old }
-    ensures { Judged kind image.now e result seen.new hints.new }
+// Why an entry is bad, the blocks seen before it being marked and the entries before it known.
+#[inline(always)]
+fn judge_entry(
+    kind: Kind,
+    entry: &Entry,
+    seen: &mut [u8],
+    hints: &mut [u8; 256],
+) -> Result<(), ImageFault>
+    requires { (entry.now.place < 256) × (blocks kind entry.now.image.now ≤ most kind) × Marks kind 1 entry.now.image.now entry.now.place 0 seen.old × Hints (slot_at entry.now.image.now) (in_use entry.now.image.now) entry.now.place hints.old }
+    ensures { Judged kind entry.now.image.now entry.now.place result seen.new hints.new }
 {
-    if is_empty(image, e) {
-        return 0;
+    if entry.is_empty() {
+        return Ok(());
     }
-    let why = field_reason(kind, image, e);
-    if why != 0 {
-        return why;
+    field_fault(kind, entry)?;
+    if !all_in_range(kind, entry) {
+        return Err(ImageFault::BlockOutside(entry.place));
     }
-    if !all_in_range(kind, image, e) {
-        return 5;
+    if !mark_entry(kind, entry, seen) {
+        return Err(ImageFault::BlockBefore(entry.place));
     }
-    if !mark_entry(kind, image, e, seen) {
-        return 6;
+    if is_repeat(entry, hints) {
+        return Err(ImageFault::ExtentBefore(entry.place));
     }
-    if is_repeat(image, e, hints) {
-        return 7;
-    }
-    0
-}
-
-// What the image check answers for a reason and an entry.
-fn bad_for(why: u32, e: usize) -> ImageAnswer
-    ensures { result ≡ bad_for why e }
-{
-    match why {
-        2 => ImageAnswer::BadUser(e),
-        3 => ImageAnswer::BadName(e),
-        4 => ImageAnswer::BadNumbers(e),
-        5 => ImageAnswer::BlockOutside(e),
-        6 => ImageAnswer::BlockBefore(e),
-        _ => ImageAnswer::ExtentBefore(e),
-    }
+    Ok(())
 }
 
 // The lowest bad entry and why, no block having a mark yet and no entry being known.
-fn judge_all(kind: Kind, image: &[u8], seen: &mut [u8], hints: &mut [u8; 256]) -> ImageAnswer
-    requires { (32 * entries kind ≤ length image.now) × (blocks kind image.now ≤ most kind) × Marks kind 1 image.now 0 0 seen.old × Hints (slot_at image.now) (in_use image.now) 0 hints.old }
-    ensures { Surveyed (judged kind image.now) kind image.now result seen.new hints.new }
+#[tactic(auto, using(crate::proofs::Marks::entering))]
+fn judge_all(
+    directory: &Directory,
+    seen: &mut [u8],
+    hints: &mut [u8; 256],
+) -> Result<(), ImageFault>
+    requires { (blocks directory.now.kind directory.now.image.now ≤ most directory.now.kind) × Marks directory.now.kind 1 directory.now.image.now 0 0 seen.old × Hints (slot_at directory.now.image.now) (in_use directory.now.image.now) 0 hints.old }
+    ensures { Surveyed (judged directory.now.kind directory.now.image.now) directory.now.kind directory.now.image.now result seen.new hints.new }
 {
-    let n = entries(kind);
-    let mut e = 0;
-    while e < n {
-        let why = judge_entry(kind, image, e, &mut *seen, &mut *hints);
-        if why != 0 {
-            return bad_for(why, e);
-        }
-        e += 1;
+    for e in 0..entries(directory.kind) {
+        judge_entry(directory.kind, &directory.entry(e), &mut *seen, &mut *hints)?;
     }
-    ImageAnswer::Sound
+    Ok(())
 }
 
-// The file of entry `e` has an extent 0.
-fn has_first(kind: Kind, image: &[u8], hints: &[u8; 256], e: usize) -> bool
-    requires { (32 * e + 32 ≤ length image.now) × (32 * entries kind ≤ length image.now) × Hints (slot_at image.now) (in_use image.now) (entries kind) hints.now }
-    ensures { result ≡ any (is_entry image.now (file_at image.now e) 0) (entries kind) }
+// A file has an extent 0.
+#[tactic(auto, using(crate::proofs::Walks::begun_by))]
+fn has_first(index: &Index, f: File) -> bool
+    ensures { result ≡ any (is_entry index.now.directory.image.now f 0) (entries index.now.directory.kind) }
 {
-    let f = file_at(image, e);
-    let first = entry_by(kind, image, hints, f, 0);
-    first < entries(kind)
+    index.entry_of(f, 0) < entries(index.directory.kind)
 }
 
-// The same of an entry that may be empty; one that is extent 0 itself needs no search.
-pub fn is_begun(kind: Kind, image: &[u8], hints: &[u8; 256], e: usize) -> bool
-    requires { (e < entries kind) × (32 * entries kind ≤ length image.now) × Hints (slot_at image.now) (in_use image.now) (entries kind) hints.now }
-    ensures { result ≡ has_first kind image.now e }
+// So has that of entry `e`, which may be empty; one that is extent 0 itself needs no search.
+#[tactic(auto, using(words::proofs::Sets::choices, crate::proofs::Begun::begun_self), unfolding(rules::specs::Drive::has_first))]
+pub fn is_begun(index: &Index, e: usize) -> bool
+    requires { e < entries index.now.directory.kind }
+    ensures { result ≡ has_first index.now.directory.kind index.now.directory.image.now e }
 {
-    if is_empty(image, e) {
-        return true;
-    }
-    if extent_at(image, e) == 0 {
-        return true;
-    }
-    has_first(kind, image, hints, e)
-}
-
-// The lowest entry of a file without extent 0, the number of entries where there is none.
-fn headless(kind: Kind, image: &[u8], hints: &[u8; 256]) -> usize
-    requires { (32 * entries kind ≤ length image.now) × Hints (slot_at image.now) (in_use image.now) (entries kind) hints.now }
-    ensures { result ≡ headless kind image.now }
-{
-    let n = entries(kind);
-    let mut e = 0;
-    while e < n {
-        if !is_begun(kind, image, hints, e) {
-            return e;
-        }
-        e += 1;
-    }
-    e
+    let entry = index.directory.entry(e);
+    entry.is_empty() || entry.extent() == 0 || has_first(index, entry.file())
 }
 
 // The entries one by one, then the files; of a sound directory the hints know all entries and the marks say all blocks.
-fn directory_answer(kind: Kind, image: &[u8], seen: &mut [u8], hints: &mut [u8; 256]) -> ImageAnswer
-    requires { (32 * entries kind ≤ length image.now) × (blocks kind image.now ≤ most kind) × Marks kind 1 image.now 0 0 seen.old × Hints (slot_at image.now) (in_use image.now) 0 hints.old }
-    ensures { Surveyed (directory_answer kind image.now) kind image.now result seen.new hints.new }
+#[tactic(auto, using(crate::proofs::Walks::answering))]
+fn directory_answer(
+    directory: &Directory,
+    seen: &mut [u8],
+    hints: &mut [u8; 256],
+) -> Result<(), ImageFault>
+    requires { (blocks directory.now.kind directory.now.image.now ≤ most directory.now.kind) × Marks directory.now.kind 1 directory.now.image.now 0 0 seen.old × Hints (slot_at directory.now.image.now) (in_use directory.now.image.now) 0 hints.old }
+    ensures { Surveyed (directory_answer directory.now.kind directory.now.image.now) directory.now.kind directory.now.image.now result seen.new hints.new }
 {
-    let told = judge_all(kind, image, seen, &mut *hints);
-    if !is_sound(told) {
-        return told;
+    judge_all(directory, seen, &mut *hints)?;
+    let index = Index {
+        directory: *directory,
+        hints: &*hints,
+    };
+    for e in 0..entries(directory.kind) {
+        if !is_begun(&index, e) {
+            return Err(ImageFault::NoFirst(e));
+        }
     }
-    let e = headless(kind, image, &*hints);
-    if e < entries(kind) {
-        return ImageAnswer::NoFirst(e);
-    }
-    ImageAnswer::Sound
+    Ok(())
 }
 
-// The same with marks of its own: 32 bytes on a drive of the first kind, 512 on one of the second.
-fn small_answer(rule: Rule, image: &[u8], hints: &mut [u8; 256]) -> ImageAnswer
-    requires { (32 * entries (Small rule) ≤ length image.now) × (blocks (Small rule) image.now ≤ most (Small rule)) × Hints (slot_at image.now) (in_use image.now) 0 hints.old }
-    ensures { Answered (directory_answer (Small rule) image.now) image.now (entries (Small rule)) result hints.new }
+// The same with marks of its own, a bit for each of the most blocks of the kind.
+#[tactic(auto, using(rules::proofs::Sizes::most_fits))]
+fn answer_with<const SIZE: usize>(
+    directory: &Directory,
+    hints: &mut [u8; 256],
+) -> Result<(), ImageFault>
+    requires { (8 * SIZE ≡ most directory.now.kind) × (blocks directory.now.kind directory.now.image.now ≤ most directory.now.kind) × Hints (slot_at directory.now.image.now) (in_use directory.now.image.now) 0 hints.old }
+    ensures { Answered (directory_answer directory.now.kind directory.now.image.now) directory.now.image.now (entries directory.now.kind) result hints.new }
 {
-    let mut seen = [0u8; 32];
-    directory_answer(Kind::Small(rule), image, &mut seen, hints)
+    let mut seen = [0u8; SIZE];
+    directory_answer(directory, &mut seen, hints)
 }
 
-fn large_answer(rule: Rule, image: &[u8], hints: &mut [u8; 256]) -> ImageAnswer
-    requires { (32 * entries (Large rule) ≤ length image.now) × (blocks (Large rule) image.now ≤ most (Large rule)) × Hints (slot_at image.now) (in_use image.now) 0 hints.old }
-    ensures { Answered (directory_answer (Large rule) image.now) image.now (entries (Large rule)) result hints.new }
+// They are 32 bytes on a drive of the first kind, 512 on one of the second.
+#[tactic(auto, unfolding(rules::specs::Kinds::most))]
+fn own_answer(directory: &Directory, hints: &mut [u8; 256]) -> Result<(), ImageFault>
+    requires { (blocks directory.now.kind directory.now.image.now ≤ most directory.now.kind) × Hints (slot_at directory.now.image.now) (in_use directory.now.image.now) 0 hints.old }
+    ensures { Answered (directory_answer directory.now.kind directory.now.image.now) directory.now.image.now (entries directory.now.kind) result hints.new }
 {
-    let mut seen = [0u8; 512];
-    directory_answer(Kind::Large(rule), image, &mut seen, hints)
-}
-
-fn own_answer(kind: Kind, image: &[u8], hints: &mut [u8; 256]) -> ImageAnswer
-    requires { (32 * entries kind ≤ length image.now) × (blocks kind image.now ≤ most kind) × Hints (slot_at image.now) (in_use image.now) 0 hints.old }
-    ensures { Answered (directory_answer kind image.now) image.now (entries kind) result hints.new }
-{
-    match kind {
-        Kind::Small(rule) => small_answer(rule, image, hints),
-        Kind::Large(rule) => large_answer(rule, image, hints),
+    match directory.kind {
+        Kind::Small(_) => answer_with::<32>(directory, hints),
+        Kind::Large(_) => answer_with::<512>(directory, hints),
     }
 }
 
 // The image check.
-pub fn image_check(kind: Kind, image: &[u8]) -> ImageAnswer
+#[tactic(auto, using(words::proofs::Sets::choices, crate::proofs::Walks::walking), unfolding(rules::specs::Drive::image_check))]
+pub fn image_check(kind: Kind, image: &[u8]) -> Result<(), ImageFault>
     ensures { result ≡ image_check kind image.now }
 {
     if !good_length(kind, image) {
-        return ImageAnswer::WrongLength;
+        return Err(ImageFault::WrongLength);
     }
     let mut hints = [255u8; 256];
-    own_answer(kind, image, &mut hints)
+    own_answer(&Directory { kind, image }, &mut hints)
 }
 
 // The image is sound; the hints then know its entries.
+#[tactic(auto, using(crate::proofs::Walks::walking))]
 pub fn sound_index(kind: Kind, image: &[u8], hints: &mut [u8; 256]) -> bool
     requires { Hints (slot_at image.now) (in_use image.now) 0 hints.old }
     ensures { Walked (sound_image kind image.now) image.now (entries kind) result hints.new }
@@ -347,10 +284,11 @@ pub fn sound_index(kind: Kind, image: &[u8], hints: &mut [u8; 256]) -> bool
     if !good_length(kind, image) {
         return false;
     }
-    is_sound(own_answer(kind, image, hints))
+    own_answer(&Directory { kind, image }, hints).is_ok()
 }
 
 // The image is sound; the hints then know its entries, and the marks, none of which was set, say its blocks.
+#[tactic(auto, using(crate::proofs::Walks::surveying))]
 pub fn sound_marked(kind: Kind, image: &[u8], seen: &mut [u8], hints: &mut [u8; 256]) -> bool
     requires { Marks kind 1 image.now 0 0 seen.old × Hints (slot_at image.now) (in_use image.now) 0 hints.old }
     ensures { Marking kind image.now result seen.new hints.new }
@@ -358,7 +296,7 @@ pub fn sound_marked(kind: Kind, image: &[u8], seen: &mut [u8], hints: &mut [u8; 
     if !good_length(kind, image) {
         return false;
     }
-    is_sound(directory_answer(kind, image, seen, hints))
+    directory_answer(&Directory { kind, image }, seen, hints).is_ok()
 }
 
 // The image is sound.

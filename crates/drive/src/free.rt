@@ -8,6 +8,7 @@ use rules::kind::Kind;
 use words::bits::{clear_count, lowest_clear};
 
 // The lowest free block, the number of blocks where there is none: the lowest bit of the vector that is clear.
+#[tactic(auto, using(crate::proofs::Marks::freeing))]
 pub fn free_block(kind: Kind, image: &[u8], vector: &[u8]) -> usize
     requires { (blocks kind image.now ≤ most kind) × (vector.now ≡ vector_of kind image.now) }
     ensures { (result ≡ free_block kind image.now) × (result ≤ blocks kind image.now) }
@@ -16,6 +17,7 @@ pub fn free_block(kind: Kind, image: &[u8], vector: &[u8]) -> usize
 }
 
 // How many blocks are free.
+#[tactic(auto, using(crate::proofs::Marks::freeing))]
 pub fn free_blocks(kind: Kind, image: &[u8], vector: &[u8]) -> usize
     requires { (blocks kind image.now ≤ most kind) × (vector.now ≡ vector_of kind image.now) }
     ensures { (result ≡ free_blocks kind image.now) × (result ≤ blocks kind image.now) }

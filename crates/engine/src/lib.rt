@@ -18,12 +18,13 @@ use drive::look::look_at;
 use drive::vector::build_vector;
 use locklist::start::start;
 use locklist::unpack::rule_in;
-use moving::same::{FIRST_UNSOUND, same};
+use moving::difference::{Difference, same_answer};
+use moving::same::same;
 use packcall::call::pack;
-use rules::answer::image_told;
-use rules::code::BAD_CALL;
-use rules::kind::{Told, told_kind, told_rule};
-use salvage::mend::{WRONG_LENGTH, repair_image};
+use rules::answer::{ImageFault, image_told};
+use rules::code::{Refusal, answer_of};
+use rules::kind::{told_kind, told_rule};
+use salvage::mend::{SalvageRefusal, repair_image, salvage_answer};
 use singles::singly::answer_singly;
 
 // A call: the kind of drive, three numbers and five separate buffers in, A + 256 H out.
@@ -40,10 +41,8 @@ pub fn mpm_call(
 ) -> u32
     ensures { DidFive (five_told (told_kind kind (rule_in list.old)) function process count vector.old (buffers fcb.old dma.old list.old image.old)) result (buffers fcb.new dma.new list.new image.new) vector.new }
 {
-    let rule = rule_in(&*list);
-    let told = told_kind(kind, rule);
-    let Told::Known(known) = told else {
-        return BAD_CALL;
+    let Some(known) = told_kind(kind, rule_in(&*list)) else {
+        return Refusal::BadCall.code();
     };
     answer(
         known, true, function, process, count, fcb, dma, list, image, vector,
@@ -64,10 +63,8 @@ pub fn mpm_singly(
 ) -> u32
     ensures { DidFive (singly_five_told (told_kind kind (rule_in list.old)) function process count vector.old (buffers fcb.old dma.old list.old image.old)) result (buffers fcb.new dma.new list.new image.new) vector.new }
 {
-    let rule = rule_in(&*list);
-    let told = told_kind(kind, rule);
-    let Told::Known(known) = told else {
-        return BAD_CALL;
+    let Some(known) = told_kind(kind, rule_in(&*list)) else {
+        return Refusal::BadCall.code();
     };
     answer_singly(
         known, function, process, count, fcb, dma, list, image, vector,
@@ -86,20 +83,18 @@ pub fn mpm_start(
 ) -> u32
     ensures { DidStart (start_told (told_kind kind (told_rule rule)) capacity opens locks rule users.now list.old) result list.new }
 {
-    let told = told_kind(kind, told_rule(rule));
-    let Told::Known(known) = told else {
-        return BAD_CALL;
+    let Some(known) = told_kind(kind, told_rule(rule)) else {
+        return Refusal::BadCall.code();
     };
-    start(known, capacity, opens, locks, rule, users, list)
+    answer_of(start(known, capacity, opens, locks, rule, users, list))
 }
 
 // The image check: 0 sound, 1 wrong length, 2 to 8 why the directory is unsound; and 256 times the entry that is bad.
 pub fn mpm_check(kind: u32, rule: u32, image: &[u8]) -> u32
     ensures { result ≡ check_told (told_kind kind (told_rule rule)) image.now }
 {
-    let told = told_kind(kind, told_rule(rule));
-    let Told::Known(known) = told else {
-        return 1;
+    let Some(known) = told_kind(kind, told_rule(rule)) else {
+        return ImageFault::WrongLength.number();
     };
     image_told(image_check(known, image))
 }
@@ -109,19 +104,17 @@ pub fn mpm_check(kind: u32, rule: u32, image: &[u8]) -> u32
 pub fn mpm_vector(kind: u32, rule: u32, image: &[u8], vector: &mut [u8]) -> u32
     ensures { built result vector.new ≡ build_told (told_kind kind (told_rule rule)) image.now vector.old }
 {
-    let told = told_kind(kind, told_rule(rule));
-    let Told::Known(known) = told else {
-        return BAD_CALL;
+    let Some(known) = told_kind(kind, told_rule(rule)) else {
+        return Refusal::BadCall.code();
     };
-    build_vector(known, image, vector)
+    answer_of(build_vector(known, image, vector))
 }
 
 // Look: where the record's 128 bytes begin in the image, or 0 where there are none to show.
 pub fn mpm_look(kind: u32, rule: u32, user: u32, name: &[u8], number: u32, image: &[u8]) -> u32
     ensures { result ≡ look_told (told_kind kind (told_rule rule)) user name.now number image.now }
 {
-    let told = told_kind(kind, told_rule(rule));
-    let Told::Known(known) = told else {
+    let Some(known) = told_kind(kind, told_rule(rule)) else {
         return 0;
     };
     look_at(known, user, name, number, image) as u32
@@ -132,32 +125,28 @@ pub fn mpm_look(kind: u32, rule: u32, user: u32, name: &[u8], number: u32, image
 pub fn mpm_salvage(kind: u32, rule: u32, image: &mut [u8], report: &mut [u8]) -> u32
     ensures { salvaged result image.new report.new ≡ salvage_told (told_kind kind (told_rule rule)) image.old report.old }
 {
-    let told = told_kind(kind, told_rule(rule));
-    let Told::Known(known) = told else {
-        return WRONG_LENGTH;
+    let Some(known) = told_kind(kind, told_rule(rule)) else {
+        return SalvageRefusal::WrongLength.code();
     };
-    repair_image(known, image, report)
+    salvage_answer(repair_image(known, image, report))
 }
 
 // Packs the book of the image into a second buffer of its length, while the list holds no open; else the buffer is left.
 pub fn mpm_pack(kind: u32, image: &[u8], list: &[u8], packed: &mut [u8]) -> u32
     ensures { packs result packed.new ≡ pack_told (told_kind kind (rule_in list.now)) image.now list.now packed.old }
 {
-    let rule = rule_in(list);
-    let told = told_kind(kind, rule);
-    let Told::Known(known) = told else {
-        return BAD_CALL;
+    let Some(known) = told_kind(kind, rule_in(list)) else {
+        return Refusal::BadCall.code();
     };
-    pack(known, image, list, packed)
+    answer_of(pack(known, image, list, packed))
 }
 
 // Two images: 0 they hold the same book, 1 the first is unsound, 2 the second is, 3 they hold different books.
 pub fn mpm_same(kind: u32, first: &[u8], second: &[u8]) -> u32
     ensures { result ≡ same_told (told_kind kind (told_rule 0)) first.now second.now }
 {
-    let told = told_kind(kind, told_rule(0));
-    let Told::Known(known) = told else {
-        return FIRST_UNSOUND;
+    let Some(known) = told_kind(kind, told_rule(0)) else {
+        return Difference::FirstUnsound.code();
     };
-    same(known, first, second)
+    same_answer(same(known, first, second))
 }

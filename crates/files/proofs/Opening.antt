@@ -1,90 +1,75 @@
 -- 15 and 16: the outcome at each end of their routines. Assumes nothing.
-use Prim.Native.Nat.{ℕ, ◌≤◌, ◌<◌}
-use mathlib.Core.Path.{◌≡◌, refl, ap, ◌∙◌}
-use mathlib.Core.List.{List, []}
-use native.Mathlib.Omega.{arith}
-use borrow.Author.Tests.{le-ltb, lt-ltb}
+use Rattle.std.proofs.Common.{ℕ, ◌≤◌, ◌<◌, ◌≡◌, refl, List, [], Some, lt-ltb, le-ltb}
 use Rattle.words.specs.Tests.{◌if◌else◌}
 use Rattle.words.specs.Tables.{first_of}
 use Rattle.words.proofs.Tests.{lowest_within}
-use Rattle.words.proofs.Sets.{row_yes, row_no, row_none, not_of_false, not_of_true}
+use Rattle.words.proofs.Sets.{codes, and_left, and_right, and_both, row_yes, row_no, row_none, not_of_false, not_of_true}
+use Rattle.rules.specs.declared.code.Refusal.{Refusal}
+use Rattle.rules.specs.declared.code.Refusal.TheVariants.{CloseNotOpen}
 use Rattle.rules.specs.declared.file.File.{File}
-use Rattle.rules.specs.declared.file.Found.{Found}
+use Rattle.rules.specs.declared.kind.Kind.{Kind}
 use Rattle.rules.specs.declared.list.LockList.{LockList}
-use Rattle.rules.specs.declared.routine.Chosen.TheVariants.{Call}
+use Rattle.rules.specs.declared.routine.Routine.TheVariants.{Open, Close}
+use Rattle.rules.specs.Refusals.{code_of}
 use Rattle.rules.specs.Serves.{Buffers, Did, with_list, buffers}
 use Rattle.rules.specs.Drive.{look_up}
 use Rattle.rules.specs.Locks.{unpack, pack, open_of, is_opened, free_place, is_empty_at}
-use Rattle.rules.specs.Asks.{caller_file, record_of, open_mode}
-use Rattle.rules.specs.Call.{asked_by, rows_of, effect_of, served}
-use Rattle.rules.proofs.Ends.{did_as, did_refuse, did_pass, served_as, did_left}
-use Rattle.rules.specs.declared.routine.Routine.TheVariants.{Open, Close}
+use Rattle.rules.specs.Asks.{caller_file, open_mode}
 use Rattle.rules.specs.Codes.{rows15, rows16}
 use Rattle.rules.specs.Effects.{fcb_opened, opened, closed, does15, does16}
+use Rattle.rules.specs.Call.{asked_by, asked, rows_of, effect_of, served}
+use Rattle.rules.proofs.Ends.{did_left}
+use Rattle.rules.proofs.Refused.{did_err, did_ok}
 use Rattle.files.specs.By.{by15}
-use Rattle.rules.specs.declared.kind.Kind.{Kind}
 
 -- a place is the number of a byte
-pub place_fits : (l : LockList) (at : ℕ) → at ≡ free_place l → l.capacity < 256 → at < 256
+pub place_within : (l : LockList) → free_place l ≤ l.capacity
 unfolding free_place
-place_fits l at h c = let k = lowest_within (is_empty_at l) l.capacity in omega (arith, h)
+place_within l = lowest_within (is_empty_at l) l.capacity
 
--- ---- the ends of 15
+-- ---- 15
 
-module _ (kind : Kind) (p : ℕ) (l : LockList) (o : ℕ) (f : File) (b : Buffers) (x : Found) (c : ℕ) (hx : x ≡ look_up kind b.image f)
-    (hc : c ≡ first_of (rows15 kind p l o f x b.fcb)) where
-  table : c ≡ first_of (rows15 kind p l o f (look_up kind b.image f) b.fcb)
-  table = hc ∙ ap (λ (y : Found). first_of (rows15 kind p l o f y b.fcb)) hx
+-- its table, where the caller has the file open
+pub ruleset opens = (codes, and_left, and_right, and_both)
 
-  pub open_refused : (c ≡ 0 → ⊥) → Did (by15 kind p l o f b) c b
+module _ (kind : Kind) (p : ℕ) (l : LockList) (o : ℕ) (f : File) (b : Buffers) where
+  pub open_refused : (why : Refusal) → code_of why ≡ first_of (rows15 kind p l o f (look_up kind b.image f) b.fcb)
+      → Did (by15 kind p l o f b) (code_of why) b
   unfolding by15
-  open_refused n = did_refuse _ b _ c table n
+  open_refused why h = did_err _ b _ why h
 
-  module _ (z : c ≡ 0) (mode : ℕ) (hm : mode ≡ open_mode b.fcb) (fcb : List ℕ) (at : ℕ) (hf : fcb ≡ fcb_opened b.image x.entry mode at b.fcb) where
-    fcb_left : fcb ≡ fcb_opened b.image (look_up kind b.image f).entry (open_mode b.fcb) at b.fcb
-    fcb_left =
-        hf ∙ ap (λ (y : Found). fcb_opened b.image y.entry mode at b.fcb) hx
-        ∙ ap (λ (m : ℕ). fcb_opened b.image (look_up kind b.image f).entry m at b.fcb) hm
-
+  module _ (h : 0 ≡ first_of (rows15 kind p l o f (look_up kind b.image f) b.fcb)) (fcb : List ℕ) where
     -- open in the same mode
-    pub open_again : at ≡ o → o < 64 → Did (by15 kind p l o f b) 0 (buffers fcb b.dma b.list b.image)
+    pub open_again : o < 64 → fcb ≡ fcb_opened b.image (look_up kind b.image f).entry (open_mode b.fcb) o b.fcb
+        → Did (by15 kind p l o f b) 0 (buffers fcb b.dma b.list b.image)
     unfolding by15 does15 is_opened ◌if◌else◌
-    open_again ha lo =
-        did_pass _ b _ c table 0 _ z
-        (rw (lt-ltb _ _ lo) (did_left refl (fcb_left ∙ ap (λ (m : ℕ). fcb_opened b.image (look_up kind b.image f).entry (open_mode b.fcb) m
-        b.fcb) ha) refl refl refl))
+    open_again i e = did_ok _ b _ 0 _ h (rw (lt-ltb _ _ i) (did_left refl e refl refl refl))
 
     -- a new item
-    pub open_new : (m : LockList) (list : List ℕ) → 64 ≤ o → at ≡ free_place l → m ≡ opened p f mode l → list ≡ pack m
-        → Did (by15 kind p l o f b) 0 (buffers fcb b.dma list b.image)
+    pub open_new : (list : List ℕ) → 64 ≤ o → fcb ≡ fcb_opened b.image (look_up kind b.image f).entry (open_mode b.fcb) (free_place l) b.fcb
+        → list ≡ pack (opened p f (open_mode b.fcb) l) → Did (by15 kind p l o f b) 0 (buffers fcb b.dma list b.image)
     unfolding by15 does15 is_opened ◌if◌else◌
-    open_new m list lo ha hl hp =
-        did_pass _ b _ c table 0 _ z
-        (rw (le-ltb _ _ lo) (did_left refl (fcb_left ∙ ap (λ (k : ℕ). fcb_opened b.image (look_up kind b.image f).entry (open_mode b.fcb) k
-        b.fcb) ha) refl (hp ∙ ap pack hl ∙ ap (λ (k : ℕ). pack (opened p f k l)) hm) refl))
+    open_new list i e g = did_ok _ b _ 0 _ h (rw (le-ltb _ _ i) (did_left refl e refl g refl))
 
-pub open_called : (kind : Kind) (p c : ℕ) (b : Buffers) (l : LockList) (f : File) (o a : ℕ) (left : Buffers) → l ≡ unpack b.list
-    → f ≡ caller_file p l b.fcb → o ≡ open_of l p f → Did (by15 kind p l o f b) a left → Did (served kind (Call Open) p c b) a left
-unfolding by15 rows_of effect_of asked_by
-open_called kind p c b l f o a left hl hf ho d =
-    did_as _ _ a left (served_as kind (Call Open) p c b l f (record_of b.fcb) hl hf refl) (rw ho at d)
+pub ruleset opening = (place_within, open_refused, open_again, open_new)
 
--- ---- the ends of 16
+-- the call on the buffers
+pub open_served : (kind : Kind) (p c : ℕ) (b : Buffers)
+    → (let l = unpack b.list in let f = caller_file p l b.fcb in served kind (Some Open) p c b ≡ by15 kind p l (open_of l p f) f b)
+unfolding served rows_of effect_of asked asked_by by15
+open_served kind p c b = refl
 
-module _ (kind : Kind) (p c : ℕ) (b : Buffers) (l : LockList) (f : File) (o : ℕ) (hl : l ≡ unpack b.list) (hf : f ≡ caller_file p l b.fcb)
-    (ho : o ≡ open_of l p f) where
-  pub close_refused : 64 ≤ o → Did (served kind (Call Close) p c b) 1791 b
-  unfolding rows_of effect_of asked_by rows16 is_opened
-  close_refused g =
-      let k : 64 ≤ open_of l p f = rw ho at g in
-      did_as _ _ _ _ (served_as kind (Call Close) p c b l f (record_of b.fcb) hl hf refl)
-      (did_refuse _ b _ 1791 (row_yes 1791 1791 _ [] (not_of_false _ (le-ltb _ _ k)) refl) (λ y. omega arith))
+-- ---- 16
 
-  pub close_done : (m : LockList) (list : List ℕ) → o < 64 → m ≡ closed p f l → list ≡ pack m
-      → Did (served kind (Call Close) p c b) 0 (with_list b list)
-  unfolding rows_of effect_of asked_by rows16 is_opened does16
-  close_done m list g hm hp =
-      let k : open_of l p f < 64 = rw ho at g in
-      did_as _ _ _ _ (served_as kind (Call Close) p c b l f (record_of b.fcb) hl hf refl)
-      (did_pass _ b _ 0 (row_no 0 1791 _ [] (not_of_true _ (lt-ltb _ _ k)) (row_none 0 refl)) 0 _ refl
-      (did_left refl refl refl (hp ∙ ap pack hm) refl))
+module _ (kind : Kind) (p c : ℕ) (b : Buffers) where
+  pub close_refused : (let l = unpack b.list in 64 ≤ open_of l p (caller_file p l b.fcb)) → Did (served kind (Some Close) p c b) (code_of CloseNotOpen) b
+  unfolding served rows_of effect_of asked asked_by rows16 is_opened
+  close_refused g = did_err _ b _ CloseNotOpen (row_yes _ _ _ [] (not_of_false _ (le-ltb _ _ g)) refl)
+
+  pub close_done : (list : List ℕ)
+      → (let l = unpack b.list in let f = caller_file p l b.fcb in (open_of l p f < 64) × (list ≡ pack (closed p f l)))
+      → Did (served kind (Some Close) p c b) 0 (with_list b list)
+  unfolding served rows_of effect_of asked asked_by rows16 is_opened does16
+  close_done list g = did_ok _ b _ 0 _ (row_no _ _ _ [] (not_of_true _ (lt-ltb _ _ g.0)) (row_none _ refl)) (did_left refl refl refl g.1 refl)
+
+pub ruleset closing = (close_refused, close_done)

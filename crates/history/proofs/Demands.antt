@@ -15,7 +15,8 @@ use Rattle.words.proofs.Counts.{count_ext}
 use Rattle.rules.specs.declared.kind.Kind.{Kind}
 use Rattle.rules.specs.Kinds.{block_size, block_records}
 use Rattle.rules.specs.declared.item.Item.{Item}
-use Rattle.rules.specs.declared.routine.Chosen.{Chosen}
+use Rattle.std.specs.Prelude.{Option}
+use Rattle.rules.specs.declared.routine.Routine.{Routine}
 use Rattle.rules.specs.Serves.{Outcome}
 use Rattle.rules.specs.Drive.{blocks, all_numbers, is_numbered, blocks_in_use, free_blocks, block_of}
 use Rattle.rules.specs.Locks.{unpack}
@@ -114,7 +115,7 @@ module _ (kind : Kind) (g : Begun kind) (s : State) (items : List Item) (groups 
       let z = zero_accepted kind q.function q.process q.count b (ap (λ (o : Outcome). o.answer) (sym c) ∙ w.0) in
       let m : free_blocks kind s.image ≡ blocks kind g.image - 2 - length groups = (let f = figures in omega arith) in
       ap (λ (o : Outcome). o.left.dma) (c ∙ accepted kind q.function q.process q.count b z)
-      ∙ ap (λ (k : Chosen). (effect_of k (asked kind q.process q.count b) b).left.dma) w.1
+      ∙ ap (λ (k : Option Routine). (effect_of k (asked kind q.process q.count b) b).left.dma) w.1
       ∙ ap (λ (n : ℕ). put 0 (le 3 (block_records kind * n)) q.dma) m
 
 -- ---- the engine of the rules meets demand 3, whatever it is called with

@@ -10,14 +10,14 @@ use Rattle.words.proofs.Tests.{equal?}
 use Rattle.rules.specs.declared.kind.Kind.{Kind}
 use Rattle.rules.specs.declared.routine.Routine.TheVariants.{Open, Close, SearchFirst, SearchNext, Delete, Make, Rename, Read, Write, Size, WriteZeros}
 use Rattle.rules.specs.declared.routine.Routine.TheVariants.{TestWrite, Lock, Unlock, FreeSpace, Terminate}
-use Rattle.rules.specs.declared.routine.Chosen.TheVariants.{Call, Unknown}
+use Rattle.std.specs.Prelude.{Option, Some, None}
+use Rattle.rules.specs.declared.routine.Routine.{Routine}
 use Rattle.words.specs.Tests.{◌if◌else◌}
 use Rattle.words.specs.Lists.{turns}
 use Rattle.words.specs.Tables.{◌∕◌}
 use Rattle.rules.specs.declared.file.File.{File}
 use Rattle.rules.specs.declared.item.Item.{Item}
 use Rattle.rules.specs.declared.list.LockList.{LockList}
-use Rattle.rules.specs.declared.routine.Chosen.{Chosen}
 use Rattle.rules.specs.Serves.{chosen, is_search}
 use Rattle.rules.specs.Asks.{caller_file, new_file, record_of}
 use Rattle.rules.specs.Locks.{unpack}
@@ -31,9 +31,9 @@ abbrev pub users_in : State → List ℕ
 users_in s = (unpack s.list).users
 
 -- an accepted call did what its function does
-pub deed_done : (users : List ℕ) (q : Ask) (k : Chosen) → chosen q.function ≡ k → deed users (event q (0 ∕ 0)) ≡ deed_by k users q
+pub deed_done : (users : List ℕ) (q : Ask) (k : Option Routine) → chosen q.function ≡ k → deed users (event q (0 ∕ 0)) ≡ deed_by k users q
 unfolding deed ◌if◌else◌
-deed_done users q k e = ap (λ (x : Chosen). deed_by x users q) e
+deed_done users q k e = ap (λ (x : Option Routine). deed_by x users q) e
 
 -- a refused call touched the records done if it writes, and else did nothing: ..
 pub deed_refused : (users : List ℕ) (q : Ask) (code : ℕ) → (code ≡ 0 → ⊥)
@@ -62,25 +62,25 @@ count_refused kind users q code g z low =
     same false f r n e = unfold counting ◌if◌else◌ in refl
 
 -- a search did nothing of what a history tells, ..
-searches_nothing : (k : Chosen) → is_search k ≡ true → (users : List ℕ) (q : Ask) → deed_by k users q ≡ nothing
+searches_nothing : (k : Option Routine) → is_search k ≡ true → (users : List ℕ) (q : Ask) → deed_by k users q ≡ nothing
 unfolding is_search deed_by
-searches_nothing (Call SearchFirst) h users q = refl
-searches_nothing (Call SearchNext) h users q = refl
-searches_nothing (Call Open) h users q = absurd (true≢false (sym h))
-searches_nothing (Call Close) h users q = absurd (true≢false (sym h))
-searches_nothing (Call Delete) h users q = absurd (true≢false (sym h))
-searches_nothing (Call Make) h users q = absurd (true≢false (sym h))
-searches_nothing (Call Rename) h users q = absurd (true≢false (sym h))
-searches_nothing (Call Read) h users q = absurd (true≢false (sym h))
-searches_nothing (Call Write) h users q = absurd (true≢false (sym h))
-searches_nothing (Call Size) h users q = absurd (true≢false (sym h))
-searches_nothing (Call WriteZeros) h users q = absurd (true≢false (sym h))
-searches_nothing (Call TestWrite) h users q = absurd (true≢false (sym h))
-searches_nothing (Call Lock) h users q = absurd (true≢false (sym h))
-searches_nothing (Call Unlock) h users q = absurd (true≢false (sym h))
-searches_nothing (Call FreeSpace) h users q = absurd (true≢false (sym h))
-searches_nothing (Call Terminate) h users q = absurd (true≢false (sym h))
-searches_nothing Unknown h users q = absurd (true≢false (sym h))
+searches_nothing (Some SearchFirst) h users q = refl
+searches_nothing (Some SearchNext) h users q = refl
+searches_nothing (Some Open) h users q = absurd (true≢false (sym h))
+searches_nothing (Some Close) h users q = absurd (true≢false (sym h))
+searches_nothing (Some Delete) h users q = absurd (true≢false (sym h))
+searches_nothing (Some Make) h users q = absurd (true≢false (sym h))
+searches_nothing (Some Rename) h users q = absurd (true≢false (sym h))
+searches_nothing (Some Read) h users q = absurd (true≢false (sym h))
+searches_nothing (Some Write) h users q = absurd (true≢false (sym h))
+searches_nothing (Some Size) h users q = absurd (true≢false (sym h))
+searches_nothing (Some WriteZeros) h users q = absurd (true≢false (sym h))
+searches_nothing (Some TestWrite) h users q = absurd (true≢false (sym h))
+searches_nothing (Some Lock) h users q = absurd (true≢false (sym h))
+searches_nothing (Some Unlock) h users q = absurd (true≢false (sym h))
+searches_nothing (Some FreeSpace) h users q = absurd (true≢false (sym h))
+searches_nothing (Some Terminate) h users q = absurd (true≢false (sym h))
+searches_nothing None h users q = absurd (true≢false (sym h))
 
 module _ (users : List ℕ) (q : Ask) (answer : ℕ) (k : is_search (chosen q.function) ≡ true) where
   found_nothing : answer ≡ 0 → deed users (event q answer) ≡ nothing
@@ -110,25 +110,25 @@ unfolding new_by new_file
 new_meant q l = refl
 
 -- only 46 tells a figure
-tells_is : (k : Chosen) (users : List ℕ) (q : Ask) → deed_by k users q ≡ tells → k ≡ Call FreeSpace
+tells_is : (k : Option Routine) (users : List ℕ) (q : Ask) → deed_by k users q ≡ tells → k ≡ Some FreeSpace
 unfolding deed_by
-tells_is (Call Open) users q h = let z : ◌≡◌ {A = ℕ} 0 1 = cc in absurd (omega arith)
-tells_is (Call Close) users q h = let z : ◌≡◌ {A = ℕ} 0 1 = cc in absurd (omega arith)
-tells_is (Call SearchFirst) users q h = let z : ◌≡◌ {A = ℕ} 0 1 = cc in absurd (omega arith)
-tells_is (Call SearchNext) users q h = let z : ◌≡◌ {A = ℕ} 0 1 = cc in absurd (omega arith)
-tells_is (Call Delete) users q h = let z : ◌≡◌ {A = ℕ} 0 1 = cc in absurd (omega arith)
-tells_is (Call Make) users q h = let z : ◌≡◌ {A = ℕ} 0 1 = cc in absurd (omega arith)
-tells_is (Call Rename) users q h = let z : ◌≡◌ {A = ℕ} 0 1 = cc in absurd (omega arith)
-tells_is (Call Read) users q h = let z : ◌≡◌ {A = ℕ} 0 1 = cc in absurd (omega arith)
-tells_is (Call Write) users q h = let z : ◌≡◌ {A = ℕ} 0 1 = cc in absurd (omega arith)
-tells_is (Call Size) users q h = let z : ◌≡◌ {A = ℕ} 0 1 = cc in absurd (omega arith)
-tells_is (Call WriteZeros) users q h = let z : ◌≡◌ {A = ℕ} 0 1 = cc in absurd (omega arith)
-tells_is (Call TestWrite) users q h = let z : ◌≡◌ {A = ℕ} 0 1 = cc in absurd (omega arith)
-tells_is (Call Lock) users q h = let z : ◌≡◌ {A = ℕ} 0 1 = cc in absurd (omega arith)
-tells_is (Call Unlock) users q h = let z : ◌≡◌ {A = ℕ} 0 1 = cc in absurd (omega arith)
-tells_is (Call FreeSpace) users q h = refl
-tells_is (Call Terminate) users q h = let z : ◌≡◌ {A = ℕ} 0 1 = cc in absurd (omega arith)
-tells_is Unknown users q h = let z : ◌≡◌ {A = ℕ} 0 1 = cc in absurd (omega arith)
+tells_is (Some Open) users q h = let z : ◌≡◌ {A = ℕ} 0 1 = cc in absurd (omega arith)
+tells_is (Some Close) users q h = let z : ◌≡◌ {A = ℕ} 0 1 = cc in absurd (omega arith)
+tells_is (Some SearchFirst) users q h = let z : ◌≡◌ {A = ℕ} 0 1 = cc in absurd (omega arith)
+tells_is (Some SearchNext) users q h = let z : ◌≡◌ {A = ℕ} 0 1 = cc in absurd (omega arith)
+tells_is (Some Delete) users q h = let z : ◌≡◌ {A = ℕ} 0 1 = cc in absurd (omega arith)
+tells_is (Some Make) users q h = let z : ◌≡◌ {A = ℕ} 0 1 = cc in absurd (omega arith)
+tells_is (Some Rename) users q h = let z : ◌≡◌ {A = ℕ} 0 1 = cc in absurd (omega arith)
+tells_is (Some Read) users q h = let z : ◌≡◌ {A = ℕ} 0 1 = cc in absurd (omega arith)
+tells_is (Some Write) users q h = let z : ◌≡◌ {A = ℕ} 0 1 = cc in absurd (omega arith)
+tells_is (Some Size) users q h = let z : ◌≡◌ {A = ℕ} 0 1 = cc in absurd (omega arith)
+tells_is (Some WriteZeros) users q h = let z : ◌≡◌ {A = ℕ} 0 1 = cc in absurd (omega arith)
+tells_is (Some TestWrite) users q h = let z : ◌≡◌ {A = ℕ} 0 1 = cc in absurd (omega arith)
+tells_is (Some Lock) users q h = let z : ◌≡◌ {A = ℕ} 0 1 = cc in absurd (omega arith)
+tells_is (Some Unlock) users q h = let z : ◌≡◌ {A = ℕ} 0 1 = cc in absurd (omega arith)
+tells_is (Some FreeSpace) users q h = refl
+tells_is (Some Terminate) users q h = let z : ◌≡◌ {A = ℕ} 0 1 = cc in absurd (omega arith)
+tells_is None users q h = let z : ◌≡◌ {A = ℕ} 0 1 = cc in absurd (omega arith)
 
 refused_tells : (t : Bool) (f : File) (r n : ℕ) → (touches f r n if t else nothing) ≡ tells → ⊥
 unfolding ◌if◌else◌
@@ -136,7 +136,7 @@ refused_tells true f r n h = let y : touches f r n ≡ tells = h in let z : ◌�
 refused_tells false f r n h = let y : nothing ≡ tells = h in let z : ◌≡◌ {A = ℕ} 0 1 = cc in omega arith
 
 -- a call that told a figure is an accepted 46
-pub told : (users : List ℕ) (q : Ask) (answer : ℕ) → deed users (event q answer) ≡ tells → (answer ≡ 0 ∕ 0) × (chosen q.function ≡ Call FreeSpace)
+pub told : (users : List ℕ) (q : Ask) (answer : ℕ) → deed users (event q answer) ≡ tells → (answer ≡ 0 ∕ 0) × (chosen q.function ≡ Some FreeSpace)
 told users q answer h =
     ⊎_elim
     (λ (z : answer ≡ 0).

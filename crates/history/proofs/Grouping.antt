@@ -12,7 +12,7 @@ use Rattle.rules.specs.Kinds.{block_records, entries}
 use Rattle.rules.specs.declared.file.File.{File}
 use Rattle.rules.specs.declared.list.LockList.{LockList}
 use Rattle.rules.specs.declared.routine.Routine.TheVariants.{Write, WriteZeros}
-use Rattle.rules.specs.declared.routine.Chosen.TheVariants.{Call}
+use Rattle.std.specs.Prelude.{Some}
 use Rattle.rules.specs.Serves.{Buffers, Outcome, chosen}
 use Rattle.rules.specs.Drive.{block_of, free_entry}
 use Rattle.rules.specs.Locks.{unpack}
@@ -110,8 +110,8 @@ module _ (kind : Kind) (q : Ask) (s : State) (g : List Group) (t : Counted kind 
   count_step one o low (now_read k ok dma) = rw (deed_done (users_in s) q _ k) t
   count_step one o low (now_written k ok w zeros) =
       let h = written_counted ok w zeros (one (writes_serve q.function k)) in
-      ⊎_elim (λ (e : chosen q.function ≡ Call Write). rw (deed_done (users_in s) q _ e, file_meant q l) h)
-      (λ (e : chosen q.function ≡ Call WriteZeros). rw (deed_done (users_in s) q _ e, file_meant q l) h) k
+      ⊎_elim (λ (e : chosen q.function ≡ Some Write). rw (deed_done (users_in s) q _ e, file_meant q l) h)
+      (λ (e : chosen q.function ≡ Some WriteZeros). rw (deed_done (users_in s) q _ e, file_meant q l) h) k
   count_step one o low (now_rewritten k ok w some v full from) = rw (deed_done (users_in s) q _ k) (rewritten_counted ok w v full some)
   count_step one o low (now_locked k ok w) = rw (deed_done (users_in s) q _ k) t
   count_step one o low (lock_idle k ok w) = rw (deed_done (users_in s) q _ k) t

@@ -15,7 +15,7 @@ use Rattle.rules.specs.declared.file.File.{File}
 use Rattle.rules.specs.declared.item.Item.{Item}
 use Rattle.rules.specs.declared.list.LockList.{LockList}
 use Rattle.rules.specs.declared.routine.Routine.TheVariants.{Write, WriteZeros}
-use Rattle.rules.specs.declared.routine.Chosen.TheVariants.{Call}
+use Rattle.std.specs.Prelude.{Some}
 use Rattle.rules.specs.Serves.{Buffers, Outcome, chosen}
 use Rattle.rules.specs.Drive.{entry_of}
 use Rattle.rules.specs.Locks.{with_items, with_positions, moved_to, item_at, user_of, file_of, fresh_open, unpack, pack, open_of, opens_name_at, free_place}
@@ -183,8 +183,8 @@ module _ (kind : Kind) (q : Ask) (s : State) (g : List Item) (t : Tally (unpack 
   held_step o (now_renamed k ok w) = rw (deed_done (users_in s) q _ k) t
   held_step o (now_read k ok dma) = rw (deed_done (users_in s) q _ k) t
   held_step o (now_written k ok w zeros) =
-      ⊎_elim (λ (e : chosen q.function ≡ Call Write). rw (deed_done (users_in s) q _ e) t)
-      (λ (e : chosen q.function ≡ Call WriteZeros). rw (deed_done (users_in s) q _ e) t) k
+      ⊎_elim (λ (e : chosen q.function ≡ Some Write). rw (deed_done (users_in s) q _ e) t)
+      (λ (e : chosen q.function ≡ Some WriteZeros). rw (deed_done (users_in s) q _ e) t) k
   held_step o (now_rewritten k ok w some v full from) = rw (deed_done (users_in s) q _ k) t
   held_step o (now_locked k ok w) =
       let h = locked_shape kind p c b ok w in

@@ -9,8 +9,7 @@ use Rattle.words.specs.Tests.{◌or◌, ◌if◌else◌}
 use Rattle.words.proofs.Tests.{either, never, or_so, or_fst, or_snd, same_test}
 use Rattle.rules.specs.declared.routine.Routine.{Routine}
 use Rattle.rules.specs.declared.routine.Routine.TheVariants.{Write, WriteZeros, FreeSpace}
-use Rattle.rules.specs.declared.routine.Chosen.{Chosen}
-use Rattle.rules.specs.declared.routine.Chosen.TheVariants.{Call, Unknown}
+use Rattle.std.specs.Prelude.{Option, Some, None}
 use Rattle.rules.specs.Serves.{function_of, chosen}
 use Rattle.rules.specs.Several.{serves_run}
 
@@ -26,17 +25,17 @@ of_three P a b c n h =
 
 -- ---- the calls that they choose, and no other
 
-serves : Chosen → Bool
-serves (Call k) = serves_run (function_of k)
-serves Unknown = false
+serves : Option Routine → Bool
+serves (Some k) = serves_run (function_of k)
+serves None = false
 
 -- down the list of function numbers
-if_none : (t : Bool) (x y : Chosen) → serves x ≡ false → serves y ≡ false → serves (x if t else y) ≡ false
+if_none : (t : Bool) (x y : Option Routine) → serves x ≡ false → serves y ≡ false → serves (x if t else y) ≡ false
 unfolding ◌if◌else◌
 if_none true x y h k = h
 if_none false x y h k = k
 
-if_off : (t : Bool) (x y : Chosen) → t ≡ false → serves y ≡ false → serves (x if t else y) ≡ false
+if_off : (t : Bool) (x y : Option Routine) → t ≡ false → serves y ≡ false → serves (x if t else y) ≡ false
 unfolding ◌if◌else◌
 if_off t x y e k = rw e k
 
@@ -49,7 +48,7 @@ unfolding chosen serves function_of serves_run ◌or◌ ◌if◌else◌
 chosen_on n h = of_three (λ (m : ℕ). serves (chosen m) ≡ true) refl refl refl n h
 
 -- a function takes a run just where the function number of the call that it chooses does
-pub served_as : (n : ℕ) (k : Routine) → chosen n ≡ Call k → serves_run n ≡ serves_run (function_of k)
+pub served_as : (n : ℕ) (k : Routine) → chosen n ≡ Some k → serves_run n ≡ serves_run (function_of k)
 unfolding serves
 served_as n k e = same_test _ _ (chosen_on n) forth ∙ ap serves e
   where
@@ -60,12 +59,12 @@ served_as n k e = same_test _ _ (chosen_on n) forth ∙ ap serves e
     forth h = ⊎_elim (λ q. q) (λ (q : serves_run n ≡ false). absurd (never h (off q))) (either (serves_run n))
 
 -- 34 and 40 take one, ..
-pub writes_serve : (n : ℕ) → (chosen n ≡ Call Write) ⊎ (chosen n ≡ Call WriteZeros) → serves_run n ≡ true
+pub writes_serve : (n : ℕ) → (chosen n ≡ Some Write) ⊎ (chosen n ≡ Some WriteZeros) → serves_run n ≡ true
 unfolding serves_run function_of ◌or◌
 writes_serve n k =
-    ⊎_elim (λ (e : chosen n ≡ Call Write). served_as n Write e) (λ (e : chosen n ≡ Call WriteZeros). served_as n WriteZeros e) k
+    ⊎_elim (λ (e : chosen n ≡ Some Write). served_as n Write e) (λ (e : chosen n ≡ Some WriteZeros). served_as n WriteZeros e) k
 
 -- .. 46 takes none
-pub figure_plain : (n : ℕ) → chosen n ≡ Call FreeSpace → serves_run n ≡ false
+pub figure_plain : (n : ℕ) → chosen n ≡ Some FreeSpace → serves_run n ≡ false
 unfolding serves_run function_of ◌or◌
 figure_plain n e = served_as n FreeSpace e

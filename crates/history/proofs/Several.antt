@@ -12,7 +12,8 @@ use Rattle.words.specs.Tables.{◌∕◌}
 use Rattle.words.proofs.Tables.{zero_none}
 use Rattle.rules.specs.declared.kind.Kind.{Kind}
 use Rattle.rules.specs.declared.item.Item.{Item}
-use Rattle.rules.specs.declared.routine.Chosen.{Chosen}
+use Rattle.std.specs.Prelude.{Option}
+use Rattle.rules.specs.declared.routine.Routine.{Routine}
 use Rattle.rules.specs.Serves.{Buffers, chosen}
 use Rattle.rules.specs.Asks.{record_of}
 use Rattle.rules.specs.Codes.{rows_all}
@@ -59,14 +60,14 @@ deed_partly users q code i h z low =
     ∙ touched_or_none users q i q.function h
 
 -- it grants nothing and takes nothing back, ..
-held_run : (k : Chosen) → Runs k → (users : List ℕ) (q : Ask) (g : List Item) → holding (deed_by k users q) g ≡ g
+held_run : (k : Option Routine) → Runs k → (users : List ℕ) (q : Ask) (g : List Item) → holding (deed_by k users q) g ≡ g
 unfolding holding deed_by
 held_run k is_read users q g = refl
 held_run k is_write users q g = refl
 held_run k is_zeros users q g = refl
 
 -- .. and counts record by record
-count_none : (kind : Kind) (k : Chosen) → Runs k → (users : List ℕ) (q : Ask) (g : List Group) → counting kind (deed_by k users (with_count 0 q)) g ≡ g
+count_none : (kind : Kind) (k : Option Routine) → Runs k → (users : List ℕ) (q : Ask) (g : List Group) → counting kind (deed_by k users (with_count 0 q)) g ≡ g
 unfolding counting deed_by touching_run turns
 count_none kind k is_read users q g = refl
 count_none kind k is_write users q g = refl
@@ -82,7 +83,7 @@ module _ (kind : Kind) (users : List ℕ) (q : Ask) (i : ℕ) (b : Buffers) (g :
       rw (same, fcb_number i q.fcb long, fcb_from i q.fcb long (byte users q.process))
       (touching_more kind (file_by users q) (record_of q.fcb) i g)
 
-  count_more : (k : Chosen) → Runs k
+  count_more : (k : Option Routine) → Runs k
       → counting kind (deed_by k users (ask_at q i b)) (counting kind (deed_by k users (with_count i q)) g) ≡ counting kind (deed_by k users (with_count (suc i) q)) g
   unfolding counting deed_by file_by
   count_more k is_read = refl

@@ -16,7 +16,7 @@ use Rattle.words.proofs.Bytes.{put_in}
 use Rattle.rules.specs.declared.kind.Kind.{Kind}
 use Rattle.rules.specs.declared.file.File.{File}
 use Rattle.rules.specs.declared.routine.Routine.TheVariants.{Delete, Rename, Size}
-use Rattle.rules.specs.declared.routine.Chosen.TheVariants.{Call}
+use Rattle.std.specs.Prelude.{Some}
 use Rattle.rules.specs.Kinds.{entries, top}
 use Rattle.rules.specs.Serves.{Buffers, chosen, function_of}
 use Rattle.rules.specs.Drive.{entry_of, highest_extent, look_up, missing, sound_image}
@@ -68,11 +68,11 @@ number_back n fcb l long =
     whole s a b c = unfold record_of in rw (a, b, c) (omega arith)
 
 -- an accepted 35 puts the file's size there
-pub size_told : (kind : Kind) (n p c : ℕ) (b : Buffers) → any_row (rows_call kind n p c b) ≡ false → chosen n ≡ Call Size
+pub size_told : (kind : Kind) (n p c : ℕ) (b : Buffers) → any_row (rows_call kind n p c b) ≡ false → chosen n ≡ Some Size
     → record_of (call kind n p c b).left.fcb ≡ file_size kind b.image (file_by p b)
 unfolding rows_of effect_of asked asked_by does35 file_size missing ◌if◌else◌
 size_told kind n p c b pass e =
-    let a = accepted_as kind n p c b (Call Size) e pass in
+    let a = accepted_as kind n p c b (Some Size) e pass in
     let w = passes_35 kind (look_up kind b.image (file_by p b)) b.fcb a.passes in
     let s = file_size kind b.image (file_by p b) in
     let last = top_fits kind in
@@ -83,10 +83,10 @@ size_told kind n p c b pass e =
 -- ---- a run of records
 
 -- one that takes a run of records is no Delete and no Rename
-run_keeps : (n : ℕ) → serves_run n ≡ true → (chosen n ≡ Call Delete) ⊎ (chosen n ≡ Call Rename) → ⊥
+run_keeps : (n : ℕ) → serves_run n ≡ true → (chosen n ≡ Some Delete) ⊎ (chosen n ≡ Some Rename) → ⊥
 unfolding serves_run function_of ◌or◌
 run_keeps n h k =
-    ⊎_elim (λ (e : chosen n ≡ Call Delete). never h (served_as n Delete e)) (λ (e : chosen n ≡ Call Rename). never h (served_as n Rename e)) k
+    ⊎_elim (λ (e : chosen n ≡ Some Delete). never h (served_as n Delete e)) (λ (e : chosen n ≡ Some Rename). never h (served_as n Rename e)) k
 
 module _ (kind : Kind) (n p : ℕ) (b : Buffers) (f : File) (long : length f.name ≡ 11) (h : serves_run n ≡ true) where
   steps_kept : (c : ℕ) (g : Run) → Steps kind n p b c g → file_size kind b.image f ≤ file_size kind g.left.image f
@@ -101,7 +101,7 @@ module _ (kind : Kind) (n p : ℕ) (b : Buffers) (f : File) (long : length f.nam
 
 -- no call, with one record or several, lowers the size of a file, but its own Delete or Rename
 pub run_kept : (kind : Kind) (n p c : ℕ) (b : Buffers) (f : File) → length f.name ≡ 11
-    → ((chosen n ≡ Call Delete) ⊎ (chosen n ≡ Call Rename) → f ≡ file_by p b → ⊥)
+    → ((chosen n ≡ Some Delete) ⊎ (chosen n ≡ Some Rename) → f ≡ file_by p b → ⊥)
     → file_size kind b.image f ≤ file_size kind (call_run kind n p c b).left.image f
 run_kept kind n p c b f long stays =
     ⊎_elim

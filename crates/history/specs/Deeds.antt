@@ -1,12 +1,11 @@
 -- What a call did, told by the call and its answer alone. Assumes nothing.
-use Rattle.std.specs.Prelude.{ℕ, ◌/◌, Bool, not, List, leb, eqb}
+use Rattle.std.specs.Prelude.{ℕ, ◌/◌, Bool, not, List, leb, eqb, Option, Some, None}
 use Rattle.words.specs.Tests.{◌and◌, ◌or◌, ◌if◌else◌}
 use Rattle.words.specs.Bytes.{byte}
 use Rattle.words.specs.Tables.{◌∕◌}
 use Rattle.rules.specs.declared.file.File.{File}
 use Rattle.rules.specs.declared.routine.Routine.TheVariants.{Open, Close, SearchFirst, SearchNext, Delete, Make, Rename, Read, Write, Size, WriteZeros, TestWrite, Lock, Unlock, FreeSpace, Terminate}
-use Rattle.rules.specs.declared.routine.Chosen.{Chosen}
-use Rattle.rules.specs.declared.routine.Chosen.TheVariants.{Call, Unknown}
+use Rattle.rules.specs.declared.routine.Routine.{Routine}
 use Rattle.rules.specs.Serves.{chosen, is_search}
 use Rattle.rules.specs.Drive.{file_from}
 use Rattle.rules.specs.Asks.{record_of, open_mode, make_mode}
@@ -35,24 +34,24 @@ new_by users q = file_from (byte users q.process) q.fcb 17
 
 -- An open, by each accepted 15 or 22; the run's records, by each accepted 42; an accepted 34 or 40 has touched the
 -- groups of its records; an accepted Rename carries them over, an accepted Delete drops them. 33, 35 and 41 do none of these.
-unfoldable pub deed_by : Chosen → List ℕ → Ask → Deed
-deed_by (Call Open) users q = opens q.process (file_by users q) (open_mode q.fcb)
-deed_by (Call Close) users q = closes q.process (file_by users q)
-deed_by (Call SearchFirst) users q = nothing
-deed_by (Call SearchNext) users q = nothing
-deed_by (Call Delete) users q = drops q.process (file_by users q)
-deed_by (Call Make) users q = opens q.process (file_by users q) (make_mode q.fcb)
-deed_by (Call Rename) users q = carries (file_by users q) (new_by users q)
-deed_by (Call Read) users q = nothing
-deed_by (Call Write) users q = touches (file_by users q) (record_of q.fcb) q.count
-deed_by (Call Size) users q = nothing
-deed_by (Call WriteZeros) users q = touches (file_by users q) (record_of q.fcb) q.count
-deed_by (Call TestWrite) users q = nothing
-deed_by (Call Lock) users q = locks q.process (file_by users q) (record_of q.fcb) q.count
-deed_by (Call Unlock) users q = unlocks q.process (file_by users q) (record_of q.fcb) q.count
-deed_by (Call FreeSpace) users q = tells
-deed_by (Call Terminate) users q = ends q.process
-deed_by Unknown users q = nothing
+unfoldable pub deed_by : Option Routine → List ℕ → Ask → Deed
+deed_by (Some Open) users q = opens q.process (file_by users q) (open_mode q.fcb)
+deed_by (Some Close) users q = closes q.process (file_by users q)
+deed_by (Some SearchFirst) users q = nothing
+deed_by (Some SearchNext) users q = nothing
+deed_by (Some Delete) users q = drops q.process (file_by users q)
+deed_by (Some Make) users q = opens q.process (file_by users q) (make_mode q.fcb)
+deed_by (Some Rename) users q = carries (file_by users q) (new_by users q)
+deed_by (Some Read) users q = nothing
+deed_by (Some Write) users q = touches (file_by users q) (record_of q.fcb) q.count
+deed_by (Some Size) users q = nothing
+deed_by (Some WriteZeros) users q = touches (file_by users q) (record_of q.fcb) q.count
+deed_by (Some TestWrite) users q = nothing
+deed_by (Some Lock) users q = locks q.process (file_by users q) (record_of q.fcb) q.count
+deed_by (Some Unlock) users q = unlocks q.process (file_by users q) (record_of q.fcb) q.count
+deed_by (Some FreeSpace) users q = tells
+deed_by (Some Terminate) users q = ends q.process
+deed_by None users q = nothing
 
 -- how many records were done of a call that was refused: the high four bits of H tell it
 abbrev pub done_in : ℕ → ℕ

@@ -1,2 +1,3 @@
 -- The proofs of `index`.
+pub mod Mixing
 pub mod Slots

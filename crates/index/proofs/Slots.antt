@@ -1,12 +1,5 @@
 -- An entry that is that extent of the file has its slot. Assumes nothing.
-use Prim.Native.Nat.{ℕ, ◌+◌, ◌%◌, ◌≤◌, ◌<◌}
-use mathlib.Core.Path.{◌≡◌, sym, ap, ◌∙◌}
-use mathlib.Core.Bool.{true, false}
-use mathlib.Core.List.{List}
-use native.Mathlib.Omega.{arith}
-use lib.ListN.{length, get_or}
-use borrow.Author.Rules.{rules}
-use borrow.Author.Tests.{eqb-true}
+use Rattle.std.proofs.Common.{ℕ, ◌+◌, ◌%◌, ◌≤◌, ◌<◌, ◌≡◌, sym, ap, ◌∙◌, true, false, List, arith, length, get_or, rules, eqb-true}
 use Rattle.words.specs.Tests.{any, lowest}
 use Rattle.words.specs.Bytes.{byte, same_byte}
 use Rattle.words.specs.Hints.{Hints, Noted}

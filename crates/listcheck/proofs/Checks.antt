@@ -1,32 +1,24 @@
 -- Laws of the list check. Assumes nothing.
-use Prim.Native.Nat.{ℕ, zero, suc, ◌+◌, ◌*◌, ◌≤◌, ◌<◌}
-use mathlib.Core.Path.{◌≡◌, refl, sym, ap, ◌∙◌}
-use mathlib.Core.Bool.{Bool, true, false, not, true≢false}
-use mathlib.Core.List.{List}
-use mathlib.Core.Logic.{⊎_elim}
-use native.Mathlib.Omega.{arith}
-use lib.ListN.{get_or}
-use lib.Dec.{leb, ltb, eqb}
-use borrow.Author.Rules.{rules}
-use borrow.Author.Tests.{lt-ltb, le-ltb, lt-leb, leb-true, leb-false, eq-eqb, ne_eqb, eqb-true}
+use Rattle.std.proofs.Common.{◌≡◌, ℕ, zero, suc, ◌+◌, ◌*◌, ◌≤◌, ◌<◌, Bool, true, false, not, List, length, get_or, leb, ltb, eqb, refl, sym, ap, ◌∙◌, ⊎_elim, arith, rules, eq-eqb, ne_eqb}
+use Rattle.std.proofs.lemmas.Bool.{ltb-true, ltb-false, lt-ltb, le-ltb, lt-leb, leb-true, leb-false}
+use Rattle.std.specs.List.{list_all}
 use Rattle.words.specs.Tests.{◌and◌, ◌if◌else◌, all, any, lowest}
-use Rattle.words.specs.Lists.{tab}
-use Rattle.words.specs.Bytes.{byte, byte_from, is_zero, part}
+use Rattle.words.specs.Bytes.{byte, is_zero, part}
 use Rattle.words.proofs.Bytes.{part-byte}
-use Rattle.words.proofs.Tests.{either, all_none, all_more, all_up, any_none, any_found, any_never}
-use Rattle.words.proofs.Sets.{answers, choices, and_first, and_then, and_left, or_none, not_of_false, not_of_true, not_yes, not_no, any_goes, all_stops}
-use Rattle.words.proofs.Sets.{lowest_stops, lowest_ends}
+use Rattle.words.proofs.Tests.{either, all_none, all_more, all_at, all_up, any_none, any_at, any_never, lowest_none}
+use Rattle.words.proofs.Sets.{answers, choices, and_first, and_then, and_left, any_goes, lowest_stops}
+use Rattle.rules.specs.declared.kind.Kind.{Kind}
 use Rattle.rules.specs.declared.file.File.{File}
 use Rattle.rules.specs.declared.item.Item.{Item}
 use Rattle.rules.specs.declared.list.LockList.{LockList}
 use Rattle.rules.specs.Kinds.{entries}
 use Rattle.rules.specs.Drive.{entry_of, look_up, missing, block_of}
-use Rattle.rules.specs.Locks.{unpack, place_at, empty_place, item_at, same_file, opens_name, opens_name_at, open_of, is_opened, opens_unlocked, clash, clash_at}
-use Rattle.rules.specs.Locks.{is_apart, good_empty, good_open, good_lock, good_item, good_place, keeps_limits, is_user, is_position, zero_at, sound_locks, sound_list}
-use Rattle.listcheck.specs.Check.{file_by, open_alone, lock_alone, item_alone, place_alone, place_alone_at, lock_opened, lock_opened_at, good_head, good_tail}
-use Rattle.rules.specs.declared.kind.Kind.{Kind}
+use Rattle.rules.specs.Locks.{unpack, place_at, empty_place, item_at, opens_name, opens_name_at, open_of, is_opened, opens_unlocked, is_apart}
+use Rattle.rules.specs.Locks.{good_empty, good_open, good_lock, good_item, good_place, keeps_limits, is_position, zero_at, sound_locks, sound_list}
 use Rattle.locklist.specs.Places.{Unused}
 use Rattle.locklist.proofs.Places.{unused_item, unused_zero}
+use Rattle.listcheck.specs.Check.{open_alone, lock_alone, item_alone, place_alone, place_alone_at, lock_opened, lock_opened_at, good_head, good_tail}
+use Rattle.rules.proofs.Chains.{all_all}
 
 -- ---- what was found of a file on the image
 
@@ -44,20 +36,8 @@ pub ruleset found = (choices, missing_as, block_as)
 
 -- ---- the zero in each place
 
-zero_byte : (s : List ℕ) (i : ℕ) → byte (part (place_at i) 20 s) 15 ≡ get_or s (19 + 20 * i + 15) 0
+pub zero_byte : (s : List ℕ) (i : ℕ) → byte (part (place_at i) 20 s) 15 ≡ get_or s (19 + 20 * i + 15) 0
 zero_byte s i = part-byte s (place_at i) 20 15 (omega arith)
-
-pub zero_yes : (s : List ℕ) (i : ℕ) → get_or s (19 + 20 * i + 15) 0 ≡ 0 → zero_at s i ≡ true
-unfolding zero_at
-zero_yes s i h = eq-eqb _ 0 (zero_byte s i ∙ h)
-
-pub zero_no : (s : List ℕ) (i : ℕ) → (get_or s (19 + 20 * i + 15) 0 ≡ 0 → ⊥) → zero_at s i ≡ false
-unfolding zero_at
-zero_no s i h = ne_eqb _ 0 (λ q. h (sym (zero_byte s i) ∙ q))
-
--- a place below the end of those that may be used fails
-pub all_stops_below : (f : ℕ → Bool) (n m i : ℕ) → i < m → m ≤ n → f i ≡ false → false ≡ all f n
-all_stops_below f n m i l g e = all_stops f n i (omega arith) e
 
 -- ---- places that are not used: what holds of each empty place and was found of those before i holds of all
 
@@ -68,7 +48,10 @@ module _ (s : List ℕ) (n i : ℕ) (u : Unused s n) (g : n ≤ i) where
   pub zero_up : all (zero_at s) i ≡ true → true ≡ all (zero_at s) 64
   zero_up h = sym (all_up (zero_at s) i 64 h (λ k m l. unused_zero s n k u (omega arith) l))
 
-pub ruleset zeros = (rules, all_none, all_more, all_stops_below, zero_yes, zero_no, zero_up)
+pub has_zero_at : (s : List ℕ) (i : ℕ) → all (zero_at s) 64 ≡ true → i < 64 → zero_at s i ≡ true
+has_zero_at s i h m = all_at (zero_at s) 64 i h m
+
+pub ruleset zeros = (rules, answers, all_none, all_more, has_zero_at, zero_up)
 
 -- ---- a place by itself, as it was read
 
@@ -76,98 +59,67 @@ empty_alone : (kind : Kind) (s users : List ℕ) (capacity i : ℕ) → place_al
 unfolding place_alone good_empty is_zero all ◌and◌ ◌if◌else◌
 empty_alone kind s users capacity i = refl
 
-module _ (kind : Kind) (s list : List ℕ) where
-  module _ (users : List ℕ) (i : ℕ) (it : Item) (r : Bool) (d : users ≡ tab (byte_from list 3) 16) (e : it ≡ item_at (unpack list) i)
-      (h : r ≡ place_alone kind s users (byte list 0) i it) where
-    alone_as : r ≡ place_alone_at kind s (unpack list) i
-    unfolding place_alone_at unpack
-    alone_as = h ∙ rw (d, e)
+pub alone_up : (kind : Kind) (s list : List ℕ) (n i : ℕ) → Unused list n → n ≤ i → all (place_alone_at kind s (unpack list)) i ≡ true
+    → true ≡ all (place_alone_at kind s (unpack list)) 64
+unfolding place_alone_at
+alone_up kind s list n i u g h = empty_up list n i u g (place_alone_at kind s (unpack list)) (λ k e. rw e (empty_alone kind s _ _ k)) h
 
-    pub alone_yes : not r ≡ false → place_alone_at kind s (unpack list) i ≡ true
-    alone_yes y = not_yes r _ alone_as y
+pub alone_at : (kind : Kind) (s : List ℕ) (l : LockList) (i : ℕ) → all (place_alone_at kind s l) 64 ≡ true → i < 64 → place_alone_at kind s l i ≡ true
+alone_at kind s l i h m = all_at (place_alone_at kind s l) 64 i h m
 
-    pub alone_no : not r ≡ true → place_alone_at kind s (unpack list) i ≡ false
-    alone_no n = not_no r _ alone_as n
-
-  pub alone_up : (n i : ℕ) → Unused list n → n ≤ i → all (place_alone_at kind s (unpack list)) i ≡ true
-      → true ≡ all (place_alone_at kind s (unpack list)) 64
-  unfolding place_alone_at
-  alone_up n i u g h = empty_up list n i u g (place_alone_at kind s (unpack list)) (λ k e. rw e (empty_alone kind s _ _ k)) h
-
-pub ruleset alones = (rules, all_none, all_more, all_stops_below, alone_yes, alone_no, alone_up)
+pub ruleset alones = (rules, answers, all_none, all_more, alone_at, alone_up)
 
 -- ---- a lock's open
 
-module _ (l : LockList) (i : ℕ) (it : Item) (d : it ≡ item_at l i) where
-  pub opened_skip : (it.kind ≡ 2 → ⊥) → lock_opened_at l i ≡ true
-  unfolding lock_opened_at lock_opened ◌if◌else◌
-  opened_skip h = rw (← d, ne_eqb _ _ h)
+any_up : (f : ℕ → Bool) (c n : ℕ) → any f c ≡ false → ((i : ℕ) → c ≤ i → i < n → f i ≡ false) → any f n ≡ false
+any_up f c n h g = any_never f n
+    (λ i l. ⊎_elim (λ (q : ltb i c ≡ true). any_at f c i h (ltb-true i c q)) (λ (q : ltb i c ≡ false). g i (ltb-false i c q) l) (either (ltb i c)))
 
-  pub is_lock : it.kind ≡ 2 → (item_at l i).kind ≡ 2
-  is_lock h = ap (λ (x : Item). x.kind) (sym d) ∙ h
+-- o: how far it was looked for
+module _ (list : List ℕ) (it : Item) where
+  abbrev opens_it : ℕ → Bool
+  opens_it = opens_name_at (unpack list) it.process it.name
 
-  pub its_process : it.process ≡ (item_at l i).process
-  its_process = ap (λ (x : Item). x.process) d
+  pub opened_skip : (it.kind ≡ 2 → ⊥) → true ≡ lock_opened (unpack list) it
+  unfolding lock_opened ◌if◌else◌
+  opened_skip h = rw (ne_eqb _ _ h) refl
 
-  pub its_name : it.name ≡ (item_at l i).name
-  its_name = ap (λ (x : Item). x.name) d
+  module _ (o : ℕ) (k : it.kind ≡ 2) (h : any opens_it o ≡ false) where
+    opened_is : (t : Bool) → t ≡ opens_unlocked (unpack list) (lowest opens_it 64) → t ≡ lock_opened (unpack list) it
+    unfolding lock_opened open_of ◌if◌else◌
+    opened_is t e = rw (eq-eqb _ _ k) e
 
-pub opened_up : (s : List ℕ) (n i : ℕ) → Unused s n → n ≤ i → all (lock_opened_at (unpack s)) i ≡ true → true ≡ all (lock_opened_at (unpack s)) 64
-opened_up s n i u g h =
-    empty_up s n i u g (lock_opened_at (unpack s)) (λ k e. opened_skip (unpack s) k empty_place (sym e) (λ q. absurd (omega arith))) h
+    pub opened_here : (at : Item) (r : Bool) → o < 64 → at ≡ item_at (unpack list) o → r ≡ opens_name it.process it.name at → r ≡ true
+        → eqb at.mode 1 ≡ lock_opened (unpack list) it
+    unfolding opens_name_at opens_unlocked is_opened
+    opened_here at r m d e y =
+        let q : o ≡ lowest opens_it 64 = lowest_stops opens_it 64 o m h (rw (← d) (sym e ∙ y)) in
+        opened_is _ (rw (← q) (and_then _ _ _ (lt-ltb _ _ m) (ap (λ (x : Item). eqb x.mode 1) d)))
 
--- o: how far its open was looked for
-module _ (l : LockList) (i o p : ℕ) (name : List ℕ) (k : (item_at l i).kind ≡ 2) (w : p ≡ (item_at l i).process) (v : name ≡ (item_at l i).name)
-    (h : any (opens_name_at l p name) o ≡ false) where
-  opened_is : (t : Bool) → t ≡ opens_unlocked l (lowest (opens_name_at l p name) 64) → t ≡ lock_opened_at l i
-  unfolding lock_opened_at lock_opened open_of ◌if◌else◌
-  opened_is t e = rw (eq-eqb _ _ k, ← w, ← v) e
-
-  module _ (it : Item) (r : Bool) (m : o < 64) (d : it ≡ item_at l o) (e : r ≡ opens_name p name it) (y : r ≡ true) where
-    found_here : o ≡ lowest (opens_name_at l p name) 64
-    unfolding opens_name_at
-    found_here = lowest_stops (opens_name_at l p name) 64 o m h (rw (← d) (sym e ∙ y))
-
-    here_is : eqb (item_at l o).mode 1 ≡ lock_opened_at l i
-    unfolding opens_unlocked is_opened
-    here_is = opened_is _ (rw (← found_here) (and_then _ _ _ (lt-ltb _ _ m) refl))
-
-    pub opened_yes : it.mode ≡ 1 → lock_opened_at l i ≡ true
-    opened_yes q = sym here_is ∙ eq-eqb _ _ (ap (λ (x : Item). x.mode) (sym d) ∙ q)
-
-    pub opened_no : (it.mode ≡ 1 → ⊥) → lock_opened_at l i ≡ false
-    opened_no q = sym here_is ∙ ne_eqb _ _ (λ z. q (ap (λ (x : Item). x.mode) d ∙ z))
-
-  pub opened_none : 64 ≤ o → o ≤ 64 → lock_opened_at l i ≡ false
-  unfolding opens_unlocked is_opened
-  opened_none g m =
-      let q : o ≡ lowest (opens_name_at l p name) 64 = lowest_ends (opens_name_at l p name) 64 o h g m in
-      sym (opened_is false (rw (← q) (and_first _ _ (le-ltb _ _ g))))
+    -- what is not used is no open
+    pub opened_none : (n : ℕ) → Unused list n → n ≤ o → o ≤ n → false ≡ lock_opened (unpack list) it
+    unfolding opens_name_at opens_name opens_unlocked is_opened
+    opened_none n u g m =
+        let none : any opens_it 64 ≡ false = any_up opens_it o 64 h (λ i a b. rw (unused_item list n i u (omega arith) b) (and_left _ _ refl)) in
+        opened_is false (rw (lowest_none opens_it 64 none) (and_first _ _ (le-ltb 64 64 (omega arith))))
 
 -- no open here
-pub opens_not : (l : LockList) (o p : ℕ) (name : List ℕ) (it : Item) (r : Bool) → it ≡ item_at l o → r ≡ opens_name p name it → r ≡ false
+pub opens_not : (l : LockList) (o p : ℕ) (name : List ℕ) (at : Item) (r : Bool) → at ≡ item_at l o → r ≡ opens_name p name at → r ≡ false
     → opens_name_at l p name o ≡ false
 unfolding opens_name_at
-opens_not l o p name it r d e h = rw (← d) (sym e ∙ h)
+opens_not l o p name at r d e h = rw (← d) (sym e ∙ h)
 
-pub ruleset opens = (
-  rules,
-  answers,
-  all_none,
-  all_more,
-  all_stops_below,
-  any_none,
-  any_goes,
-  is_lock,
-  its_process,
-  its_name,
-  opens_not,
-  opened_skip,
-  opened_yes,
-  opened_no,
-  opened_none,
-  opened_up,
-)
+pub ruleset opened = (rules, any_none, any_goes, opens_not, opened_skip, opened_here, opened_none)
+
+pub opened_up : (s : List ℕ) (n i : ℕ) → Unused s n → n ≤ i → all (lock_opened_at (unpack s)) i ≡ true → true ≡ all (lock_opened_at (unpack s)) 64
+unfolding lock_opened_at
+opened_up s n i u g h =
+    empty_up s n i u g (lock_opened_at (unpack s)) (λ k e. rw e (sym (opened_skip s empty_place (λ q. absurd (omega arith))))) h
+
+pub has_opened_at : (l : LockList) (i : ℕ) → all (lock_opened_at l) 64 ≡ true → i < 64 → lock_opened_at l i ≡ true
+has_opened_at l i h m = all_at (lock_opened_at l) 64 i h m
+
+pub ruleset opens = (rules, answers, all_none, all_more, has_opened_at, opened_up)
 
 -- ---- a good place is good by itself, and a lock has its open
 
@@ -245,107 +197,18 @@ module _ (kind : Kind) (s list : List ℕ) where
   l = unpack list
 
   -- the list check in the order of its parts
-  pub sound_as : (r : Bool) → r ≡ (all (zero_at list) 64 and good_head l and all (place_alone_at kind s l) 64 and all (lock_opened_at l) 64 and all (is_apart l) 64
-      and all (keeps_limits l) 16 and good_tail kind l) → r ≡ sound_list kind list s
+  pub sound_parts : sound_list kind list s ≡ (all (zero_at list) 64 and good_head l and all (place_alone_at kind s l) 64 and all (lock_opened_at l) 64
+      and all (is_apart l) 64 and all (keeps_limits l) 16 and good_tail kind l)
   unfolding sound_list sound_locks good_head good_tail
-  sound_as r h =
+  sound_parts =
       let g = all_both (good_place kind s l) (place_alone_at kind s l) (lock_opened_at l) 64 (place_split kind s l) in
       let rest = join_two _ _ _ ∙ ap (λ (x : Bool). x and all (is_apart l) 64 and all (keeps_limits l) 16 and good_tail kind l) (sym g) in
-      h ∙ ap (λ (x : Bool). all (zero_at list) 64 and x) (ap (λ (x : Bool). good_head l and x) rest ∙ sym (join_four _ _ _ _ _))
+      sym (ap (λ (x : Bool). all (zero_at list) 64 and x) (ap (λ (x : Bool). good_head l and x) rest ∙ sym (join_four _ _ _ _ _)))
 
-  module _ (a b c d : Bool) (ea : a ≡ all (zero_at list) 64) (ha : not a ≡ false) (eb : b ≡ good_head l) (hb : not b ≡ false)
-      (ec : c ≡ all (place_alone_at kind s l) 64) (hc : not c ≡ false) (ed : d ≡ all (lock_opened_at l) 64) where
-    -- its first three parts were found good
-    after : (r : Bool) → r ≡ (all (lock_opened_at l) 64 and all (is_apart l) 64 and all (keeps_limits l) 16 and good_tail kind l) → r ≡ sound_list kind list s
-    after r h = sound_as r (and_then r _ _ (not_yes a _ ea ha) (and_then r _ _ (not_yes b _ eb hb) (and_then r _ _ (not_yes c _ ec hc) h)))
+pub ruleset sounds = (choices, sound_parts)
 
-    -- .. the fourth was
-    pub sound_after : (r : Bool) → not d ≡ false → r ≡ (all (is_apart l) 64 and all (keeps_limits l) 16 and good_tail kind l) → r ≡ sound_list kind list s
-    sound_after r hd h = after r (and_then r _ _ (not_yes d _ ed hd) h)
+-- ---- the positions
 
-    -- .. the fourth was not
-    pub sound_fourth : not d ≡ true → false ≡ sound_list kind list s
-    sound_fourth hd = after false (and_first _ _ (not_no d _ ed hd))
-
-pub ruleset sounds = (and_first, and_then, answers, sound_as)
-
--- its head and its tail, as they were read
-pub users_as : (list users : List ℕ) (r : Bool) → users ≡ tab (byte_from list 3) 16 → r ≡ all (is_user users) 16
-    → r ≡ all (is_user (tab (byte_from list 3) 16)) 16
-users_as list users r u h = rw (← u) h
-
-pub positions_as : (kind : Kind) (list positions : List ℕ) (r : Bool) → positions ≡ tab (byte_from list 1299) 16 → r ≡ all (is_position kind positions) 16
-    → r ≡ all (is_position kind (tab (byte_from list 1299) 16)) 16
-positions_as kind list positions r u h = rw (← u) h
-
-pub ruleset ends = (and_first, and_then, answers, users_as, positions_as)
-
--- ---- clashes
-
-pub files_as : (f g a b : File) (r : Bool) → r ≡ same_file f g → f ≡ a → g ≡ b → r ≡ same_file a b
-files_as f g a b r h d e = cc
-
-pub ruleset clashing = (choices, files_as)
-
--- ---- items apart
-
-clash_empty : (a b : Item) → a.kind ≡ 0 → clash a b ≡ false
-unfolding clash
-clash_empty a b h =
-    or_none _ _ (and_left _ _ (ne_eqb a.kind 1 (λ q. absurd (omega arith)))) (and_left _ _ (ne_eqb a.kind 2 (λ q. absurd (omega arith))))
-
-pub apart_empty : (l : LockList) (i : ℕ) (it : Item) → it ≡ item_at l i → it.kind ≡ 0 → is_apart l i ≡ true
-unfolding is_apart clash_at
-apart_empty l i it d h =
-    let k = ap (λ (x : Item). x.kind) (sym d) ∙ h in
-    not_of_false _ (any_never (clash_at l i) i (λ j m. and_left _ _ (clash_empty (item_at l i) (item_at l j) k)))
-
-pub apart_up : (s : List ℕ) (n i : ℕ) → Unused s n → n ≤ i → all (is_apart (unpack s)) i ≡ true → true ≡ all (is_apart (unpack s)) 64
-apart_up s n i u g h = empty_up s n i u g (is_apart (unpack s)) (λ k e. apart_empty (unpack s) k empty_place (sym e) refl) h
-
--- two tests for different kinds
-kinds_apart : (m n k : ℕ) → (n ≡ m → ⊥) → (eqb m k and eqb n k) ≡ false
-unfolding ◌and◌
-kinds_apart m n k h = ⊎_elim
-    (λ (y : eqb m k ≡ true). rw y (ne_eqb n k (λ q. h (q ∙ sym (eqb-true m k y)))))
-    (λ (y : eqb m k ≡ false). rw y)
-    (either (eqb m k))
-
-join_three : (x y z : Bool) → (x and y) ≡ false → (x and y and z) ≡ false
-unfolding ◌and◌
-join_three true true z h = absurd (true≢false h)
-join_three true false z h = refl
-join_three false y z h = refl
-
--- items of different kinds do not clash
-pub clash-not : (l : LockList) (i j : ℕ) → ((item_at l j).kind ≡ (item_at l i).kind → ⊥) → clash_at l i j ≡ false
-unfolding clash_at clash
-clash-not l i j h =
-    let m = (item_at l i).kind in
-    let n = (item_at l j).kind in
-    and_left _ _ (or_none _ _ (join_three _ _ _ (kinds_apart m n 1 h)) (join_three _ _ _ (kinds_apart m n 2 h)))
-
--- it and other: the items of places i and j, as they were read
-module _ (list : List ℕ) (i j : ℕ) (it other : Item) (d : it ≡ item_at (unpack list) i) (e : other ≡ item_at (unpack list) j) where
-  pub kinds_go : any (clash_at (unpack list) i) j ≡ false → (other.kind ≡ it.kind → ⊥) → any (clash_at (unpack list) i) (j + 1) ≡ false
-  kinds_go g h =
-      any_goes _ _ g (clash-not (unpack list) i j (λ q. h (ap (λ (x : Item). x.kind) e ∙ q ∙ ap (λ (x : Item). x.kind) (sym d))))
-
-  module _ (users : List ℕ) (r : Bool) (u : users ≡ tab (byte_from list 3) 16)
-      (h : r ≡ (clash it other and same_file (file_by users it) (file_by users other))) where
-    clash_as : r ≡ clash_at (unpack list) i j
-    unfolding clash_at unpack
-    clash_as = h ∙ rw (u, d, e)
-
-    pub files_go : any (clash_at (unpack list) i) j ≡ false → r ≡ false → any (clash_at (unpack list) i) (j + 1) ≡ false
-    files_go g n = any_goes _ _ g (sym clash_as ∙ n)
-
-    pub apart_no : j < i → r ≡ true → is_apart (unpack list) i ≡ false
-    unfolding is_apart
-    apart_no k y = not_of_true _ (any_found (clash_at (unpack list) i) i j k (sym clash_as ∙ y))
-
-pub apart_yes : (l : LockList) (i j : ℕ) → any (clash_at l i) j ≡ false → i ≤ j → j ≤ i → is_apart l i ≡ true
-unfolding is_apart
-apart_yes l i j h g k = let q : j ≡ i = omega arith in not_of_false _ (rw q at h)
-
-pub ruleset aparts = (rules, all_none, all_more, all_stops_below, any_none, kinds_go, files_go, apart_empty, apart_yes, apart_no, apart_up)
+pub positions_listed : (kind : Kind) (positions : List ℕ) → length positions ≡ 16 → all (is_position kind positions) 16 ≡ list_all (λ (n : ℕ). leb n (entries kind)) positions
+unfolding is_position
+positions_listed kind positions h = sym (all_all (λ (n : ℕ). leb n (entries kind)) (is_position kind positions) 0 positions 16 h (λ k l. refl))

@@ -1,13 +1,6 @@
 -- A name that a sound image has is legal and has no high bits: an item that is found there needs no look at its name. Assumes nothing.
-use Prim.Native.Nat.{ℕ, ◌/◌, ◌≤◌, ◌<◌}
-use mathlib.Core.Path.{◌≡◌, sym, ap, ◌∙◌}
-use mathlib.Core.Bool.{Bool, true, false}
-use mathlib.Core.List.{List}
-use mathlib.Core.Logic.{⊎_elim}
-use lib.ListN.{length}
-use lib.Dec.{ltb, eqb}
-use borrow.Author.Rules.{rules}
-use borrow.Author.Tests.{eqb-false, leb-false, le-leb, lt-leb, ltb-true, ltb-false, not-true}
+use Rattle.std.proofs.Common.{◌≡◌, ℕ, ◌/◌, ◌≤◌, ◌<◌, Bool, true, false, List, length, ltb, eqb, sym, ap, ◌∙◌, ⊎_elim, rules}
+use Rattle.std.proofs.lemmas.Bool.{eqb-false, leb-false, le-leb, lt-leb, ltb-true, ltb-false, not-true}
 use Rattle.words.specs.Tests.{◌if◌else◌, all}
 use Rattle.words.proofs.Tests.{either, and_fst, and_snd}
 use Rattle.words.proofs.Sets.{and_first, and_then, and_last}
@@ -53,6 +46,11 @@ module _ (kind : Kind) (s users : List ℕ) (it : Item) where
       ⊎_elim (λ (q : eqb it.kind 1 ≡ true). let o : open_alone kind s users it ≡ true = rw q at h in (0, open_there o))
       (λ (q : eqb it.kind 1 ≡ false). let o : lock_alone kind s users it ≡ true = rw q at h in (it.number / 128, lock_there o)) (either (eqb it.kind 1))
 
+  -- the process is past the last
+  pub item_past : 15 < it.process → false ≡ item_alone kind s users it
+  unfolding item_alone
+  item_past h = and_first _ _ (lt-leb _ _ h)
+
   -- the record is past the highest
   pub item_far : (t : Bool) → t ≡ ltb (top kind) it.number → t ≡ true → false ≡ item_alone kind s users it
   unfolding item_alone
@@ -72,4 +70,4 @@ module _ (kind : Kind) (s users : List ℕ) (it : Item) where
       (λ (q : r ≡ false). q ∙ sym (and_last _ _ (and_last _ _ (and_last _ _ (and_last _ _ (sym h ∙ q))))))
       (either r)
 
-pub ruleset judging-items = (rules, image_long, item_far, item_by)
+pub ruleset judging_items = (rules, image_long, item_past, item_far, item_by)

@@ -1,4 +1,5 @@
 -- The proofs of `listcheck`.
+pub mod Chains
 pub mod Checks
 pub mod Clashes
 pub mod Tallies

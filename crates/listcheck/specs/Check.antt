@@ -1,7 +1,8 @@
 -- The list check in the order in which the code goes: what an item shows by itself, then what it needs of the others.
 -- Assumes nothing.
-use Rattle.std.specs.Prelude.{ℕ, ◌<◌, ◌≡◌, Bool, true, not, List, length, get_or, leb, ltb, eqb}
+use Rattle.std.specs.Prelude.{ℕ, ◌+◌, Bool, true, not, List, get_or, set, leb, ltb, eqb}
 use Rattle.words.specs.Tests.{◌and◌, ◌if◌else◌, all, count}
+use Rattle.words.specs.Lists.{tab}
 use Rattle.rules.specs.declared.file.File.{File}
 use Rattle.rules.specs.declared.item.Item.{Item}
 use Rattle.rules.specs.declared.list.LockList.{LockList}
@@ -68,10 +69,18 @@ item_slot_at l i = item_slot l.users (item_at l i)
 unfoldable pub is_item : LockList → ℕ → Bool
 is_item l i = not (eqb (item_at l i).kind an_empty)
 
--- how many items of that kind each process has, of the first n places
-pub record Tally (l : LockList) (kind : ℕ) (counts : List ℕ) (n : ℕ) : Type 0 where
-  pub long : length counts ≡ 16
-  pub each : (p : ℕ) → p < 16 → get_or counts p 0 ≡ count (is_kind_by_at l kind p) n
+-- how many items of that kind a process has, of the first n places, ..
+unfoldable pub count_of : LockList → ℕ → ℕ → ℕ → ℕ
+count_of l kind n p = count (is_kind_by_at l kind p) n
+
+-- .. and each of the sixteen
+unfoldable pub counted : LockList → ℕ → ℕ → List ℕ
+counted l kind n = tab (count_of l kind n) 16
+
+-- counts with the item counted, where it is of that kind and of a process
+unfoldable pub count_item : ℕ → Item → List ℕ → List ℕ
+count_item kind it counts =
+    set counts it.process (get_or counts it.process 0 + 1) if eqb it.kind kind and ltb it.process 16 else counts
 
 unfoldable pub at_most : List ℕ → ℕ → ℕ → Bool
 at_most counts most p = leb (get_or counts p 0) most

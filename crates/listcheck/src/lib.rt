@@ -5,3 +5,4 @@ mod apart;
 pub mod check;
 mod limits;
 mod place;
+mod places;

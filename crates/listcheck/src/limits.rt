@@ -1,50 +1,41 @@
-ghost use Rattle.std.specs.Prelude.{◌≡◌, length};
+ghost use Rattle.std.specs.Prelude.{◌≡◌, ◌<◌, get_or};
 ghost use Rattle.words.specs.Tests.{all};
 ghost use Rattle.rules.specs.Locks.{unpack, keeps_limits};
-ghost use Rattle.locklist.specs.Places.{Unused};
-ghost use Rattle.listcheck.specs.Check.{at_most};
+ghost use Rattle.listcheck.specs.Check.{count_item, at_most};
 
-use locklist::place::item_at;
+use crate::places::Places;
+use rules::item::{A_LOCK, AN_OPEN, Item};
 
 // No count is above that.
 fn all_at_most(counts: [u8; 16], most: u8) -> bool
     ensures { result ≡ all (at_most counts most) 16 }
 {
-    let mut p = 0;
-    while p < 16 {
-        if most < counts[p] {
-            return false;
-        }
-        p += 1;
-    }
-    true
+    counts.iter().all(|count| *count <= most)
 }
 
-// Each process keeps both limits: its opens and its locks are counted in one pass.
-pub fn all_keep(list: &[u8], end: usize) -> bool
-    requires { (length list.now ≡ 1316) × Unused list.now end }
-    ensures { result ≡ all (keeps_limits (unpack list.now)) 16 }
+// Counts the item, where it is of that kind and of a process.
+#[tactic(auto, using(words::proofs::Sets::choices), unfolding(crate::specs::Check::count_item))]
+fn count(counts: &mut [u8; 16], kind: u8, it: Item)
+    requires { get_or counts.old it.process 0 < 255 }
+    ensures { counts.new ≡ count_item kind it counts.old }
+{
+    let p = usize::from(it.process);
+    if it.kind == kind && p < 16 {
+        counts[p] += 1;
+    }
+}
+
+// Each process keeps both limits: its opens and its locks are counted in one pass, apart, since each has its own limit.
+#[tactic(auto, using(crate::proofs::Tallies::limits), unfolding(rules::specs::Locks::unpack))]
+pub fn all_keep(places: &Places) -> bool
+    ensures { result ≡ all (keeps_limits (unpack places.now.list.now)) 16 }
 {
     let mut opens = [0u8; 16];
     let mut locks = [0u8; 16];
-    let mut i: usize = 0;
-    while i < end {
-        let it = item_at(list, i);
-        let p = it.process as usize;
-        i += 1;
-        if 16 <= p {
-            continue;
-        }
-        if it.kind == 1 {
-            opens[p] += 1;
-            continue;
-        }
-        if it.kind == 2 {
-            locks[p] += 1;
-        }
+    for i in 0..places.end {
+        let it = places.item(i);
+        count(&mut opens, AN_OPEN, it);
+        count(&mut locks, A_LOCK, it);
     }
-    if !all_at_most(opens, list[1]) {
-        return false;
-    }
-    all_at_most(locks, list[2])
+    all_at_most(opens, places.list[1]) && all_at_most(locks, places.list[2])
 }

@@ -1,135 +1,99 @@
-ghost use Rattle.std.specs.Prelude.{◌≡◌, ◌*◌, ◌≤◌, length, eqb, true};
+ghost use Rattle.std.specs.Prelude.{◌≡◌, ◌<◌, eqb, true};
 ghost use Rattle.words.specs.Tests.{◌if◌else◌, all};
-ghost use Rattle.words.specs.Bytes.{is_zero};
-ghost use Rattle.words.specs.Hints.{Hints};
-ghost use Rattle.rules.specs.Kinds.{entries};
 ghost use Rattle.rules.specs.Drive.{sound_image};
-ghost use Rattle.rules.specs.Locks.{good_empty};
-ghost use Rattle.index.specs.Slots.{slot_at, in_use};
-ghost use Rattle.listcheck.specs.Check.{file_by, open_alone, lock_alone, item_alone, place_alone};
+ghost use Rattle.rules.specs.Locks.{unpack, good_empty};
+ghost use Rattle.listcheck.specs.Check.{open_alone, lock_alone, item_alone, place_alone_at};
 
-use index::find::{block_by, entry_by};
-use rules::file::File;
-use rules::item::Item;
-use rules::kind::{Kind, entries, is_past};
-use rules::tests::user_in;
-
-// Eleven zeros.
-fn zero_name(name: [u8; 11]) -> bool
-    ensures { result ≡ all (is_zero name) 11 }
-{
-    let mut k = 0;
-    while k < 11 {
-        if name[k] != 0 {
-            return false;
-        }
-        k += 1;
-    }
-    true
-}
+use crate::places::Places;
+use index::find::Index;
+use rules::item::{A_LOCK, AN_EMPTY, AN_OPEN, Item, MODE_READ_ONLY, MODE_UNLOCKED};
+use rules::kind::{entries, is_past};
+use words::compare::zeros;
 
 // The rest of an empty place is zeros.
+#[tactic(auto, using(words::proofs::Sets::choices), unfolding(rules::specs::Locks::good_empty))]
 fn good_empty(it: Item) -> bool
     ensures { result ≡ good_empty it }
 {
-    if it.process != 0 {
-        return false;
-    }
     let name = it.name;
-    if !zero_name(name) {
-        return false;
-    }
-    if it.mode != 0 {
-        return false;
-    }
-    it.number == 0
+    it.process == 0 && zeros(&name) && it.mode == 0 && it.number == 0
 }
 
-// The file that an item names.
-pub fn file_by(users: [u8; 16], it: Item) -> File
-    ensures { result ≡ file_by users it }
-{
-    let user = user_in(users, it.process);
-    let name = it.name;
-    File {
-        user: user,
-        name: name,
-    }
+// Each place by itself: against a sound image, whose entries the hints know.
+#[derive(Drop)]
+pub struct Check<'a> {
+    pub index: Index<'a>,
+    pub places: &'a Places<'a>,
+    ghost sound: { sound_image index.directory.kind index.directory.image.now ≡ true },
 }
 
-// An open: its mode and record, and its file on the image.
-fn open_alone(kind: Kind, image: &[u8], hints: &[u8; 256], users: [u8; 16], it: Item) -> bool
-    requires { (32 * entries kind ≤ length image.now) × Hints (slot_at image.now) (in_use image.now) (entries kind) hints.now }
-    ensures { result ≡ open_alone kind image.now users it }
-{
-    if 2 < it.mode {
-        return false;
+impl Check<'_> {
+    // An open: its mode and record, and its file on the image.
+    #[tactic(auto, using(crate::proofs::Checks::found, rules::proofs::Sound::image_long), unfolding(crate::specs::Check::open_alone))]
+    fn open_alone(&self, it: Item) -> bool
+        ensures { result ≡ open_alone self.now.index.directory.kind self.now.index.directory.image.now (unpack self.now.places.now.list.now).users it }
+    {
+        let f = self.places.file(it);
+        it.mode <= MODE_READ_ONLY
+            && it.number == 0
+            && self.index.entry_of(f, 0) < entries(self.index.directory.kind)
     }
-    if it.number != 0 {
-        return false;
-    }
-    let f = file_by(users, it);
-    entry_by(kind, image, hints, f, 0) < entries(kind)
-}
 
-// A lock: its mode, and that its record has a block.
-fn lock_alone(kind: Kind, image: &[u8], hints: &[u8; 256], users: [u8; 16], it: Item) -> bool
-    requires { (32 * entries kind ≤ length image.now) × Hints (slot_at image.now) (in_use image.now) (entries kind) hints.now }
-    ensures { result ≡ lock_alone kind image.now users it }
-{
-    if it.mode != 1 {
-        return false;
+    // A lock: its mode, and that its record has a block.
+    #[tactic(auto, using(crate::proofs::Checks::found, rules::proofs::Sound::image_long), unfolding(crate::specs::Check::lock_alone))]
+    fn lock_alone(&self, it: Item) -> bool
+        ensures { result ≡ lock_alone self.now.index.directory.kind self.now.index.directory.image.now (unpack self.now.places.now.list.now).users it }
+    {
+        let f = self.places.file(it);
+        it.mode == MODE_UNLOCKED && self.index.block_of(f, it.number as usize) != 0
     }
-    let f = file_by(users, it);
-    block_by(kind, image, hints, f, it.number as usize) != 0
-}
 
-// An open or a lock, by its kind.
-fn kind_alone(kind: Kind, image: &[u8], hints: &[u8; 256], users: [u8; 16], it: Item) -> bool
-    requires { (32 * entries kind ≤ length image.now) × Hints (slot_at image.now) (in_use image.now) (entries kind) hints.now }
-    ensures { result ≡ (open_alone kind image.now users it if eqb it.kind 1 else lock_alone kind image.now users it) }
-{
-    if it.kind == 1 {
-        return open_alone(kind, image, hints, users, it);
+    // An open or a lock, by its kind.
+    #[tactic(auto, using(words::proofs::Sets::choices))]
+    fn kind_alone(&self, it: Item) -> bool
+        ensures { result ≡ (open_alone self.now.index.directory.kind self.now.index.directory.image.now (unpack self.now.places.now.list.now).users it if eqb it.kind 1 else lock_alone self.now.index.directory.kind self.now.index.directory.image.now (unpack self.now.places.now.list.now).users it) }
+    {
+        if it.kind == AN_OPEN {
+            self.open_alone(it)
+        } else {
+            self.lock_alone(it)
+        }
     }
-    lock_alone(kind, image, hints, users, it)
-}
 
-// An item, by itself. A name that a sound image has is legal, with high bits zero.
-fn item_alone(kind: Kind, image: &[u8], hints: &[u8; 256], users: [u8; 16], it: Item) -> bool
-    requires { (sound_image kind image.now ≡ true) × Hints (slot_at image.now) (in_use image.now) (entries kind) hints.now }
-    ensures { result ≡ item_alone kind image.now users it }
-{
-    if 15 < it.process {
-        return false;
+    // An item, by itself. A name that a sound image has is legal, with high bits zero.
+    #[tactic(auto, using(crate::proofs::Legal::judging_items))]
+    fn item_alone(&self, it: Item) -> bool
+        ensures { result ≡ item_alone self.now.index.directory.kind self.now.index.directory.image.now (unpack self.now.places.now.list.now).users it }
+    {
+        it.process <= 15
+            && !is_past(self.index.directory.kind, it.number as usize)
+            && self.kind_alone(it)
     }
-    if is_past(kind, it.number as usize) {
-        return false;
-    }
-    kind_alone(kind, image, hints, users, it)
-}
 
-// A place, by itself: empty, or below the capacity with an item.
-pub fn place_alone(
-    kind: Kind,
-    image: &[u8],
-    hints: &[u8; 256],
-    users: [u8; 16],
-    capacity: u8,
-    i: usize,
-    it: Item,
-) -> bool
-    requires { (sound_image kind image.now ≡ true) × Hints (slot_at image.now) (in_use image.now) (entries kind) hints.now }
-    ensures { result ≡ place_alone kind image.now users capacity i it }
-{
-    if it.kind == 0 {
-        return good_empty(it);
+    // A place, by itself: empty, or below the capacity with an item.
+    #[tactic(auto, using(words::proofs::Sets::choices), unfolding(crate::specs::Check::place_alone, crate::specs::Check::place_alone_at, rules::specs::Locks::unpack))]
+    fn place_alone(&self, i: usize) -> bool
+        requires { i < 64 }
+        ensures { result ≡ place_alone_at self.now.index.directory.kind self.now.index.directory.image.now (unpack self.now.places.now.list.now) i }
+    {
+        let it = self.places.item(i);
+        if it.kind == AN_EMPTY {
+            good_empty(it)
+        } else {
+            i < usize::from(self.places.list[0]) && it.kind <= A_LOCK && self.item_alone(it)
+        }
     }
-    if capacity as usize <= i {
-        return false;
+
+    // Each place, by itself.
+    #[tactic(auto, using(crate::proofs::Checks::alones))]
+    pub fn places_alone(&self) -> bool
+        ensures { result ≡ all (place_alone_at self.now.index.directory.kind self.now.index.directory.image.now (unpack self.now.places.now.list.now)) 64 }
+    {
+        for i in 0..self.places.end {
+            if !self.place_alone(i) {
+                return false;
+            }
+        }
+        true
     }
-    if 2 < it.kind {
-        return false;
-    }
-    item_alone(kind, image, hints, users, it)
 }

@@ -20,7 +20,7 @@ use Rattle.rules.specs.declared.kind.Kind.{Kind}
 use Rattle.rules.specs.Kinds.{entries}
 use Rattle.rules.specs.declared.list.LockList.{LockList}
 use Rattle.rules.specs.declared.routine.Routine.TheVariants.{SearchFirst, SearchNext}
-use Rattle.rules.specs.declared.routine.Chosen.TheVariants.{Call}
+use Rattle.std.specs.Prelude.{Some}
 use Rattle.rules.specs.Serves.{Buffers, chosen}
 use Rattle.rules.specs.Locks.{moved_to, pack_item, pack}
 use Rattle.rules.specs.Effects.{searched, finds, finds_none, does17, does18}
@@ -95,10 +95,10 @@ module _ (kind : Kind) (p c : ℕ) (b : Buffers) (ok : Passed kind p c b) (bytes
       (either (leb (entries kind) e))
 
 -- what 17 and 18 do where no row refuses them
-pub searches : (kind : Kind) (n p c : ℕ) (b : Buffers) → (chosen n ≡ Call SearchFirst) ⊎ (chosen n ≡ Call SearchNext) → any_row (rows_call kind n p c b) ≡ false
+pub searches : (kind : Kind) (n p c : ℕ) (b : Buffers) → (chosen n ≡ Some SearchFirst) ⊎ (chosen n ≡ Some SearchNext) → any_row (rows_call kind n p c b) ≡ false
     → are_bytes b.list ≡ true → Searched kind p b (call kind n p c b)
 unfolding effect_of asked asked_by does17 does18
 searches kind n p c b k h bytes =
     ⊎_elim
-    (λ (e : chosen n ≡ Call SearchFirst). let a = accepted_as kind n p c b (Call SearchFirst) e h in rw a.did (searched_so kind p c b a.ok bytes _))
-    (λ (e : chosen n ≡ Call SearchNext). let a = accepted_as kind n p c b (Call SearchNext) e h in rw a.did (searched_so kind p c b a.ok bytes _)) k
+    (λ (e : chosen n ≡ Some SearchFirst). let a = accepted_as kind n p c b (Some SearchFirst) e h in rw a.did (searched_so kind p c b a.ok bytes _))
+    (λ (e : chosen n ≡ Some SearchNext). let a = accepted_as kind n p c b (Some SearchNext) e h in rw a.did (searched_so kind p c b a.ok bytes _)) k

@@ -20,7 +20,7 @@ use Rattle.rules.specs.declared.kind.Kind.{Kind}
 use Rattle.rules.specs.Kinds.{entries}
 use Rattle.rules.specs.declared.list.LockList.{LockList}
 use Rattle.rules.specs.declared.routine.Routine.TheVariants.{SearchFirst}
-use Rattle.rules.specs.declared.routine.Chosen.TheVariants.{Call}
+use Rattle.std.specs.Prelude.{Some}
 use Rattle.rules.specs.Serves.{Buffers, buffers, chosen, is_unknown}
 use Rattle.rules.specs.Drive.{sound_image}
 use Rattle.rules.specs.Locks.{moved_to, pack, user_of, position_of}
@@ -182,7 +182,7 @@ module _ (kind : Kind) (p c : ℕ) (fcb s : List ℕ) (few : p < 16) (one : 1 �
 pub lists_matching : (kind : Kind) (p c : ℕ) (b : Buffers) → any_row (rows_call kind 17 p c b) ≡ false → ShowsMatching kind p c b
 unfolding ShowsMatching effect_of chosen asked asked_by does17 bad_drive ◌if◌else◌
 lists_matching kind p c b h calls enough =
-    let a = accepted_as kind 17 p c b (Call SearchFirst) refl h in
+    let a = accepted_as kind 17 p c b (Some SearchFirst) refl h in
     let ready = a.ok.ready in
     let drive : bad_drive 18 b.fcb ≡ false = drive_good kind 17 p c b (split kind 17 p c b h).0 in
     let l : SoundShape kind (list_of b) b.image = record { shape = shape_of kind p c b a.ok; sound = list-of kind p c b a.ok } in

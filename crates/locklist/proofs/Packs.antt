@@ -1,130 +1,145 @@
 -- Laws of a list that is written place by place. Assumes nothing.
-use Prim.Native.Nat.{ℕ, ◌+◌, ◌*◌, ◌≤◌, ◌<◌}
-use mathlib.Core.Path.{◌≡◌, refl, sym, ap, subst, ◌∙◌}
-use mathlib.Core.List.{List, ◌++◌, append-nil, append_assoc}
-use native.Mathlib.Omega.{arith}
-use lib.ListN.{length, take, set, replicate, length-replicate, drop_of_length-le, get_or-eq_default}
-use lib.Seq.{take_all}
-use borrow.Author.Rules.{rules}
+use Rattle.std.proofs.Common.{get_or, ℕ, ◌+◌, ◌*◌, ◌/◌, ◌%◌, ◌^◌, ◌≤◌, ◌<◌, ◌≡◌, refl, sym, ap, ◌∙◌, List, [], ◌∷◌, ◌++◌, length, take, set, replicate, append-nil, append_assoc, take_all, take_at, length-append, length-drop, length-take-le, drop, drop-drop, arith, w32}
+use Rattle.std.proofs.lemmas.List.{get_or_past}
+use Rattle.std.proofs.Math.ListN.{length-replicate}
+use Rattle.std.proofs.Math.Seq.{drop-append-add}
+use Rattle.std.specs.Int.{to_le_bytes}
 use Rattle.words.specs.Lists.{tab, flat}
-use Rattle.words.specs.Bytes.{byte, byte_from, put}
-use Rattle.words.proofs.Lists.{length-mapped, filled, filled_turn, filled_up, tab_get_d}
-use Rattle.words.proofs.Bytes.{length-put}
-use Rattle.words.proofs.Items.{take_put, flat_more}
-use Rattle.rules.specs.declared.kind.Rule.{Rule}
+use Rattle.words.specs.Bytes.{byte, byte_from, put, le}
+use Rattle.words.proofs.Lists.{length-mapped, length-flat, filled, filled_turn, filled_up, tab_get_d, set_behind}
+use Rattle.words.proofs.Items.{flat_more}
 use Rattle.rules.specs.declared.kind.Rule.TheVariants.{Mpm}
 use Rattle.rules.specs.Kinds.{told_rule}
 use Rattle.words.specs.Tests.{◌if◌else◌}
 use Rattle.rules.specs.declared.item.Item.{Item}
 use Rattle.rules.specs.declared.list.LockList.{LockList}
-use Rattle.rules.specs.Locks.{blank, empty_place, item_at, with_items, item_in, pack_item, pack, unpack, rule_in}
+use Rattle.rules.specs.Locks.{blank, empty_place, item_at, with_items, item_in, first_mark, second_mark, pack_item, pack, unpack, rule_in}
 use Rattle.rules.proofs.Packing.{packed_long}
-use Rattle.locklist.specs.Heads.{heads, tails, Packed}
 use Rattle.locklist.specs.Places.{Unused}
 use Rattle.locklist.proofs.Places.{item_in_lem, unused_in}
 
-heads_long : (l : LockList) → length (heads l) ≡ 19
-unfolding heads tab
-heads_long l = refl
+-- ---- an item's bytes
 
-tails_long : (l : LockList) → length (tails l) ≡ 17
-unfolding tails tab
-tails_long l = refl
+-- four bytes of a number, as std says them
+four_bytes : (n : ℕ) → to_le_bytes w32 n ≡ le 4 n
+unfolding le
+four_bytes n =
+    let a : n / 256 ^ 2 % 256 ≡ n / 256 / 256 % 256 = omega arith in
+    let b : n / 256 ^ 3 % 256 ≡ n / 256 / 256 / 256 % 256 = omega arith in
+    λ i. n % 256 ∷ n / 256 % 256 ∷ a i ∷ b i ∷ []
 
-pub packed_none : (l : LockList) (s t h : List ℕ) → length s ≡ 1316 → h ≡ heads l → t ≡ put 0 h s → Packed l t 0
-unfolding flat
-packed_none l s t h n e p =
-    let k : length h ≡ 19 = ap length e ∙ heads_long l in
-    let z : 0 + length h ≤ length s = omega arith in
-    let y : 19 ≡ 0 + length h = omega arith in
-    record {
-      long = ap length p ∙ length-put 0 h s z ∙ n;
-      so =
-          ap (λ (n : ℕ). take n t) y ∙ ap (take (0 + length h)) p ∙ take_put 0 h s z ∙ e ∙ sym (append-nil (heads l));
-    }
-
-pub packed_more : (l : LockList) (s t b : List ℕ) (i : ℕ) → length l.items ≡ 64 → i < 64 → Packed l s i → b ≡ pack_item (item_at l i)
-    → t ≡ put (19 + 20 * i) b s → Packed l t (i + 1)
-packed_more l s t b i m h g e p =
-    let k : length b ≡ 20 = ap length e ∙ packed_long (item_at l i) in
-    let z : 19 + 20 * i + length b ≤ length s = omega (arith, g.long) in
-    let y : 19 + 20 * (i + 1) ≡ 19 + 20 * i + length b = omega arith in
-    record {
-      long = ap length p ∙ length-put (19 + 20 * i) b s z ∙ g.long;
-      so =
-          rw (p, y)
-          (take_put (19 + 20 * i) b s z ∙ ap (λ (x : List ℕ). x ++ b) g.so
-          ∙ append_assoc (heads l) (flat pack_item (take i l.items)) b
-          ∙ ap (λ (x : List ℕ). heads l ++ x) (ap (λ (x : List ℕ). flat pack_item (take i l.items) ++ x) e
-          ∙ sym (flat_more pack_item i l.items blank (omega arith))));
-    }
+pub item_packed : (it : Item) (mark number : List ℕ) → mark ≡ first_mark it.kind ∷ second_mark it.kind ∷ [] → number ≡ to_le_bytes w32 it.number
+    → get_or mark 0 0 ∷ get_or mark 1 0 ∷ it.process ∷ get_or it.name 0 0 ∷ get_or it.name 1 0 ∷ get_or it.name 2 0 ∷ get_or it.name 3 0 ∷ get_or it.name 4 0
+    ∷ get_or it.name 5 0 ∷ get_or it.name 6 0 ∷ get_or it.name 7 0 ∷ get_or it.name 8 0 ∷ get_or it.name 9 0 ∷ get_or it.name 10 0 ∷ it.mode ∷ 0
+    ∷ get_or number 0 0 ∷ get_or number 1 0 ∷ get_or number 2 0 ∷ get_or number 3 0 ∷ [] ≡ pack_item it
+unfolding pack_item tab le
+item_packed it mark number m n = rw (m, n ∙ four_bytes it.number) refl
 
 -- sixteen bytes read one by one
 pub sixteen : (xs : List ℕ) → length xs ≡ 16 → tab (byte_from xs 0) 16 ≡ xs
 unfolding tab
 sixteen xs n = tab_get_d xs 0 16 n
 
--- all places are written, ..
-pub packed_ends : (l : LockList) (s : List ℕ) (i : ℕ) → Packed l s i → 64 ≤ i → i ≤ 64 → Packed l s 64
-packed_ends l s i g h k = let q : i ≡ 64 = omega arith in subst (λ (n : ℕ). Packed l s n) q g
+-- ---- a list that is written from its front on
 
--- .. the positions and the rule fit behind them, ..
-pub tails_fit : (l : LockList) (s v : List ℕ) → v ≡ tails l → Packed l s 64 → 1299 + length v ≤ length s
-tails_fit l s v e g = let n : length v ≡ 17 = ap length e ∙ tails_long l in omega (arith, g.long)
+-- bytes put where a front ends make it longer
+put_on : (at : ℕ) (f v s : List ℕ) → length f ≡ at → put at v (f ++ drop at s) ≡ (f ++ v) ++ drop (at + length v) s
+unfolding put
+put_on at f v s n =
+    ap (λ (x : List ℕ). (x ++ v) ++ drop (at + length v) (f ++ drop at s)) (take_at f (drop at s) at n)
+    ∙ ap (λ (x : List ℕ). (f ++ v) ++ x) (ap (λ (a : ℕ). drop (a + length v) (f ++ drop at s)) (sym n) ∙ drop-append-add f (drop at s) (length v) ∙ drop-drop (length v) at s)
 
--- .. and stand there
-pub packed_whole : (l : LockList) (s t v : List ℕ) → length l.items ≡ 64 → v ≡ tails l → Packed l s 64 → t ≡ put 1299 v s → t ≡ pack l
-unfolding pack heads tails put
-packed_whole l s t v m e g h =
-    let b : length l.items ≤ 64 = omega arith in
-    let n : length v ≡ 17 = ap length e ∙ tails_long l in
-    let c : length s ≤ 1299 + length v = omega (arith, g.long) in
-    h ∙ ap (λ (x : List ℕ). (take 1299 s ++ v) ++ x) (drop_of_length-le s c)
-    ∙ append-nil (take 1299 s ++ v)
-    ∙ ap (λ (x : List ℕ). x ++ v) g.so
-    ∙ ap (λ (xs : List Item). (heads l ++ flat pack_item xs) ++ v) (take_all 64 l.items b)
-    ∙ append_assoc (heads l) (flat pack_item l.items) v
-    ∙ ap (λ (x : List ℕ). heads l ++ (flat pack_item l.items ++ x)) e
+one_set : (t : List ℕ) (a : ℕ) → length t ≡ 1 → set t 0 a ≡ a ∷ []
+one_set [] a n = absurd (omega arith)
+one_set (x ∷ []) a n = refl
+one_set (x ∷ y ∷ t) a n = absurd (omega arith)
 
-pub ruleset packs = (rules, length-mapped, packed_none, packed_more, packed_ends, tails_fit, packed_whole)
+module _ (l : LockList) where
+  -- the head and the first i places, ..
+  head : List ℕ
+  head = (l.capacity ∷ l.openlimit ∷ l.locklimit ∷ []) ++ l.users
+
+  front : ℕ → List ℕ
+  front i = head ++ flat pack_item (take i l.items)
+
+  -- .. and the rest of s
+  pub packed_to : List ℕ → ℕ → List ℕ
+  packed_to s i = front i ++ drop (19 + 20 * i) s
+
+  pub packed_ends : (s : List ℕ) (i : ℕ) → 64 ≤ i → i ≤ 64 → packed_to s i ≡ packed_to s 64
+  packed_ends s i g h = ap (packed_to s) (let q : i ≡ 64 = omega arith in q)
+
+  module _ (users_long : length l.users ≡ 16) (s : List ℕ) where
+    pub packed_none : packed_to s 0 ≡ put 3 l.users (put 0 (l.capacity ∷ l.openlimit ∷ l.locklimit ∷ []) s)
+    unfolding packed_to front head flat
+    packed_none =
+        let hd : List ℕ = l.capacity ∷ l.openlimit ∷ l.locklimit ∷ [] in
+        let e : put 3 l.users (put 0 hd s) ≡ (hd ++ l.users) ++ drop (3 + length l.users) s = ap (put 3 l.users) (put_on 0 [] hd s refl) ∙ put_on 3 hd l.users s refl in
+        ap (λ (x : List ℕ). x ++ drop 19 s) (append-nil (hd ++ l.users)) ∙ ap (λ (n : ℕ). (hd ++ l.users) ++ drop (3 + n) s) (sym users_long) ∙ sym e
+
+    module _ (items_long : length l.items ≡ 64) where
+      front_long : (i : ℕ) → i ≤ 64 → length (front i) ≡ 19 + 20 * i
+      unfolding front head
+      front_long i m =
+          omega (arith, length-append head (flat pack_item (take i l.items)), length-flat pack_item 20 packed_long (take i l.items), length-take-le i l.items (omega arith))
+
+      pub packed_more : (i : ℕ) → i < 64 → packed_to s (i + 1) ≡ put (19 + 20 * i) (pack_item (item_at l i)) (packed_to s i)
+      unfolding packed_to front
+      packed_more i m =
+          let b = pack_item (item_at l i) in
+          let e : put (19 + 20 * i) b (packed_to s i) ≡ (front i ++ b) ++ drop (19 + 20 * i + length b) s = put_on (19 + 20 * i) (front i) b s (front_long i (omega arith)) in
+          let n : 19 + 20 * (i + 1) ≡ 19 + 20 * i + length b = omega (arith, packed_long (item_at l i)) in
+          ap (λ (x : List ℕ). (head ++ x) ++ drop (19 + 20 * (i + 1)) s) (flat_more pack_item i l.items blank (omega arith))
+          ∙ ap (λ (x : List ℕ). x ++ drop (19 + 20 * (i + 1)) s) (sym (append_assoc head (flat pack_item (take i l.items)) b))
+          ∙ ap (λ (a : ℕ). (front i ++ b) ++ drop a s) n ∙ sym e
+
+      -- the positions and the rule behind them
+      pub packed_all : length l.positions ≡ 16 → length s ≡ 1316 → set (put 1299 l.positions (packed_to s 64)) 1315 l.rule ≡ pack l
+      unfolding packed_to front head pack
+      packed_all n long =
+          let r : List ℕ = l.rule ∷ [] in
+          let places : List ℕ = flat pack_item l.items in
+          let f : List ℕ = front 64 ++ l.positions in
+          let whole : length f ≡ 1315 = omega (arith, length-append (front 64) l.positions, front_long 64 (omega arith)) in
+          let rest : length (drop 1315 s) ≡ 1 = omega (arith, length-drop 1315 s) in
+          let e : put 1299 l.positions (packed_to s 64) ≡ f ++ drop 1315 s =
+          put_on 1299 (front 64) l.positions s (front_long 64 (omega arith)) ∙ ap (λ (k : ℕ). f ++ drop (1299 + k) s) n in
+          let last : set (f ++ drop 1315 s) 1315 l.rule ≡ f ++ r =
+          ap (λ (k : ℕ). set (f ++ drop 1315 s) k l.rule) (let k : 1315 ≡ length f + 0 = omega arith in k) ∙ set_behind f (drop 1315 s) 0 l.rule
+          ∙ ap (λ (x : List ℕ). f ++ x) (one_set (drop 1315 s) l.rule rest) in
+          let c : List ℕ → List ℕ = λ (x : List ℕ). l.capacity ∷ l.openlimit ∷ l.locklimit ∷ x in
+          ap (λ (x : List ℕ). set x 1315 l.rule) e ∙ last
+          ∙ ap (λ (xs : List Item). c (((l.users ++ flat pack_item xs) ++ l.positions) ++ r)) (take_all 64 l.items (omega arith))
+          ∙ ap c (append_assoc (l.users ++ places) l.positions r ∙ append_assoc l.users places (l.positions ++ r)
+          ∙ ap (λ (x : List ℕ). x ++ (places ++ (l.positions ++ r))) (sym (sixteen l.users users_long))
+          ∙ ap (λ (x : List ℕ). tab (byte_from l.users 0) 16 ++ (places ++ (x ++ r))) (sym (sixteen l.positions n)))
+
+pub ruleset packs = (length-mapped, packed_none, packed_more, packed_ends, packed_all)
 
 -- the rule that a list's last byte chooses; a list that has none is of rule 0
 pub rule_none : (list : List ℕ) → length list ≤ 1315 → Mpm ≡ rule_in list
 unfolding rule_in told_rule ◌if◌else◌
-rule_none list h = rw (get_or-eq_default list 0 h)
-
-pub rule_told : (list : List ℕ) (r : Rule) → r ≡ told_rule (byte list 1315) → r ≡ rule_in list
-unfolding rule_in
-rule_told list r h = h
+rule_none list h = rw (get_or_past list _ 0 h)
 
 -- ---- a list that is read place by place
 
--- l is l₀ with its first i places those of the bytes
-pub record Placed (s : List ℕ) (l₀ l : LockList) (i : ℕ) : Type 0 where
-  pub long : length l₀.items ≡ 64
-  pub so : l ≡ with_items l₀ (filled (item_in s) i l₀.items)
+module _ (s : List ℕ) where
+  -- l with its first i places those of the bytes
+  pub placed_to : ℕ → LockList → LockList
+  placed_to i l = with_items l (filled (item_in s) i l.items)
 
-module _ (s : List ℕ) (l₀ : LockList) where
-  pub placed_none : length l₀.items ≡ 64 → Placed s l₀ l₀ 0
-  unfolding tab
-  placed_none h = record { long = h; so = refl }
+  pub placed_none : (l : LockList) → placed_to 0 l ≡ l
+  unfolding placed_to tab
+  placed_none l = refl
 
-  module _ (l : LockList) (i : ℕ) (p : Placed s l₀ l i) where
-    pub placed_more : (x : Item) → i < 64 → x ≡ item_at (unpack s) i → Placed s l₀ (with_items l (set l.items i x)) (i + 1)
-    placed_more x h e =
-        let k : i < length l₀.items = omega (arith, p.long) in
-        record {
-          long = p.long;
-          so =
-              ap (λ (m : LockList). with_items m (set m.items i x)) p.so
-              ∙ ap (with_items l₀) (filled_turn (item_in s) i l₀.items _ x k refl (e ∙ item_in_lem s i h));
-        }
+  pub placed_more : (i : ℕ) (l : LockList) → length l.items ≡ 64 → i < 64
+      → placed_to (i + 1) l ≡ with_items (placed_to i l) (set (placed_to i l).items i (item_at (unpack s) i))
+  unfolding placed_to
+  placed_more i l n h = ap (with_items l) (sym (filled_turn (item_in s) i l.items _ _ (omega arith) refl (item_in_lem s i h)))
 
 -- it began with the limits, the users, the positions and the rule, and empty places; from n on no place is used
-pub placed_ends : (s users positions : List ℕ) (l : LockList) (n i : ℕ) → users ≡ tab (byte_from s 3) 16
-    → positions ≡ tab (byte_from s 1299) 16
-    → Placed s
-    (record {
+pub placed_all : (s users positions : List ℕ) (n : ℕ) → users ≡ tab (byte_from s 3) 16 → positions ≡ tab (byte_from s 1299) 16 → Unused s n
+    → placed_to s n (record {
       capacity = byte s 0;
       openlimit = byte s 1;
       locklimit = byte s 2;
@@ -132,13 +147,11 @@ pub placed_ends : (s users positions : List ℕ) (l : LockList) (n i : ℕ) → 
       items = replicate 64 empty_place;
       positions = positions;
       rule = byte s 1315;
-    }) l i
-    → Unused s n → n ≤ i → i ≤ n → l ≡ unpack s
-unfolding unpack
-placed_ends s users positions l n i u v p w g h =
-    let within : i ≤ 64 = omega (arith, w.within) in
-    let e : filled (item_in s) i (replicate 64 empty_place) ≡ tab (item_in s) 64 =
-    filled_up (item_in s) i 64 empty_place within (λ k m l. unused_in s n k w (omega arith) l) in
-    p.so ∙ rw (e, u, v)
+    }) ≡ unpack s
+unfolding placed_to unpack
+placed_all s users positions n u v w =
+    let e : filled (item_in s) n (replicate 64 empty_place) ≡ tab (item_in s) 64 =
+    filled_up (item_in s) n 64 empty_place w.within (λ k m l. unused_in s n k w m l) in
+    rw (e, u, v)
 
-pub ruleset placing = (rules, length-replicate, placed_none, placed_more, placed_ends)
+pub ruleset placing = (length-replicate, length-mapped, placed_none, placed_more, placed_all)

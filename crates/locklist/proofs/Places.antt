@@ -1,14 +1,5 @@
 -- Laws of the places of a list's bytes: the item in each, and those that are not used. Assumes nothing.
-use Prim.Native.Nat.{ℕ, ◌+◌, ◌-◌, ◌*◌, ◌/◌, ◌≤◌, ◌<◌}
-use mathlib.Core.Path.{◌≡◌, refl, sym, ap, ◌∙◌}
-use mathlib.Core.Bool.{Bool, true, false, not}
-use mathlib.Core.List.{List}
-use mathlib.Core.Logic.{⊎_elim}
-use native.Mathlib.Omega.{arith}
-use lib.ListN.{length, take, drop, replicate}
-use lib.Dec.{ltb}
-use borrow.Author.Rules.{rules}
-use borrow.Author.Tests.{ltb-true, ltb-false, eq-eqb, eqb-true}
+use Rattle.std.proofs.Common.{ℕ, ◌+◌, ◌-◌, ◌*◌, ◌/◌, ◌≤◌, ◌<◌, ◌≡◌, refl, sym, ap, ◌∙◌, Bool, true, false, not, List, length, take, drop, replicate, ltb, ⊎_elim, arith, rules, ltb-true, ltb-false, eq-eqb, eqb-true}
 use Rattle.words.specs.Tests.{◌and◌, ◌if◌else◌, all}
 use Rattle.words.specs.Lists.{tab}
 use Rattle.words.specs.Bytes.{byte, byte_from, is_zero, part}
@@ -93,7 +84,5 @@ module _ (s : List ℕ) where
     pub unused_zero : zero_at s i ≡ true
     unfolding zero_at
     unused_zero = eq-eqb _ 0 (nothing 15 (omega arith))
-
-pub ruleset items-in = (rules, item_as)
 
 pub ruleset halving = (rules, unused_none, unused_half)

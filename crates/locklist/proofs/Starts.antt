@@ -1,18 +1,15 @@
 -- Laws of Start. Assumes nothing.
-use Prim.Native.Nat.{ℕ, ◌≤◌}
-use mathlib.Core.Path.{◌≡◌, refl, sym, ap, ◌∙◌}
-use mathlib.Core.Bool.{true, false}
-use mathlib.Core.List.{List, [], ◌∷◌, ◌++◌}
-use lib.ListN.{length, replicate}
-use lib.Dec.{leb}
-use borrow.Author.Tests.{leb-true, eqb-true, not-false, eq-eqb, ne_eqb}
+use Rattle.std.proofs.Common.{ℕ, ◌≤◌, ◌≡◌, refl, sym, ap, ◌∙◌, Bool, true, false, List, [], ◌∷◌, ◌++◌, length, replicate, leb, Result, Ok, Err, leb-true, eqb-true}
+use Rattle.std.proofs.lemmas.Bool.{not-false}
 use Rattle.words.specs.Tests.{◌if◌else◌}
 use Rattle.words.specs.Lists.{tab, flat}
 use Rattle.words.specs.Bytes.{byte_from, le}
 use Rattle.words.specs.Tables.{first_of}
 use Rattle.words.proofs.Tests.{and_snd, or_fst, or_snd}
 use Rattle.locklist.proofs.Packs.{sixteen}
-use Rattle.words.proofs.Sets.{answers, or_first, or_then, not_of_false, not_of_true}
+use Rattle.rules.specs.declared.code.Refusal.{Refusal}
+use Rattle.rules.specs.declared.code.Refusal.TheVariants.{BadCall}
+use Rattle.rules.specs.Refusals.{answer_of}
 use Rattle.rules.specs.declared.kind.Kind.{Kind}
 use Rattle.rules.specs.Kinds.{entries}
 use Rattle.rules.specs.Locks.{empty_place, first_mark, second_mark, pack_item, pack, is_limit, is_rule, bad_start, rows_start, fresh_list, Started, start_ends, start}
@@ -26,7 +23,7 @@ rule_fits : (u : ℕ) → is_rule u ≡ true → u ≤ 1
 unfolding is_rule
 rule_fits u h = leb-true u 1 h
 
-module _ (kind : Kind) (c o k u : ℕ) (users list : List ℕ) where
+module _ (c o k u : ℕ) (users list : List ℕ) where
   pub may_start : bad_start c o k u users list ≡ false → MayStart c o k u users list
   unfolding bad_start
   may_start h =
@@ -43,13 +40,32 @@ module _ (kind : Kind) (c o k u : ℕ) (users list : List ℕ) where
         list_long = eqb-true _ _ (not-false _ (or_snd _ _ (or_snd _ _ h₄)));
       }
 
-  pub start_refused : bad_start c o k u users list ≡ true → DidStart (start kind c o k u users list) 3583 list
-  unfolding start start_ends rows_start first_of ◌if◌else◌
-  start_refused h = rw h (record { gives = refl; leaves = refl })
+-- what a test refuses
+abbrev refused_if : Bool → Result (Unit {0}) Refusal
+refused_if t = Err BadCall if t else Ok tt
 
-  pub start_begun : (t : List ℕ) → bad_start c o k u users list ≡ false → t ≡ fresh_list kind c o k u users → DidStart (start kind c o k u users list) 0 t
+told_err : (t : Bool) (e : Refusal) → Err e ≡ refused_if t → (t ≡ true) × (e ≡ BadCall)
+unfolding ◌if◌else◌
+told_err true e h = (refl, cc)
+told_err false e h = cc
+
+told_ok : (t : Bool) (x : Unit {0}) → Ok x ≡ refused_if t → t ≡ false
+unfolding ◌if◌else◌
+told_ok true x h = cc
+told_ok false x h = refl
+
+module _ (kind : Kind) (c o k u : ℕ) (users list : List ℕ) where
+  pub start_refused : (r : Result (Unit {0}) Refusal) (e : Refusal) → r ≡ Err e → Err e ≡ refused_if (bad_start c o k u users list)
+      → DidStart (start kind c o k u users list) (answer_of r) list
   unfolding start start_ends rows_start first_of ◌if◌else◌
-  start_begun t h e = rw h (record { gives = refl; leaves = e })
+  start_refused r e q h =
+      let w = told_err (bad_start c o k u users list) e h in
+      rw (q, w.1, w.0) (record { gives = refl; leaves = refl })
+
+  pub start_begun : (t : List ℕ) (x : Unit {0}) → Ok x ≡ refused_if (bad_start c o k u users list) → t ≡ fresh_list kind c o k u users
+      → DidStart (start kind c o k u users list) 0 t
+  unfolding start start_ends rows_start first_of ◌if◌else◌
+  start_begun t x h e = rw (told_ok (bad_start c o k u users list) x h) (record { gives = refl; leaves = e })
 
 -- 64 empty places in bytes
 empty_places : flat pack_item (replicate 64 empty_place) ≡ replicate 1280 0
@@ -74,8 +90,3 @@ fresh_packed kind c o k u n users w t long e d h =
 -- two outcomes of one start are equal
 pub start_one : (o : Started) (a b : ℕ) (s t : List ℕ) → DidStart o a s → DidStart o b t → (a ≡ b) × (s ≡ t)
 start_one o a b s t d e = (d.gives ∙ sym e.gives, d.leaves ∙ sym e.leaves)
-
-pub ruleset starts = (answers, may_start, start_refused, start_begun)
-
--- refusals one after the other
-pub ruleset bads = (or_first, or_then, not_of_false, not_of_true, eq-eqb, ne_eqb, answers)

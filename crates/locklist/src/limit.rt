@@ -4,23 +4,22 @@ ghost use Rattle.words.specs.Tests.{all};
 ghost use Rattle.rules.specs.Locks.{is_limit, is_rule, is_user};
 
 // A limit is 1 to 64.
+#[tactic(auto, using(words::proofs::Sets::choices), unfolding(rules::specs::Locks::is_limit))]
 pub fn is_limit(n: u32) -> bool
     ensures { result ≡ is_limit n }
 {
-    if n < 1 {
-        return false;
-    }
-    n <= 64
+    (1..=64).contains(&n)
 }
 
 // A byte is 1 to 64.
 pub fn is_limit_byte(b: u8) -> bool
     ensures { result ≡ is_limit b }
 {
-    is_limit(b as u32)
+    is_limit(u32::from(b))
 }
 
 // A rule is 0 or 1.
+#[tactic(auto, unfolding(rules::specs::Locks::is_rule))]
 pub fn is_rule(n: u32) -> bool
     ensures { result ≡ is_rule n }
 {
@@ -31,7 +30,7 @@ pub fn is_rule(n: u32) -> bool
 pub fn is_rule_byte(b: u8) -> bool
     ensures { result ≡ is_rule b }
 {
-    is_rule(b as u32)
+    is_rule(u32::from(b))
 }
 
 // Each of the sixteen users is 0 to 15.
@@ -39,12 +38,5 @@ pub fn all_users(users: &[u8]) -> bool
     requires { length users.now ≡ 16 }
     ensures { result ≡ all (is_user users.now) 16 }
 {
-    let mut p = 0;
-    while p < 16 {
-        if 15 < users[p] {
-            return false;
-        }
-        p += 1;
-    }
-    true
+    users.iter().all(|user| *user <= 15)
 }

@@ -1,64 +1,34 @@
-ghost use Rattle.std.specs.Prelude.{◌≡◌, eqb};
-ghost use Rattle.words.specs.Tests.{◌and◌};
+ghost use Rattle.std.specs.Prelude.{◌≡◌, [], ◌∷◌};
 ghost use Rattle.rules.specs.Locks.{kind_of, first_mark, second_mark};
 
-// The mark before an open, "OF", and the one before a record lock, "LR".
-const OPEN_FIRST: u8 = 0x4F;
+use rules::item::{A_LOCK, AN_EMPTY, AN_OPEN, NO_MARK};
 
-const OPEN_SECOND: u8 = 0x46;
+// The mark before an open, and the one before a record lock.
+const OPEN: [u8; 2] = *b"OF";
 
-const LOCK_FIRST: u8 = 0x4C;
+const LOCK: [u8; 2] = *b"LR";
 
-const LOCK_SECOND: u8 = 0x52;
-
-// Two bytes are that mark.
-fn is_mark(a: u8, b: u8, first: u8, second: u8) -> bool
-    ensures { result ≡ (eqb a first and eqb b second) }
-{
-    if a != first {
-        return false;
-    }
-    b == second
-}
-
-// The kind that two bytes of mark say: 0 empty, 1 open, 2 record lock, 3 no mark.
+// The kind that two bytes of mark say.
+#[tactic(auto, using(words::proofs::Sets::choices), unfolding(rules::specs::Locks::kind_of))]
 pub fn kind_of(a: u8, b: u8) -> u8
     ensures { result ≡ kind_of a b }
 {
-    if is_mark(a, b, OPEN_FIRST, OPEN_SECOND) {
-        return 1;
+    match [a, b] {
+        OPEN => AN_OPEN,
+        LOCK => A_LOCK,
+        [0, 0] => AN_EMPTY,
+        _ => NO_MARK,
     }
-    if is_mark(a, b, LOCK_FIRST, LOCK_SECOND) {
-        return 2;
-    }
-    if is_mark(a, b, 0, 0) {
-        return 0;
-    }
-    3
 }
 
-// The first byte of a kind's mark.
-pub fn first_mark(kind: u8) -> u8
-    ensures { result ≡ first_mark kind }
+// A kind's mark.
+#[tactic(auto, using(words::proofs::Sets::keys), unfolding(rules::specs::Locks::first_mark, rules::specs::Locks::second_mark))]
+pub fn mark_of(kind: u8) -> [u8; 2]
+    ensures { result ≡ first_mark kind ∷ second_mark kind ∷ [] }
 {
-    if kind == 1 {
-        return OPEN_FIRST;
+    match kind {
+        AN_OPEN => OPEN,
+        A_LOCK => LOCK,
+        _ => [0, 0],
     }
-    if kind == 2 {
-        return LOCK_FIRST;
-    }
-    0
-}
-
-// The second byte of a kind's mark.
-pub fn second_mark(kind: u8) -> u8
-    ensures { result ≡ second_mark kind }
-{
-    if kind == 1 {
-        return OPEN_SECOND;
-    }
-    if kind == 2 {
-        return LOCK_SECOND;
-    }
-    0
 }

@@ -1,24 +1,19 @@
 -- The blocks of a sound image's entries lie in it, and what the parts of the comparison hand on. Assumes nothing.
-use Prim.Native.Nat.{ℕ, ◌+◌, ◌*◌, ◌≤◌, ◌<◌}
-use mathlib.Core.Path.{◌≡◌, refl, sym, ap, ◌∙◌}
-use mathlib.Core.Bool.{Bool, true, false}
-use mathlib.Core.List.{List}
-use mathlib.Core.Logic.{⊎_elim}
-use native.Mathlib.Omega.{arith}
-use lib.ListN.{length}
-use lib.Dec.{leb}
-use borrow.Author.Rules.{rules}
-use borrow.Author.Tests.{leb-true, leb-false, lt-leb, le-leb}
+use Rattle.std.proofs.Common.{◌≡◌, refl, sym, ap, ◌∙◌, ℕ, ◌+◌, ◌-◌, ◌*◌, ◌≤◌, ◌<◌, Bool, true, false, List, length, leb, ⊎_elim, arith, rules, leb-true, leb-false, le-leb, take, drop}
+use Rattle.std.proofs.lemmas.Bool.{lt-leb}
 use Rattle.words.specs.Tests.{◌if◌else◌, all}
-use Rattle.words.proofs.Tests.{either, equal?}
+use Rattle.words.specs.Bytes.{same_byte as alike}
+use Rattle.words.proofs.Tests.{either, equal?, all_ext}
+use Rattle.words.proofs.Bytes.{part_long, part-byte}
 use Rattle.words.proofs.Sets.{answers, or_first, or_then}
 use Rattle.rules.specs.declared.kind.Kind.{Kind}
 use Rattle.rules.specs.Kinds.{block_size, entries, numbers}
 use Rattle.rules.specs.declared.file.File.{File}
-use Rattle.rules.specs.Drive.{blocks, is_empty, map_number, entry_of, file_at, extent_at, sound_image}
+use Rattle.rules.specs.Drive.{blocks, is_empty, map_number, entry_of, sound_image}
 use Rattle.rules.proofs.Sizes.{directory_size, block_inside}
 use Rattle.rules.proofs.Sound.{sound_of, sound_length, length_whole, image_long, entry_inside, found_used}
-use Rattle.packing.specs.Same.{number_in, same_byte, same_block, same_held, same_place, same_at}
+use Rattle.drive.proofs.Walks.{known_none, image_there, walked_answer, walked_knows}
+use Rattle.packing.specs.Same.{number_in, same_byte, same_block}
 use Rattle.moving.specs.Fits.{Fits}
 
 module _ (kind : Kind) (s : List ℕ) where
@@ -67,27 +62,24 @@ module _ (kind : Kind) (s : List ℕ) where
 
 -- ---- what is handed on
 
-pub place_as : (kind : Kind) (s t : List ℕ) (e d k a b : ℕ) (r : Bool) → r ≡ same_held kind s a t b → a ≡ map_number kind s e k → b ≡ number_in kind t d k
-    → r ≡ same_place kind s e t d k
-unfolding same_place
-place_as kind s t e d k a b r h p q = h ∙ rw (p, q) refl
+pub blocks_as : (kind : Kind) (s t : List ℕ) (a b n at bt : ℕ) (r : Bool) → n ≡ block_size kind → at ≡ block_size kind * a → bt ≡ block_size kind * b
+    → block_size kind * a + block_size kind ≤ length s → block_size kind * b + block_size kind ≤ length t
+    → r ≡ all (alike (take (bt + n - bt) (drop bt t)) (take (at + n - at) (drop at s))) (length (take (bt + n - bt) (drop bt t))) → r ≡ same_block kind s a t b
+unfolding same_block same_byte alike
+blocks_as kind s t a b n at bt r o p q l m h =
+    let d : at + n - at ≡ n = omega arith in
+    let e : bt + n - bt ≡ n = omega arith in
+    let f : at + n ≤ length s = rw (p, o) l in
+    let g : bt + n ≤ length t = rw (q, o) m in
+    let long = part_long t bt n g in
+    h
+    ∙ rw (d, e, long) refl
+    ∙ all_ext (alike (take n (drop bt t)) (take n (drop at s))) (same_byte s at t bt) n
+    (λ i z. rw (part-byte t bt n i z, part-byte s at n i z) refl)
+    ∙ rw (o, p, q) refl
 
-pub entry_as : (kind : Kind) (s t : List ℕ) (e d x : ℕ) (f : File) (r : Bool) → r ≡ same_at kind s e t d → d ≡ entry_of kind t f x
-    → f ≡ file_at s e → x ≡ extent_at s e
-    → r ≡ same_at kind s e t (entry_of kind t (file_at s e) (extent_at s e))
-entry_as kind s t e d x f r h p q o = h ∙ ap (same_at kind s e t) (p ∙ rw (q, o) refl)
+pub ruleset placing = (rules, fits_first, fits_second)
 
-pub block_as : (kind : Kind) (s t : List ℕ) (a b n at bt : ℕ) (r : Bool) → n ≡ block_size kind → at ≡ block_size kind * a → bt ≡ block_size kind * b
-    → r ≡ all (same_byte s at t bt) n → r ≡ same_block kind s a t b
-unfolding same_block
-block_as kind s t a b n at bt r o p q h = h ∙ rw (o, p, q) refl
+pub ruleset entering = (rules, or_first, or_then, image_long, entry_inside, sound_fits, found_fits)
 
-pub number_none : (kind : Kind) (s : List ℕ) (m e k : ℕ) → m ≡ entries kind → m ≤ e → 0 ≡ number_in kind s e k
-number_none kind s m e k q l = sym (number_past kind s e k (omega arith))
-
-pub number_found : (kind : Kind) (s : List ℕ) (m e k r : ℕ) → m ≡ entries kind → e < m → r ≡ map_number kind s e k → r ≡ number_in kind s e k
-number_found kind s m e k r q l h = h ∙ sym (number_low kind s e k (omega arith))
-
-pub ruleset placing = (rules, fits_first, fits_second, place_as)
-
-pub ruleset entering = (rules, answers, or_first, or_then, image_long, entry_inside, sound_fits, found_fits, entry_as)
+pub ruleset opening = (rules, known_none, image_there, image_long, walked_answer, walked_knows)

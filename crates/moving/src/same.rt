@@ -1,128 +1,100 @@
 ghost use Rattle.std.specs.Prelude.{◌≡◌, true, ◌+◌, ◌*◌, ◌<◌, ◌≤◌, length};
 ghost use Rattle.words.specs.Tests.{all};
 ghost use Rattle.words.specs.Tables.{first_of};
-ghost use Rattle.words.specs.Hints.{Hints};
 ghost use Rattle.rules.specs.Kinds.{entries};
-ghost use Rattle.rules.specs.Drive.{sound_image};
-ghost use Rattle.index.specs.Slots.{slot_at, in_use};
 ghost use Rattle.packing.specs.Same.{same_high, same_marks, same_at, same_entry, same_book, rows_same};
 ghost use Rattle.moving.specs.Fits.{Fits};
+ghost use Rattle.moving.specs.Differences.{same_answer};
 
+use crate::book::Book;
+use crate::difference::Difference;
 use crate::held::same_places;
-use directory::entry::{extent_at, file_at, is_empty};
-use drive::check::sound_index;
-use index::find::entry_by;
+use directory::entry::Entry;
+use directory::find::Directory;
 use rules::kind::{Kind, entries};
 use words::test::both;
 
-// The refusals.
-
-pub const FIRST_UNSOUND: u32 = 1;
-
-pub const SECOND_UNSOUND: u32 = 2;
-
-pub const DIFFERENT: u32 = 3;
-
-// Eleven bytes with the same high bits.
-fn same_high(first: &[u8], at: usize, second: &[u8], bt: usize) -> bool
-    requires { (at + 11 ≤ length first.now) × (bt + 11 ≤ length second.now) }
-    ensures { result ≡ all (same_high first.now at second.now bt) 11 }
+// Two entries whose eleven bytes have the same high bits. All of them are looked at, which is quicker than to stop where
+// they differ.
+#[tactic(auto, using(words::proofs::Joined::joins), unfolding(packing::specs::Same::same_high))]
+fn same_high(first: &Entry, second: &Entry) -> bool
+    ensures { result ≡ all (same_high first.now.image.now (32 * first.now.place + 1) second.now.image.now (32 * second.now.place + 1)) 11 }
 {
+    let at = 32 * first.place + 1;
+    let bt = 32 * second.place + 1;
     let mut same = true;
-    let mut k = 0;
-    while k < 11 {
-        same = both(same, second[bt + k] / 128 == first[at + k] / 128);
-        k += 1;
+    for k in 0..11 {
+        same = both(
+            same,
+            second.image[bt + k] / 128 == first.image[at + k] / 128,
+        );
     }
     same
 }
 
-// The extent 0 at entry `e` stands at entry `d`, with the same attributes.
-fn same_marks(kind: Kind, first: &[u8], e: usize, second: &[u8], d: usize) -> bool
-    requires { (e < entries kind) × (32 * entries kind ≤ length first.now) × (32 * entries kind ≤ length second.now) }
-    ensures { result ≡ same_marks kind first.now e second.now d }
+// The extent 0 stands at entry `d` of the other, with the same attributes.
+#[tactic(auto, using(words::proofs::Sets::choices), unfolding(packing::specs::Same::same_marks))]
+fn same_marks(first: &Entry, second: &Directory, d: usize) -> bool
+    ensures { result ≡ same_marks second.now.kind first.now.image.now first.now.place second.now.image.now d }
 {
-    if entries(kind) <= d {
-        return false;
-    }
-    same_high(first, 32 * e + 1, second, 32 * d + 1)
+    d < entries(second.kind) && same_high(first, &second.entry(d))
 }
 
-// Entry `e` of the one, and where its file and extent stand in the other.
-fn same_at(kind: Kind, first: &[u8], e: usize, second: &[u8], d: usize) -> bool
-    requires { (e < entries kind) × (32 * entries kind ≤ length first.now) × (32 * entries kind ≤ length second.now) × Fits kind first.now e × Fits kind second.now d }
-    ensures { result ≡ same_at kind first.now e second.now d }
+// An entry of the one, and where its file and extent stand in the other.
+#[tactic(auto, using(words::proofs::Sets::choices), unfolding(packing::specs::Same::same_at))]
+fn same_at(first: &Entry, second: &Directory, d: usize) -> bool
+    requires { (first.now.place < entries second.now.kind) × Fits second.now.kind first.now.image.now first.now.place × Fits second.now.kind second.now.image.now d }
+    ensures { result ≡ same_at second.now.kind first.now.image.now first.now.place second.now.image.now d }
 {
-    if !same_places(kind, first, e, second, d) {
-        return false;
-    }
-    if extent_at(first, e) != 0 {
-        return true;
-    }
-    same_marks(kind, first, e, second, d)
+    same_places(first, second, d) && (first.extent() != 0 || same_marks(first, second, d))
 }
 
-// The same of an entry that may be empty; the hints know the other image's entries.
-fn same_entry(kind: Kind, first: &[u8], second: &[u8], hints: &[u8; 256], e: usize) -> bool
-    requires { (e < entries kind) × (sound_image kind first.now ≡ true) × (sound_image kind second.now ≡ true) × Hints (slot_at second.now) (in_use second.now) (entries kind) hints.now }
-    ensures { result ≡ same_entry kind first.now second.now e }
+// The same of an entry that may be empty.
+#[tactic(auto, using(crate::proofs::Fits::entering), unfolding(packing::specs::Same::same_entry))]
+fn same_entry(first: &Book, second: &Book, e: usize) -> bool
+    requires { (e < entries first.now.directory.kind) × (second.now.directory.kind ≡ first.now.directory.kind) }
+    ensures { result ≡ same_entry first.now.directory.kind first.now.directory.image.now second.now.directory.image.now e }
 {
-    if is_empty(first, e) {
+    let entry = first.directory.entry(e);
+    if entry.is_empty() {
         return true;
     }
-    let f = file_at(first, e);
-    let x = extent_at(first, e);
-    let d = entry_by(kind, second, hints, f, x);
-    same_at(kind, first, e, second, d)
+    let d = second.index().entry_of(entry.file(), entry.extent());
+    same_at(&entry, &second.directory, d)
 }
 
 // Each used entry of the one against the other.
-fn same_entries(kind: Kind, first: &[u8], second: &[u8], hints: &[u8; 256]) -> bool
-    requires { (sound_image kind first.now ≡ true) × (sound_image kind second.now ≡ true) × Hints (slot_at second.now) (in_use second.now) (entries kind) hints.now }
-    ensures { result ≡ all (same_entry kind first.now second.now) (entries kind) }
+#[tactic(auto, using(words::proofs::Sets::alls))]
+fn same_entries(first: &Book, second: &Book) -> bool
+    requires { second.now.directory.kind ≡ first.now.directory.kind }
+    ensures { result ≡ all (same_entry first.now.directory.kind first.now.directory.image.now second.now.directory.image.now) (entries first.now.directory.kind) }
 {
-    let n = entries(kind);
-    let mut e = 0;
-    while e < n {
-        if !same_entry(kind, first, second, hints, e) {
+    for e in 0..entries(first.directory.kind) {
+        if !same_entry(first, second, e) {
             return false;
         }
-        e += 1;
     }
     true
 }
 
-// Two sound images hold the same book: each against the other, whose entries the hints know.
-fn same_book(
-    kind: Kind,
-    first: &[u8],
-    firsts: &[u8; 256],
-    second: &[u8],
-    seconds: &[u8; 256],
-) -> bool
-    requires { (sound_image kind first.now ≡ true) × (sound_image kind second.now ≡ true) × Hints (slot_at first.now) (in_use first.now) (entries kind) firsts.now × Hints (slot_at second.now) (in_use second.now) (entries kind) seconds.now }
-    ensures { result ≡ same_book kind first.now second.now }
+// Two sound images hold the same book: each against the other.
+#[tactic(auto, using(words::proofs::Sets::choices), unfolding(packing::specs::Same::same_book))]
+fn same_book(first: &Book, second: &Book) -> bool
+    requires { second.now.directory.kind ≡ first.now.directory.kind }
+    ensures { result ≡ same_book first.now.directory.kind first.now.directory.image.now second.now.directory.image.now }
 {
-    if !same_entries(kind, first, second, seconds) {
-        return false;
-    }
-    same_entries(kind, second, first, firsts)
+    same_entries(first, second) && same_entries(second, first)
 }
 
-// 0 they hold the same book, 1 the first image is unsound, 2 the second, 3 they hold different books.
-pub fn same(kind: Kind, first: &[u8], second: &[u8]) -> u32
-    ensures { result ≡ first_of (rows_same kind first.now second.now) }
+// Whether two images hold the same book.
+#[tactic(auto, using(words::proofs::Sets::codes), unfolding(packing::specs::Same::rows_same))]
+pub fn same(kind: Kind, first: &[u8], second: &[u8]) -> Result<(), Difference>
+    ensures { same_answer result ≡ first_of (rows_same kind first.now second.now) }
 {
-    let mut firsts = [255u8; 256];
-    if !sound_index(kind, first, &mut firsts) {
-        return FIRST_UNSOUND;
+    let first = Book::of(kind, first).ok_or(Difference::FirstUnsound)?;
+    let second = Book::of(kind, second).ok_or(Difference::SecondUnsound)?;
+    if !same_book(&first, &second) {
+        return Err(Difference::Different);
     }
-    let mut seconds = [255u8; 256];
-    if !sound_index(kind, second, &mut seconds) {
-        return SECOND_UNSOUND;
-    }
-    if !same_book(kind, first, &firsts, second, &seconds) {
-        return DIFFERENT;
-    }
-    0
+    Ok(())
 }

@@ -1,13 +1,21 @@
 // Runs the records of standard input against DISK.IMG, prints a line for each call, and writes DISK.OUT.
 #![tactic(auto)]
 
-ghost use Rattle.std.specs.Prelude.{◌≤◌, length};
 ghost use Rattle.io.specs.Counts.{IsPrefixLen};
 
+use rules::size::LIST_SIZE;
+use script::line::Line;
+use script::record::{CALL_SIZE, START_SIZE};
 use script::{caller, line, record};
 use std::fs::File;
 use std::io::Read;
 use std::{fs, io};
+
+// The longest image that is taken.
+const LONGEST_IMAGE: usize = 65536;
+
+// The vector beside an image of the first kind of drive.
+const VECTOR_SIZE: usize = 32;
 
 // Says in one line on standard error what failed, and why. Where that fails too, nothing is left to say it to.
 fn tell(rt: &HostRuntime, what: &str, error: io::Error) {
@@ -23,51 +31,9 @@ fn try_to_tell(rt: &HostRuntime, what: &str, error: io::Error) -> io::Result<()>
     }
 }
 
-// Writes a line to standard output. Where that fails it says so on standard error and answers false.
-fn print(rt: &HostRuntime, line: &[u8]) -> bool {
-    match rt.write_all(line) {
-        Ok(()) => true,
-        Err(error) => {
-            tell(rt, "standard output", error);
-            false
-        }
-    }
-}
-
-fn print_header(rt: &HostRuntime) -> bool {
-    let mut text = [0u8; 128];
-    let n = line::header_line(&mut text);
-    print(rt, &text[..n])
-}
-
-fn print_call(rt: &HostRuntime, number: u64, input: &[u8], answer: u32) -> bool {
-    let mut text = [0u8; 128];
-    let n = line::call_line(&mut text, number, input, answer);
-    print(rt, &text[..n])
-}
-
-fn print_end(rt: &HostRuntime, calls: u64) {
-    let mut text = [0u8; 128];
-    let n = line::end_line(&mut text, calls);
-    print(rt, &text[..n]);
-}
-
-fn print_bad_start(rt: &HostRuntime) {
-    let mut text = [0u8; 128];
-    let n = line::bad_start_line(&mut text);
-    print(rt, &text[..n]);
-}
-
-fn print_bad_call(rt: &HostRuntime, calls: u64) {
-    let mut text = [0u8; 128];
-    let n = line::bad_call_line(&mut text, calls);
-    print(rt, &text[..n]);
-}
-
-fn print_long_image(rt: &HostRuntime) {
-    let mut text = [0u8; 128];
-    let n = line::long_image_line(&mut text);
-    print(rt, &text[..n]);
+// Writes a line to standard output.
+fn print(rt: &HostRuntime, line: Line) -> io::Result<()> {
+    rt.write_all(line.as_bytes())
 }
 
 // Reads until the buffer is full, the input ends or a read fails, and answers how many bytes it put at the start.
@@ -99,10 +65,8 @@ fn read_image(rt: &HostRuntime, image: &mut [u8]) -> usize
         return 0;
     };
     let n = read_full(&mut file, image);
-    if n < image.len() {
-        if !is_at_end(&mut file) {
-            return 0;
-        }
+    if n < image.len() && !is_at_end(&mut file) {
+        return 0;
     }
     n
 }
@@ -114,103 +78,109 @@ fn write_image(rt: &HostRuntime, image: &[u8]) {
     }
 }
 
-// Reads the start record, starts the list and builds the vector of the image. False where the record is cut or badly marked, or Start
-// refuses. An image that is unsound has no vector, and gets no further than that in any call.
-fn start(rt: &HostRuntime, list: &mut [u8], image: &[u8], vector: &mut [u8]) -> bool {
-    let mut input = [0u8; record::START_SIZE];
-    let n = read_full(&mut rt.stdin(), &mut input);
-    if !record::is_start(&input[..n]) {
-        return false;
-    }
-    if caller::start_by(&input, list) != 0 {
-        return false;
-    }
-    caller::vector_by(&input, image, vector);
-    true
+// What stands next in the input.
+enum Next {
+    Call([u8; CALL_SIZE]),
+    // A record that is cut or badly marked.
+    Bad,
+    End,
 }
 
-// Makes the call of a record and prints its line.
-fn serve(
-    rt: &HostRuntime,
-    calls: u64,
-    input: &[u8; record::CALL_SIZE],
-    list: &mut [u8],
-    image: &mut [u8],
-    vector: &mut [u8],
-) -> bool {
-    let answer = caller::call_by(input, list, image, vector);
-    print_call(rt, calls, input, answer)
-}
-
-// Reads on where n bytes of a record are there, and answers how many are there then.
-fn read_rest(rt: &HostRuntime, input: &mut [u8], n: usize) -> usize
-    requires { n ≤ length input.old }
-    ensures { IsPrefixLen result input.new }
-{
-    n + read_full(&mut rt.stdin(), &mut input[n..])
-}
-
-// The record after so many calls. True where it was a call and its line is printed; else all is done.
-// A read that fails is no end of the input: the record counts as cut.
-fn step(
-    rt: &HostRuntime,
-    calls: u64,
-    list: &mut [u8],
-    image: &mut [u8],
-    vector: &mut [u8],
-) -> bool {
-    let mut input = [0u8; record::CALL_SIZE];
+// Reads the next record. A read that fails is no end of the input: it is told, and the record counts as cut.
+fn read_next(rt: &HostRuntime) -> Next {
+    let mut input = [0u8; CALL_SIZE];
     match rt.stdin().read(&mut input) {
-        Ok(0) => {
-            write_image(rt, image);
-            print_end(rt, calls);
-            false
-        }
+        Ok(0) => Next::End,
         Ok(n) => {
-            let n = read_rest(rt, &mut input, n);
-            if !record::is_call(&input[..n]) {
-                print_bad_call(rt, calls);
-                return false;
+            let n = n + read_full(&mut rt.stdin(), &mut input[n..]);
+            if record::is_call(&input[..n]) {
+                Next::Call(input)
+            } else {
+                Next::Bad
             }
-            serve(rt, calls, &input, list, image, vector)
         }
         Err(error) => {
             tell(rt, "standard input", error);
-            print_bad_call(rt, calls);
-            false
+            Next::Bad
         }
     }
 }
 
-// Nothing says that the input ends, so the loop counts its turns, to a number that no run uses up.
-fn run_calls(rt: &HostRuntime, list: &mut [u8], image: &mut [u8], vector: &mut [u8]) {
-    for calls in 0..u64::MAX {
-        if !step(rt, calls, list, image, vector) {
-            return;
+// What the calls work on: the list, the image, and the vector beside it.
+#[derive(Drop)]
+struct Drive<'a> {
+    list: [u8; LIST_SIZE],
+    image: &'a mut [u8],
+    vector: [u8; VECTOR_SIZE],
+}
+
+impl<'a> Drive<'a> {
+    // Reads the start record, starts the list and builds the vector of the image. None where the record is cut or
+    // badly marked, or Start refuses. An image that is unsound has no vector, and gets no further than that in any
+    // call.
+    fn start(rt: &HostRuntime, image: &'a mut [u8]) -> Option<Self> {
+        let mut input = [0u8; START_SIZE];
+        let n = read_full(&mut rt.stdin(), &mut input);
+        if !record::is_start(&input[..n]) {
+            return None;
         }
+        let mut list = [0u8; LIST_SIZE];
+        if caller::start_by(&input, &mut list) != 0 {
+            return None;
+        }
+        let mut vector = [0u8; VECTOR_SIZE];
+        caller::vector_by(&input, image, &mut vector);
+        Some(Drive {
+            list,
+            image,
+            vector,
+        })
+    }
+
+    // Makes the calls of the input and prints a line for each. Nothing says that the input ends, so the loop counts its
+    // turns, to a number that no run uses up.
+    fn run(&mut self, rt: &HostRuntime) -> io::Result<()> {
+        for calls in 0..u64::MAX {
+            match read_next(rt) {
+                Next::Call(input) => {
+                    let answer = caller::call_by(
+                        &input,
+                        &mut self.list,
+                        self.image,
+                        &mut self.vector,
+                    );
+                    print(rt, line::call_line(calls, &input, answer))?;
+                }
+                Next::Bad => return print(rt, line::bad_call_line(calls)),
+                Next::End => {
+                    write_image(rt, self.image);
+                    return print(rt, line::end_line(calls));
+                }
+            }
+        }
+        Ok(())
     }
 }
 
-fn run(rt: &HostRuntime, image: &mut [u8]) {
-    if !print_header(rt) {
-        return;
+// Prints the lines of a run; an error is standard output's, after which nothing more is done.
+fn run(rt: &HostRuntime, image: &mut [u8]) -> io::Result<()> {
+    print(rt, line::header_line())?;
+    match Drive::start(rt, image) {
+        Some(mut drive) => drive.run(rt),
+        None => print(rt, line::bad_start_line()),
     }
-    let mut list = [0u8; 1316];
-    let mut vector = [0u8; 32];
-    if !start(rt, &mut list, &*image, &mut vector) {
-        print_bad_start(rt);
-        return;
-    }
-    run_calls(rt, &mut list, image, &mut vector);
 }
 
 // One byte more than the longest image is asked for, to see a longer one.
 fn main(rt: HostRuntime) {
-    let mut image = [0u8; 65537];
+    let mut image = [0u8; LONGEST_IMAGE + 1];
     let n = read_image(&rt, &mut image);
-    if n > 65536 {
-        print_long_image(&rt);
-        return;
+    let printed = if n > LONGEST_IMAGE {
+        print(&rt, line::long_image_line())
+    } else {
+        run(&rt, &mut image[..n])
+    };
+    if let Err(error) = printed {
+        tell(&rt, "standard output", error);
     }
-    run(&rt, &mut image[..n]);
 }

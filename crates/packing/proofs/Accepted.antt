@@ -15,8 +15,7 @@ use Rattle.words.specs.Tables.{first_of}
 use Rattle.words.proofs.Tests.{either}
 use Rattle.words.proofs.Lists.{tab_ext}
 use Rattle.rules.specs.declared.kind.Kind.{Kind}
-use Rattle.rules.specs.declared.kind.Told.{Told}
-use Rattle.rules.specs.declared.kind.Told.TheVariants.{Known, Other}
+use Rattle.std.specs.Prelude.{Option, Some, None}
 use Rattle.rules.specs.Kinds.{entries}
 use Rattle.rules.specs.declared.file.File.{File}
 use Rattle.rules.specs.Drive.{sound_image, no_entry, entry_of, name_at}
@@ -78,30 +77,30 @@ pub record Accepted (kind : Kind) (s t : List ℕ) : Type 0 where
 
 module _ (kind : Kind) (s t : List ℕ) where
   -- Then the answer is 0.
-  pub accepted_so : Accepted kind s t → same_told (Known kind) s t ≡ 0
+  pub accepted_so : Accepted kind s t → same_told (Some kind) s t ≡ 0
   unfolding same_told rows_same first_of ◌if◌else◌
   accepted_so w = rw (w.first_sound, w.second_sound, same_so kind s t w.first_sound w.second_sound w.same) refl
 
   -- 1: the first image is unsound, ..
-  pub first_unsound : sound_image kind s ≡ false → same_told (Known kind) s t ≡ 1
+  pub first_unsound : sound_image kind s ≡ false → same_told (Some kind) s t ≡ 1
   unfolding same_told rows_same first_of ◌if◌else◌
   first_unsound a = rw a refl
 
   -- .. 2: the second alone is, ..
-  pub second_unsound : sound_image kind s ≡ true → sound_image kind t ≡ false → same_told (Known kind) s t ≡ 2
+  pub second_unsound : sound_image kind s ≡ true → sound_image kind t ≡ false → same_told (Some kind) s t ≡ 2
   unfolding same_told rows_same first_of ◌if◌else◌
   second_unsound a b = rw (a, b) refl
 
   -- .. 3: both are sound, and hold different books.
-  pub different : sound_image kind s ≡ true → sound_image kind t ≡ true → (SameBook kind s t → ⊥) → same_told (Known kind) s t ≡ 3
+  pub different : sound_image kind s ≡ true → sound_image kind t ≡ true → (SameBook kind s t → ⊥) → same_told (Some kind) s t ≡ 3
   unfolding same_told rows_same first_of ◌if◌else◌
   different a b n =
       ⊎_elim (λ (c : same_book kind s t ≡ true). absurd (n (same_of kind s t a b c)))
       (λ (c : same_book kind s t ≡ false). rw (a, b, c) refl) (either (same_book kind s t))
 
 -- The answer is 0 only for a known kind, of images that are both sound and hold the same book.
-pub accepted_of : (told : Told) (s t : List ℕ) → same_told told s t ≡ 0 → (kind : Kind) × (told ≡ Known kind) × Accepted kind s t
-accepted_of (Known kind) s t z =
+pub accepted_of : (told : Option Kind) (s t : List ℕ) → same_told told s t ≡ 0 → (kind : Kind) × (told ≡ Some kind) × Accepted kind s t
+accepted_of (Some kind) s t z =
     ⊎_elim
     (λ (a : sound_image kind s ≡ true). ⊎_elim
     (λ (b : sound_image kind t ≡ true). ⊎_elim
@@ -112,16 +111,16 @@ accepted_of (Known kind) s t z =
     (λ (a : sound_image kind s ≡ false). let y : ◌≡◌ {A = ℕ} 1 0 = sym (first_unsound kind s t a) ∙ z in absurd (omega arith))
     (either (sound_image kind s))
   where
-    unlike : sound_image kind s ≡ true → sound_image kind t ≡ true → same_book kind s t ≡ false → same_told (Known kind) s t ≡ 3
+    unlike : sound_image kind s ≡ true → sound_image kind t ≡ true → same_book kind s t ≡ false → same_told (Some kind) s t ≡ 3
     unlike a b c = unfold same_told rows_same first_of ◌if◌else◌ in rw (a, b, c) refl
-accepted_of Other s t z = unfold same_told in absurd (omega arith)
+accepted_of None s t z = unfold same_told in absurd (omega arith)
 
 -- A book and its packed form are always accepted, ..
-pub packed_accepted : (kind : Kind) (s : List ℕ) → sound_image kind s ≡ true → same_told (Known kind) s (packed kind s) ≡ 0
+pub packed_accepted : (kind : Kind) (s : List ℕ) → sound_image kind s ≡ true → same_told (Some kind) s (packed kind s) ≡ 0
 packed_accepted kind s h = accepted_so kind s (packed kind s) (record { first_sound = h; second_sound = packed_sound kind s h; same = same_packed kind s h })
 
 -- .. in either order.
-pub accepted_packed : (kind : Kind) (s : List ℕ) → sound_image kind s ≡ true → same_told (Known kind) (packed kind s) s ≡ 0
+pub accepted_packed : (kind : Kind) (s : List ℕ) → sound_image kind s ≡ true → same_told (Some kind) (packed kind s) s ≡ 0
 accepted_packed kind s h =
     accepted_so kind (packed kind s) s
     (record { first_sound = packed_sound kind s h; second_sound = h; same = same_sym kind s (packed kind s) (same_packed kind s h) })

@@ -12,8 +12,7 @@ use Rattle.words.specs.Tables.{◌∕◌, first_of, any_row, none_zero}
 use Rattle.words.proofs.Tests.{equal?, or_fst, or_snd}
 use Rattle.words.proofs.Tables.{none_applies, zero_none, nonzeros}
 use Rattle.rules.specs.declared.kind.Kind.{Kind}
-use Rattle.rules.specs.declared.kind.Told.{Told}
-use Rattle.rules.specs.declared.kind.Told.TheVariants.{Known, Other}
+use Rattle.std.specs.Prelude.{Option, Some, None}
 use Rattle.rules.specs.Serves.{list_size}
 use Rattle.rules.specs.Drive.{sound_image}
 use Rattle.rules.specs.Locks.{unpack, sound_list}
@@ -42,53 +41,53 @@ module _ (kind : Kind) (s list out : List ℕ) where
 
 -- Where no row applies the answer is 0 and the second buffer holds the book packed, ..
 pub pack_accepts : (kind : Kind) (s list out : List ℕ) → any_row (rows_pack kind s list out) ≡ false
-    → pack_told (Known kind) s list out ≡ packs (0 ∕ 0) (packed kind s)
+    → pack_told (Some kind) s list out ≡ packs (0 ∕ 0) (packed kind s)
 unfolding pack_told
 pack_accepts kind s list out h = pack_done kind s list out (none_applies (rows_pack kind s list out) h)
 
 -- .. and where the answer is 0 the kind is known and no row applies.
-pub pack_zero : (told : Told) (s list out : List ℕ) → (pack_told told s list out).answer ≡ 0
-    → (kind : Kind) × (told ≡ Known kind) × (any_row (rows_pack kind s list out) ≡ false)
+pub pack_zero : (told : Option Kind) (s list out : List ℕ) → (pack_told told s list out).answer ≡ 0
+    → (kind : Kind) × (told ≡ Some kind) × (any_row (rows_pack kind s list out) ≡ false)
 unfolding pack_told
-pack_zero (Known kind) s list out z =
+pack_zero (Some kind) s list out z =
     (kind, refl, zero_none (rows_pack kind s list out) (nonzero_pack kind s list out) (sym (answer_is kind s list out) ∙ z))
-pack_zero Other s list out z = absurd (omega arith)
+pack_zero None s list out z = absurd (omega arith)
 
 -- A nonzero answer leaves the second buffer.
-pub pack_leaves : (told : Told) (s list out : List ℕ) → ((pack_told told s list out).answer ≡ 0 → ⊥) → (pack_told told s list out).out ≡ out
+pub pack_leaves : (told : Option Kind) (s list out : List ℕ) → ((pack_told told s list out).answer ≡ 0 → ⊥) → (pack_told told s list out).out ≡ out
 unfolding pack_told
-pack_leaves (Known kind) s list out n =
+pack_leaves (Some kind) s list out n =
     ap (λ (x : Packs). x.out) (pack_refused kind s list out (λ (z : first_of (rows_pack kind s list out) ≡ 0). n (answer_is kind s list out ∙ z)))
-pack_leaves Other s list out n = refl
+pack_leaves None s list out n = refl
 
 -- ---- the first row that applies
 
 module _ (kind : Kind) (s list out : List ℕ) where
   -- 255/13 for a list of wrong length, ..
-  pub refused_list_length : (length list ≡ list_size → ⊥) → pack_told (Known kind) s list out ≡ packs (255 ∕ 13) out
+  pub refused_list_length : (length list ≡ list_size → ⊥) → pack_told (Some kind) s list out ≡ packs (255 ∕ 13) out
   unfolding pack_told pack rows_pack first_of ◌or◌ ◌if◌else◌
   refused_list_length n = rw (ne_eqb (length list) list_size n) refl
 
   module _ (l : length list ≡ list_size) where
     -- .. and for a second buffer that is not as long as the image;
-    pub refused_room : (length out ≡ length s → ⊥) → pack_told (Known kind) s list out ≡ packs (255 ∕ 13) out
+    pub refused_room : (length out ≡ length s → ⊥) → pack_told (Some kind) s list out ≡ packs (255 ∕ 13) out
     unfolding pack_told pack rows_pack first_of ◌or◌ ◌if◌else◌
     refused_room n = rw (eq-eqb (length list) list_size l, ne_eqb (length out) (length s) n) refl
 
     module _ (m : length out ≡ length s) where
       -- then 255/1 for an unsound image, ..
-      pub refused_image : sound_image kind s ≡ false → pack_told (Known kind) s list out ≡ packs (255 ∕ 1) out
+      pub refused_image : sound_image kind s ≡ false → pack_told (Some kind) s list out ≡ packs (255 ∕ 1) out
       unfolding pack_told pack rows_pack first_of ◌or◌ ◌if◌else◌
       refused_image g = rw (eq-eqb (length list) list_size l, eq-eqb (length out) (length s) m, g) refl
 
       -- .. 255/12 for an unsound list, whether it holds an open or not, ..
-      pub refused_list : sound_image kind s ≡ true → sound_list kind list s ≡ false → pack_told (Known kind) s list out ≡ packs (255 ∕ 12) out
+      pub refused_list : sound_image kind s ≡ true → sound_list kind list s ≡ false → pack_told (Some kind) s list out ≡ packs (255 ∕ 12) out
       unfolding pack_told pack rows_pack first_of ◌or◌ ◌if◌else◌
       refused_list g h = rw (eq-eqb (length list) list_size l, eq-eqb (length out) (length s) m, g, h) refl
 
       -- .. and 255/5 for a sound one that holds one.
       pub refused_open : sound_image kind s ≡ true → sound_list kind list s ≡ true → holds_open (unpack list) ≡ true
-          → pack_told (Known kind) s list out ≡ packs (255 ∕ 5) out
+          → pack_told (Some kind) s list out ≡ packs (255 ∕ 5) out
       unfolding pack_told pack rows_pack first_of ◌or◌ ◌if◌else◌
       refused_open g h q = rw (eq-eqb (length list) list_size l, eq-eqb (length out) (length s) m, g, h, q) refl
 

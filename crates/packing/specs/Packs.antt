@@ -1,10 +1,8 @@
 -- T-12: its refusals, and what is left. Assumes nothing.
-use Rattle.std.specs.Prelude.{ℕ, Bool, not, List, [], ◌∷◌, length, eqb}
+use Rattle.std.specs.Prelude.{ℕ, Bool, not, List, [], ◌∷◌, length, eqb, Option, Some, None}
 use Rattle.words.specs.Tests.{◌or◌, ◌if◌else◌, any}
 use Rattle.words.specs.Tables.{Row, ◌∕◌, ◌when◌, first_of}
 use Rattle.rules.specs.declared.kind.Kind.{Kind}
-use Rattle.rules.specs.declared.kind.Told.{Told}
-use Rattle.rules.specs.declared.kind.Told.TheVariants.{Known, Other}
 use Rattle.rules.specs.declared.list.LockList.{LockList}
 use Rattle.rules.specs.Serves.{list_size}
 use Rattle.rules.specs.Drive.{sound_image}
@@ -41,6 +39,6 @@ pack kind s list out =
     packs (first_of (rows_pack kind s list out)) out
 
 -- told the kind by a number: 255/13 for an unknown one
-unfoldable pub pack_told : Told → List ℕ → List ℕ → List ℕ → Packs
-pack_told (Known kind) s list out = pack kind s list out
-pack_told Other s list out = packs (255 ∕ 13) out
+unfoldable pub pack_told : Option Kind → List ℕ → List ℕ → List ℕ → Packs
+pack_told (Some kind) s list out = pack kind s list out
+pack_told None s list out = packs (255 ∕ 13) out

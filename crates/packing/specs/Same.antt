@@ -1,12 +1,10 @@
 -- "Accepting a book moved by others" (T-14): two images that hold the same book. Assumes nothing.
-use Rattle.std.specs.Prelude.{ℕ, ◌+◌, ◌*◌, ◌/◌, ◌≡◌, Bool, not, List, [], ◌∷◌, length, eqb}
+use Rattle.std.specs.Prelude.{ℕ, ◌+◌, ◌*◌, ◌/◌, ◌≡◌, Bool, not, List, [], ◌∷◌, length, eqb, Option, Some, None}
 use Rattle.words.specs.Tests.{◌and◌, ◌or◌, ◌if◌else◌, all}
 use Rattle.words.specs.Lists.{tab}
 use Rattle.words.specs.Bytes.{byte}
 use Rattle.words.specs.Tables.{Row, ◌when◌, first_of}
 use Rattle.rules.specs.declared.kind.Kind.{Kind}
-use Rattle.rules.specs.declared.kind.Told.{Told}
-use Rattle.rules.specs.declared.kind.Told.TheVariants.{Known, Other}
 use Rattle.rules.specs.declared.file.File.{File}
 use Rattle.rules.specs.Kinds.{block_size, entries, numbers}
 use Rattle.rules.specs.Drive.{no_entry, is_empty, name_at, extent_at, map_number, file_at, entry_of, look_up, missing, sound_image}
@@ -74,6 +72,6 @@ rows_same kind s t =
     ∷ []
 
 -- told the kind by a number: 1 for an unknown one
-unfoldable pub same_told : Told → List ℕ → List ℕ → ℕ
-same_told (Known kind) s t = first_of (rows_same kind s t)
-same_told Other s t = 1
+unfoldable pub same_told : Option Kind → List ℕ → List ℕ → ℕ
+same_told (Some kind) s t = first_of (rows_same kind s t)
+same_told None s t = 1

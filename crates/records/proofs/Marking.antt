@@ -1,31 +1,20 @@
 -- The vector beside the write of one record, and after 34, 40 and 41. Assumes nothing.
-use Prim.Native.Nat.{ℕ, ◌+◌, ◌*◌, ◌/◌, ◌≤◌, ◌<◌}
-use mathlib.Core.Path.{◌≡◌, refl, sym, ap, subst, ◌∙◌}
-use mathlib.Core.Bool.{Bool, false}
-use mathlib.Core.List.{List}
-use mathlib.Core.Logic.{⊎_elim}
-use native.Mathlib.Omega.{arith}
-use lib.ListN.{length}
-use lib.Dec.{leb, eqb}
-use borrow.Author.Tests.{eq-eqb, ne_eqb}
-use Rattle.words.specs.Tests.{◌and◌, ◌if◌else◌}
+use Rattle.std.proofs.Common.{◌≡◌, ℕ, ◌+◌, ◌*◌, ◌/◌, ◌<◌, ◌≤◌, Bool, true, false, leb, eqb, List, [], length, refl, sym, ◌∙◌, arith, ne_eqb}
+use Rattle.words.specs.Tests.{◌if◌else◌}
 use Rattle.words.specs.Tables.{first_of}
-use Rattle.words.proofs.Tests.{equal?}
-use Rattle.words.proofs.Tables.{both_zero, row_off, row_rest}
+use Rattle.words.proofs.Tables.{row_off, row_rest}
 use Rattle.words.proofs.Sets.{and_left}
 use Rattle.rules.specs.declared.kind.Kind.{Kind}
 use Rattle.rules.specs.declared.kind.Kind.TheVariants.{Small, Large}
 use Rattle.rules.specs.declared.file.File.{File}
-use Rattle.rules.specs.declared.list.LockList.{LockList}
 use Rattle.rules.specs.declared.spot.Spot.{Spot}
 use Rattle.rules.specs.Kinds.{block_size, most, entries, top}
-use Rattle.rules.specs.Serves.{Buffers}
-use Rattle.rules.specs.Drive.{blocks, entry_of, block_in, free_entry, free_block}
-use Rattle.rules.specs.Locks.{unpack, open_of}
+use Rattle.rules.specs.Serves.{buffers}
+use Rattle.rules.specs.Drive.{blocks, entry_of, block_in, sound_image}
+use Rattle.rules.specs.Locks.{unpack, open_of, sound_list}
 use Rattle.rules.specs.Asks.{caller_file}
-use Rattle.rules.specs.Codes.{rows_may, rows_room, rows_there}
+use Rattle.rules.specs.Codes.{rows_room, rows_there}
 use Rattle.rules.specs.Effects.{spot_at, written}
-use Rattle.rules.specs.Call.{Ready}
 use Rattle.rules.specs.Vector.{vector_of}
 use Rattle.rules.proofs.Sizes.{vector_bits}
 use Rattle.rules.proofs.Sound.{sound_of}
@@ -34,8 +23,9 @@ use Rattle.rules.proofs.Vector.{vector-long}
 use Rattle.soundness.specs.Taking.{taken_by}
 use Rattle.soundness.proofs.Taken.{caller_long, own_there}
 use Rattle.soundness.proofs.Vectors.{taken_off, vector_written}
-use Rattle.records.specs.By.{OneDid, marked_by}
-use Rattle.records.proofs.Writing.{may_real, write_may, may_passed}
+use Rattle.records.specs.By.{marked_by}
+use Rattle.rules.proofs.Refused.{code_above}
+use Rattle.records.proofs.Writing.{may_first, may_then, write_may, room_spot, record_within, write_refused, write_done}
 
 -- ---- the write of one record
 
@@ -45,86 +35,60 @@ unfolding block_size blocks
 block_below (Small u) block s h = omega arith
 block_below (Large u) block s h = omega arith
 
--- a block of the image has a bit
-pub block_bit : (kind : Kind) (block : ℕ) (s v : List ℕ) → blocks kind s ≤ most kind → v ≡ vector_of kind s
-    → block_size kind * block + block_size kind ≤ length s → block < 8 * length v
-block_bit kind block s v few h inside =
-    let a : length v ≡ _ = ap length h ∙ vector-long kind s in
+-- where there is room, the block has a bit
+pub spot_bit : (kind : Kind) (s : List ℕ) (f : File) (r : ℕ) → sound_image kind s ≡ true → blocks kind s ≤ most kind
+    → first_of (rows_room kind s (entry_of kind s f (r / 128)) r) ≡ 0
+    → (spot_at kind s (entry_of kind s f (r / 128)) r).block < 8 * length (vector_of kind s)
+spot_bit kind s f r h few rows =
+    let a = vector-long kind s in
     let b = vector_bits kind in
-    let c = block_below kind block s inside in omega arith
+    let c = block_below kind (spot_at kind s (entry_of kind s f (r / 128)) r).block s (room_spot kind s f r h rows).2 in omega arith
 
 -- a refusal leaves the vector, ..
-pub marked_not : (code : ℕ) (w : Spot) (v : List ℕ) → (code ≡ 0 → ⊥) → v ≡ marked_by code w v
+pub marked_not : (code : ℕ) (w : Spot) (v : List ℕ) → 0 < code → marked_by code w v ≡ v
 unfolding marked_by ◌if◌else◌
-marked_not code w v n = rw (ne_eqb code 0 n) refl
+marked_not code w v h = rw (ne_eqb code 0 (λ z. omega arith))
 
 -- .. a write marks it
-pub marked_so : (code : ℕ) (w x : Spot) (v t : List ℕ) → code ≡ 0 → w ≡ x → t ≡ taken_by w v → t ≡ marked_by code x v
+pub marked_so : (w : Spot) (v : List ℕ) → marked_by 0 w v ≡ taken_by w v
 unfolding marked_by ◌if◌else◌
-marked_so code w x v t z e h = h ∙ ap (λ (y : Spot). taken_by y v) e ∙ rw (eq-eqb code 0 z) refl
+marked_so w v = refl
+
+pub ruleset ones = (code_above, may_first, may_then, write_may, room_spot, record_within, spot_bit, marked_not, marked_so)
 
 -- ---- on what a call has found
 
-module _ (kind : Kind) (p : ℕ) (l : LockList) (o : ℕ) (f : File) (b : Buffers) (ok : Ready kind b) (hl : l ≡ unpack b.list)
-    (hf : f ≡ caller_file p l b.fcb) (ho : o ≡ open_of l p f) where
-  file_is : f ≡ caller_file p (unpack b.list) b.fcb
-  file_is = hf ∙ ap (λ (m : LockList). caller_file p m b.fcb) hl
+-- where the caller has its file open, it is on the image
+pub file_there : (kind : Kind) (p : ℕ) (s list fcb : List ℕ) → sound_list kind list s ≡ true
+    → open_of (unpack list) p (caller_file p (unpack list) fcb) < 64
+    → entry_of kind s (caller_file p (unpack list) fcb) 0 < entries kind
+file_there kind p s list fcb h m = own_there kind s p (buffers fcb [] list s) (unpack_shape list) (list_sound_of kind list s h) m
 
-  pub file_named : length f.name ≡ 11
-  file_named = rw file_is (caller_long p (unpack b.list) b.fcb)
+module _ (kind : Kind) (s : List ℕ) (f : File) (r : ℕ) (d : List ℕ) (h : sound_image kind s ≡ true) (named : length f.name ≡ 11) (far : r ≤ top kind)
+    (there : entry_of kind s f 0 < entries kind) (full : 128 ≤ length d) where
+  abbrev e : ℕ
+  e = entry_of kind s f (r / 128)
 
-  -- a file that the caller has open is on the image
-  pub file_there : o < 64 → entry_of kind b.image f 0 < entries kind
-  file_there m =
-      let h : open_of (unpack b.list) p f < 64 = subst (λ (y : LockList). open_of y p f < 64) hl (subst (λ (y : ℕ). y < 64) ho m) in
-      subst (λ (y : File). entry_of kind b.image y 0 < entries kind) (sym file_is)
-      (own_there kind b.image p b (unpack_shape b.list) (list_sound_of kind b.list b.image ok.list_sound)
-      (subst (λ (y : File). open_of (unpack b.list) p y < 64) file_is h))
+  -- the bit of the block that a record takes is set
+  pub written_bit : (zeros : Bool) → first_of (rows_room kind s e r) ≡ 0
+      → vector_of kind (written kind zeros (spot_at kind s e r) (entry_of kind s f 0) f r d s) ≡ taken_by (spot_at kind s e r) (vector_of kind s)
+  unfolding rows_room
+  written_bit zeros rows = vector_written kind zeros s f r d (sound_of kind s h) named far there full (row_off 5 _ _ (λ y. omega arith) rows)
+      (row_off 2 _ _ (λ y. omega arith) (row_rest 5 _ _ (λ y. omega arith) rows))
 
-  module _ (e₀ e r : ℕ) (d : List ℕ) (h₀ : e₀ ≡ entry_of kind b.image f 0) (he : e ≡ entry_of kind b.image f (r / 128)) (full : 128 ≤ length d) where
-    abbrev s : List ℕ
-    s = b.image
+  -- 41 takes no block: the vector is as it was
+  pub test_vector : first_of (rows_there kind s e r) ≡ 0
+      → vector_of kind (written kind false (spot_at kind s e r) (entry_of kind s f 0) f r d s) ≡ vector_of kind s
+  unfolding rows_there
+  test_vector rows =
+      let a : leb (entries kind) e ≡ false = row_off 4 _ _ (λ y. omega arith) rows in
+      let c : eqb (block_in kind s e r) 0 ≡ false = row_off 1 _ _ (λ y. omega arith) (row_rest 4 _ _ (λ y. omega arith) rows) in
+      vector_written kind false s f r d (sound_of kind s h) named far there full (and_left _ _ a) (and_left _ _ c)
+      ∙ sym (taken_off (spot_at kind s e r) (vector_of kind s) (own a c))
+    where
+      own : leb (entries kind) e ≡ false → eqb (block_in kind s e r) 0 ≡ false → (spot_at kind s e r).taken ≡ false
+      own a c = unfold spot_at ◌if◌else◌ in rw (a, c)
 
-    abbrev w : Spot
-    w = spot_at kind s e r
+pub ruleset vectors = (caller_long, file_there, test_vector)
 
-    -- its bit is set where a record takes a block
-    pub written_bit : (zeros : Bool) → o < 64 → r ≤ top kind → (leb (entries kind) e and leb (entries kind) (free_entry kind s)) ≡ false
-        → (eqb (block_in kind s e r) 0 and leb (blocks kind s) (free_block kind s)) ≡ false
-        → vector_of kind (written kind zeros w e₀ f r d s) ≡ taken_by w (vector_of kind s)
-    written_bit zeros m far room block =
-        ap (λ (y : ℕ). vector_of kind (written kind zeros w y f r d s)) h₀
-        ∙ ap (λ (y : ℕ). vector_of kind (written kind zeros (spot_at kind s y r) (entry_of kind s f 0) f r d s)) he
-        ∙ vector_written kind zeros s f r d (sound_of kind s ok.image_sound) file_named far (file_there m) full (rw he at room) (rw he at block)
-        ∙ ap (λ (y : ℕ). taken_by (spot_at kind s y r) (vector_of kind s)) (sym he)
-
-    -- 34 and 40: the vector is that of the image left
-    pub one_vector : (zeros stopped locked : Bool) (code entry : ℕ) (t u v : List ℕ) → OneDid kind zeros o stopped locked f e₀ e r d s code entry t
-        → u ≡ vector_of kind s → v ≡ marked_by code w u → v ≡ vector_of kind t
-    unfolding marked_by ◌if◌else◌ rows_room
-    one_vector zeros stopped locked code entry t u v g hu hv =
-        ⊎_elim
-        (λ (z : code ≡ 0).
-        let rows = both_zero _ _ (may_real kind o stopped r locked) (sym g.gives ∙ z) in
-        let may = write_may kind o stopped r locked rows.0 in
-        hv ∙ rw (eq-eqb code 0 z) refl ∙ ap (λ (y : List ℕ). taken_by w y) hu
-        ∙ sym (written_bit zeros may.0 may.1 (row_off 5 _ _ (λ y. omega arith) rows.1)
-        (row_off 2 _ _ (λ y. omega arith) (row_rest 5 _ _ (λ y. omega arith) rows.1)))
-        ∙ ap (λ (y : List ℕ). vector_of kind y) (sym (g.wrote z)))
-        (λ (z : code ≡ 0 → ⊥). hv ∙ rw (ne_eqb code 0 z) refl ∙ hu ∙ ap (λ (y : List ℕ). vector_of kind y) (sym (g.kept z)))
-        (equal? code 0)
-
-    -- 41, which takes no block: the vector is as it was
-    pub test_vector : (x : Spot) (may lacking : ℕ) (t v : List ℕ) → x ≡ w → may ≡ first_of (rows_may kind p l o f e₀ r s) → may ≡ 0
-        → lacking ≡ first_of (rows_there kind s e r) → lacking ≡ 0 → t ≡ written kind false x e₀ f r d s → v ≡ vector_of kind s → v ≡ vector_of kind t
-    unfolding rows_there
-    test_vector x may lacking t v hx hm z hk k ht hv =
-        let m = may_passed kind p l o f e₀ r s (sym hm ∙ z) in
-        let rows = sym hk ∙ k in
-        let a : leb (entries kind) e ≡ false = row_off 4 _ _ (λ y. omega arith) rows in
-        let c : eqb (block_in kind s e r) 0 ≡ false = row_off 1 _ _ (λ y. omega arith) (row_rest 4 _ _ (λ y. omega arith) rows) in
-        hv ∙ taken_off w (vector_of kind s) (own a c) ∙ sym (written_bit false m.0 m.1 (and_left _ _ a) (and_left _ _ c))
-        ∙ ap (λ (y : Spot). vector_of kind (written kind false y e₀ f r d s)) (sym hx) ∙ ap (λ (y : List ℕ). vector_of kind y) (sym ht)
-      where
-        own : leb (entries kind) e ≡ false → eqb (block_in kind s e r) 0 ≡ false → w.taken ≡ false
-        own a c = unfold spot_at ◌if◌else◌ in rw (a, c)
+pub ruleset written_by = (code_above, write_refused, write_done, may_first, may_then, write_may, caller_long, file_there, written_bit, marked_not, marked_so)

@@ -1,22 +1,22 @@
-ghost use Rattle.std.specs.Prelude.{◌≡◌, ◌*◌, ◌≤◌, length};
+ghost use Rattle.std.specs.Prelude.{◌≡◌};
 ghost use Rattle.words.specs.Tables.{first_of};
-ghost use Rattle.rules.specs.Kinds.{entries};
 ghost use Rattle.rules.specs.Codes.{rows_there};
+ghost use Rattle.rules.specs.Refusals.{answer_of};
 
-use directory::find::block_in;
-use rules::code::{NO_BLOCK, NO_EXTENT};
-use rules::kind::{Kind, entries};
+use directory::find::Directory;
+use rules::code::Refusal;
+use rules::kind::entries;
 
-// The code for a record that is not there, or 0: no such extent (it is at entry `e`, the number of entries: missing), no block.
-pub fn not_there(kind: Kind, image: &[u8], e: usize, r: usize) -> u32
-    requires { 32 * entries kind ≤ length image.now }
-    ensures { result ≡ first_of (rows_there kind image.now e r) }
+// Refuses a record that is not there: no such extent (it is at entry `e`, the number of entries: missing), no block.
+#[tactic(auto, using(crate::proofs::Reading::there), unfolding(rules::specs::Codes::rows_there))]
+pub fn not_there(directory: &Directory, e: usize, r: usize) -> Result<(), Refusal>
+    ensures { answer_of result ≡ first_of (rows_there directory.now.kind directory.now.image.now e r) }
 {
-    if entries(kind) <= e {
-        return NO_EXTENT;
+    if entries(directory.kind) <= e {
+        return Err(Refusal::NoExtent);
     }
-    if block_in(kind, image, e, r) == 0 {
-        return NO_BLOCK;
+    if directory.block_in(e, r) == 0 {
+        return Err(Refusal::NoBlock);
     }
-    0
+    Ok(())
 }

@@ -1,17 +1,8 @@
 -- Each step of packing lays the next part of the packed book down. Assumes nothing.
-use Prim.Native.Nat.{ℕ, suc, ◌+◌, ◌-◌, ◌*◌, ◌≤◌, ◌<◌}
-use mathlib.Core.Path.{◌≡◌, refl, sym, ap, ◌∙◌}
-use mathlib.Core.Bool.{Bool, true, false, not}
-use mathlib.Core.List.{List, [], ◌∷◌, ◌++◌, append-nil, append_assoc}
-use mathlib.Core.Logic.{⊎_elim}
-use native.Mathlib.Omega.{arith}
-use native.Mathlib.Nat.{add-zero}
-use native.Mathlib.Numerals.{add-one}
-use lib.ListN.{length, take, drop, replicate, length-append, length-replicate}
+use Rattle.std.proofs.Common.{◌≡◌, refl, sym, ap, ◌∙◌, ℕ, suc, ◌+◌, ◌-◌, ◌*◌, ◌≤◌, ◌<◌, Bool, true, false, not, List, [], ◌∷◌, ◌++◌, length, take, drop, replicate, append-nil, append_assoc, ⊎_elim, arith, add-zero, add-one, length-append, eqb, eq-eqb, ne_eqb, rules}
+use Rattle.std.specs.Int.{from_bool}
+use lib.ListN.{length-replicate}
 use lib.Seq.{take-length}
-use lib.Dec.{eqb}
-use borrow.Author.Rules.{rules}
-use borrow.Author.Tests.{eq-eqb, ne_eqb}
 use Rattle.words.specs.Tests.{◌and◌, ◌if◌else◌, count}
 use Rattle.words.specs.Lists.{tab, flat, passing}
 use Rattle.words.specs.Bytes.{bytes_from, put, le}
@@ -127,7 +118,7 @@ module _ (kind : Kind) (s : List ℕ) where
 
   -- the first half of a used one
   pub entry_head : (e to next : ℕ) (out o : List ℕ) → LaidEntries kind s e to next out → e < entries kind
-      → 32 * entries kind ≤ length s → 32 * to + 32 ≤ length out → o ≡ put (32 * to) (take (32 * e + 16 - 32 * e) (drop (32 * e) s)) out
+      → 32 * e + 32 ≤ length s → 32 * to + 32 ≤ length out → o ≡ put (32 * to) (take (32 * e + 16 - 32 * e) (drop (32 * e) s)) out
       → LaidPlaces kind s e 0 to next o
   unfolding places_to tab flat
   entry_head e to next out o w below long m h =
@@ -391,6 +382,13 @@ block_copied kind s out o n b from size to p q r l h =
     ∙ ap (λ (i : ℕ). put (block_size kind * b) (take i (drop from s)) out) a
     ∙ ap (λ (i : ℕ). put (block_size kind * b) (take (block_size kind) (drop i s)) out) p
     ∙ ap (λ (x : List ℕ). put (block_size kind * b) x out) (from_part s (block_size kind * n) (block_size kind) l)
+
+-- ---- a test that counts
+
+pub one_from : (t : Bool) (r : ℕ) → r ≡ from_bool t → r ≡ (1 if t else 0)
+unfolding ◌if◌else◌
+one_from true r e = e
+one_from false r e = e
 
 -- ---- the sets
 

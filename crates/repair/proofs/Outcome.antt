@@ -14,8 +14,7 @@ use Rattle.words.proofs.Tests.{either}
 use Rattle.words.proofs.Tables.{none_applies, zero_none, row_off, row_rest, nonzeros}
 use Rattle.words.proofs.Sets.{or_none, not_of_true, codes}
 use Rattle.rules.specs.declared.kind.Kind.{Kind}
-use Rattle.rules.specs.declared.kind.Told.{Told}
-use Rattle.rules.specs.declared.kind.Told.TheVariants.{Known, Other}
+use Rattle.std.specs.Prelude.{Option, Some, None}
 use Rattle.rules.specs.Kinds.{entries}
 use Rattle.rules.specs.Drive.{good_length, sound_image}
 use Rattle.rules.proofs.Sound.{sound_length}
@@ -82,19 +81,19 @@ module _ (kind : Kind) (s r : List ℕ) where
   wrong_report h l = refused 2 (search codes depth 8 fits 20000) refl
 
 -- An answer other than 0 changes nothing, whatever kind of drive is told; ..
-pub refused_nothing : (told : Told) (s r : List ℕ) → ((salvage_told told s r).answer ≡ 0 → ⊥)
+pub refused_nothing : (told : Option Kind) (s r : List ℕ) → ((salvage_told told s r).answer ≡ 0 → ⊥)
     → ((salvage_told told s r).image ≡ s) × ((salvage_told told s r).report ≡ r)
 unfolding salvage_told ◌if◌else◌
-refused_nothing (Known kind) s r n =
+refused_nothing (Some kind) s r n =
     ⊎_elim
     (λ (h : eqb (first_of (rows_salvage kind s r)) 0 ≡ true). absurd (n (answer_first kind s r ∙ eqb-true _ _ h)))
     (λ (h : eqb (first_of (rows_salvage kind s r)) 0 ≡ false).
     (ap (λ (o : Salvaged). o.image) (outcome kind s r false h), ap (λ (o : Salvaged). o.report) (outcome kind s r false h)))
     (either (eqb (first_of (rows_salvage kind s r)) 0))
-refused_nothing Other s r n = (refl, refl)
+refused_nothing None s r n = (refl, refl)
 
 -- .. a number that tells none is answered 1.
-pub unknown_kind : (s r : List ℕ) → salvage_told Other s r ≡ salvaged 1 s r
+pub unknown_kind : (s r : List ℕ) → salvage_told None s r ≡ salvaged 1 s r
 unfolding salvage_told
 unknown_kind s r = refl
 

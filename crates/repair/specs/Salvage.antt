@@ -1,12 +1,10 @@
 -- "Salvage for damaged books" (T-08): what a repair leaves of an image, and what it reports. Assumes nothing.
-use Rattle.std.specs.Prelude.{ℕ, ◌*◌, Bool, not, List, [], ◌∷◌, length, set, eqb}
+use Rattle.std.specs.Prelude.{ℕ, ◌*◌, Bool, not, List, [], ◌∷◌, length, set, eqb, Option, Some, None}
 use Rattle.words.specs.Tests.{◌and◌, ◌or◌, ◌if◌else◌, count}
 use Rattle.words.specs.Lists.{tab, turns}
 use Rattle.words.specs.Bytes.{put, le}
 use Rattle.words.specs.Tables.{Row, ◌when◌, first_of}
 use Rattle.rules.specs.declared.kind.Kind.{Kind}
-use Rattle.rules.specs.declared.kind.Told.{Told}
-use Rattle.rules.specs.declared.kind.Told.TheVariants.{Known, Other}
 use Rattle.rules.specs.Kinds.{entries, numbers, width}
 use Rattle.rules.specs.Drive.{entry_size, good_length, map_at, map_number, is_empty, good_fields, is_repeat, has_first, in_range, is_first}
 
@@ -104,9 +102,9 @@ salvage kind s r =
     salvaged (first_of (rows_salvage kind s r)) s r
 
 -- told the kind by a number: 1 for an unknown one too
-unfoldable pub salvage_told : Told → List ℕ → List ℕ → Salvaged
-salvage_told (Known kind) s r = salvage kind s r
-salvage_told Other s r = salvaged 1 s r
+unfoldable pub salvage_told : Option Kind → List ℕ → List ℕ → Salvaged
+salvage_told (Some kind) s r = salvage kind s r
+salvage_told None s r = salvaged 1 s r
 
 -- ---- What a comparison of the image before and after tells (the report is that, a theorem)
 

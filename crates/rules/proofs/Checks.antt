@@ -1,4 +1,5 @@
 -- What the answer of the image check says of the image (T-01). Assumes nothing.
+use Rattle.std.specs.Prelude.{Result, Ok, Err}
 use Prim.Native.Nat.{ℕ, ◌≤◌, ◌<◌}
 use mathlib.Core.Path.{◌≡◌, refl, sym, ap, subst, ◌∙◌}
 use mathlib.Core.Bool.{Bool, true, false, not, true≢false}
@@ -13,13 +14,13 @@ use Rattle.words.proofs.Tests.{either, or_fst, all_at, all_fails, all_make, any_
 use Rattle.words.proofs.Tests.{lowest_least}
 use Rattle.words.proofs.Sets.{if_yes, if_no, and_first, and_then}
 use Rattle.rules.specs.declared.kind.Kind.{Kind}
-use Rattle.rules.specs.declared.answer.ImageAnswer.{ImageAnswer}
-use Rattle.rules.specs.declared.answer.ImageAnswer.TheVariants.{Sound, WrongLength, BadUser, BadName, BadNumbers, BlockOutside, BlockBefore}
-use Rattle.rules.specs.declared.answer.ImageAnswer.TheVariants.{ExtentBefore, NoFirst}
+use Rattle.rules.specs.declared.answer.ImageFault.{ImageFault}
+use Rattle.rules.specs.declared.answer.ImageFault.TheVariants.{WrongLength, BadUser, BadName, BadNumbers, BlockOutside, BlockBefore}
+use Rattle.rules.specs.declared.answer.ImageFault.TheVariants.{ExtentBefore, NoFirst}
 use Rattle.rules.specs.Kinds.{entries, numbers}
 use Rattle.rules.specs.Drive.{good_length, is_empty, name_at, legal_name, good_user, good_numbers, good_fields, in_range, is_first, is_repeat, good_entry, has_first}
 use Rattle.rules.specs.Drive.{sound_directory, sound_image, reasons, reason, bad_for, is_bad, bad_entry, judged, lacks_first, headless, is_sound}
-use Rattle.rules.specs.Drive.{directory_answer, image_check, image_number, image_entry}
+use Rattle.rules.specs.Drive.{directory_answer, image_check, fault_number, fault_entry, image_number, image_entry}
 use Rattle.rules.specs.Checks.{LowestBad, LowestHeadless, CheckTells}
 use Rattle.rules.proofs.Sizes.{entries_some, entries-byte}
 use Rattle.rules.proofs.Answers.{number_end, number_read, entry_read}
@@ -46,18 +47,17 @@ six_good false true true true true true false = refl
 pub record Reason (why e : ℕ) : Type 0 where
   pub least : 2 ≤ why
   pub most : why ≤ 7
-  pub number : image_number (bad_for why e) ≡ why
-  pub entry : image_entry (bad_for why e) ≡ e
-  pub bad : is_sound (bad_for why e) ≡ false
+  pub number : fault_number (bad_for why e) ≡ why
+  pub entry : fault_entry (bad_for why e) ≡ e
 
 six_bad : (u n m r f p : Bool) (e : ℕ) → ((u and n and m) and r and f and not p) ≡ false → Reason (first_of (six u n m r f p)) e
-unfolding first_of ◌if◌else◌ ◌and◌ bad_for image_number image_entry is_sound
-six_bad false n m r f p e h = record { least = omega arith; most = omega arith; number = refl; entry = refl; bad = refl }
-six_bad true false m r f p e h = record { least = omega arith; most = omega arith; number = refl; entry = refl; bad = refl }
-six_bad true true false r f p e h = record { least = omega arith; most = omega arith; number = refl; entry = refl; bad = refl }
-six_bad true true true false f p e h = record { least = omega arith; most = omega arith; number = refl; entry = refl; bad = refl }
-six_bad true true true true false p e h = record { least = omega arith; most = omega arith; number = refl; entry = refl; bad = refl }
-six_bad true true true true true true e h = record { least = omega arith; most = omega arith; number = refl; entry = refl; bad = refl }
+unfolding first_of ◌if◌else◌ ◌and◌ bad_for fault_number fault_entry
+six_bad false n m r f p e h = record { least = omega arith; most = omega arith; number = refl; entry = refl }
+six_bad true false m r f p e h = record { least = omega arith; most = omega arith; number = refl; entry = refl }
+six_bad true true false r f p e h = record { least = omega arith; most = omega arith; number = refl; entry = refl }
+six_bad true true true false f p e h = record { least = omega arith; most = omega arith; number = refl; entry = refl }
+six_bad true true true true false p e h = record { least = omega arith; most = omega arith; number = refl; entry = refl }
+six_bad true true true true true true e h = record { least = omega arith; most = omega arith; number = refl; entry = refl }
 six_bad true true true true true false e h = absurd (true≢false h)
 
 module _ (kind : Kind) (s : List ℕ) (e : ℕ) where
@@ -105,17 +105,21 @@ module _ (f g : ℕ → Bool) (n : ℕ) (opposed : (i : ℕ) → g i ≡ not (f 
 
 -- ---- an answer's number
 
-number_sound : (a : ImageAnswer) → eqb (image_number a) 0 ≡ is_sound a
+fault_some : (f : ImageFault) → eqb (fault_number f) 0 ≡ false
+unfolding fault_number
+fault_some WrongLength = refl
+fault_some (BadUser e) = refl
+fault_some (BadName e) = refl
+fault_some (BadNumbers e) = refl
+fault_some (BlockOutside e) = refl
+fault_some (BlockBefore e) = refl
+fault_some (ExtentBefore e) = refl
+fault_some (NoFirst e) = refl
+
+number_sound : (a : Result (Unit {0}) ImageFault) → eqb (image_number a) 0 ≡ is_sound a
 unfolding image_number is_sound
-number_sound Sound = refl
-number_sound WrongLength = refl
-number_sound (BadUser e) = refl
-number_sound (BadName e) = refl
-number_sound (BadNumbers e) = refl
-number_sound (BlockOutside e) = refl
-number_sound (BlockBefore e) = refl
-number_sound (ExtentBefore e) = refl
-number_sound (NoFirst e) = refl
+number_sound (Ok x) = refl
+number_sound (Err f) = fault_some f
 
 -- ---- all entries
 
@@ -129,18 +133,18 @@ module _ (kind : Kind) (s : List ℕ) where
   lacks_opposed e = refl
 
   -- no entry is bad: sound; ..
-  pub judged_none : any (is_bad kind s) (entries kind) ≡ false → Sound ≡ judged kind s
+  pub judged_none : any (is_bad kind s) (entries kind) ≡ false → Ok tt ≡ judged kind s
   unfolding judged bad_entry
   judged_none h = if_yes _ _ _ _ (rw (lowest_none (is_bad kind s) (entries kind) h) (le-leb (entries kind) (entries kind) (omega arith))) refl
 
   -- .. e is the lowest: its reason
-  pub judged_at : (e : ℕ) → e < entries kind → any (is_bad kind s) e ≡ false → is_bad kind s e ≡ true → bad_for (reason kind s e) e ≡ judged kind s
+  pub judged_at : (e : ℕ) → e < entries kind → any (is_bad kind s) e ≡ false → is_bad kind s e ≡ true → Err (bad_for (reason kind s e) e) ≡ judged kind s
   unfolding judged bad_entry
   judged_at e l h b =
       let q = lowest_found (is_bad kind s) (entries kind) e l h b in
       if_no _ _ _ _ (rw q (lt-leb (entries kind) e l)) (rw q refl)
 
-  judged_some : any (is_bad kind s) (entries kind) ≡ true → judged kind s ≡ bad_for (reason kind s (bad_entry kind s)) (bad_entry kind s)
+  judged_some : any (is_bad kind s) (entries kind) ≡ true → judged kind s ≡ Err (bad_for (reason kind s (bad_entry kind s)) (bad_entry kind s))
   unfolding judged bad_entry
   judged_some h = sym (if_no _ _ _ _ (lt-leb _ _ (lowest_below (is_bad kind s) (entries kind) h)) refl)
 
@@ -169,7 +173,7 @@ module _ (kind : Kind) (s : List ℕ) where
   judged_good =
       ⊎_elim
       (λ (h : any (is_bad kind s) (entries kind) ≡ true).
-      rw (judged_some h, some_fails (good_entry kind s) (is_bad kind s) (entries kind) bad_opposed h) (bad_reason kind s _ (bad_here h)).bad)
+      rw (judged_some h, some_fails (good_entry kind s) (is_bad kind s) (entries kind) bad_opposed h) refl)
       (λ (h : any (is_bad kind s) (entries kind) ≡ false).
       rw (sym (judged_none h), none_all (good_entry kind s) (is_bad kind s) (entries kind) bad_opposed h) refl)
       (either (any (is_bad kind s) (entries kind)))
@@ -186,12 +190,12 @@ module _ (kind : Kind) (s : List ℕ) where
     answer_bad = if_yes _ _ _ _ (ap not h) refl
 
   module _ (h : is_sound (judged kind s) ≡ true) where
-    pub answer_lacking : (e : ℕ) → e ≡ headless kind s → e < entries kind → NoFirst e ≡ directory_answer kind s
+    pub answer_lacking : (e : ℕ) → e ≡ headless kind s → e < entries kind → Err (NoFirst e) ≡ directory_answer kind s
     unfolding directory_answer
     answer_lacking e q l =
-        if_no _ _ _ _ (ap not h) (if_no _ _ _ _ (rw (sym q) (lt-leb (entries kind) e l)) (ap NoFirst q))
+        if_no _ _ _ _ (ap not h) (if_no _ _ _ _ (rw (sym q) (lt-leb (entries kind) e l)) (ap (λ (d : ℕ). Err (NoFirst d)) q))
 
-    pub answer_sound : (e : ℕ) → e ≡ headless kind s → entries kind ≤ e → Sound ≡ directory_answer kind s
+    pub answer_sound : (e : ℕ) → e ≡ headless kind s → entries kind ≤ e → Ok tt ≡ directory_answer kind s
     unfolding directory_answer
     answer_sound e q l = if_no _ _ _ _ (ap not h) (if_yes _ _ _ _ (rw (sym q) (le-leb (entries kind) e l)) refl)
 
@@ -230,7 +234,7 @@ module _ (kind : Kind) (s : List ℕ) where
 
   -- ---- the answer, case by case
 
-  check_length : good_length kind s ≡ false → WrongLength ≡ image_check kind s
+  check_length : good_length kind s ≡ false → Err WrongLength ≡ image_check kind s
   unfolding image_check
   check_length h = if_yes _ _ _ _ (ap not h) refl
 
@@ -242,10 +246,10 @@ module _ (kind : Kind) (s : List ℕ) where
   unfolding sound_image
   sound_where h = sym (ap is_sound (check_directory h)) ∙ and_then _ _ _ h directory_sound
 
-  module _ (P : ImageAnswer → Type 0) (wrong : good_length kind s ≡ false → P WrongLength)
-      (bad : good_length kind s ≡ true → (e : ℕ) → LowestBad kind s (reason kind s e) e → P (bad_for (reason kind s e) e))
-      (lacking : good_length kind s ≡ true → (e : ℕ) → LowestHeadless kind s e → P (NoFirst e))
-      (fine : good_length kind s ≡ true → P Sound) where
+  module _ (P : Result (Unit {0}) ImageFault → Type 0) (wrong : good_length kind s ≡ false → P (Err WrongLength))
+      (bad : good_length kind s ≡ true → (e : ℕ) → LowestBad kind s (reason kind s e) e → P (Err (bad_for (reason kind s e) e)))
+      (lacking : good_length kind s ≡ true → (e : ℕ) → LowestHeadless kind s e → P (Err (NoFirst e)))
+      (fine : good_length kind s ≡ true → P (Ok tt)) where
     check_good : good_length kind s ≡ true → all (good_entry kind s) (entries kind) ≡ true → P (image_check kind s)
     check_good g h =
         let j : is_sound (judged kind s) ≡ true = judged_good ∙ h in
@@ -263,8 +267,7 @@ module _ (kind : Kind) (s : List ℕ) where
         (λ (g : good_length kind s ≡ true).
         ⊎_elim
         (λ (h : any (is_bad kind s) (entries kind) ≡ true).
-        let j : is_sound (judged kind s) ≡ false
-        = ap is_sound (judged_some h) ∙ (bad_reason kind s _ (bad_here h)).bad in
+        let j : is_sound (judged kind s) ≡ false = judged_good ∙ some_fails (good_entry kind s) (is_bad kind s) (entries kind) bad_opposed h in
         subst P (sym (judged_some h) ∙ answer_bad j ∙ check_directory g) (bad g (bad_entry kind s) (lowest_bad h)))
         (λ (h : any (is_bad kind s) (entries kind) ≡ false).
         check_good g (none_all (good_entry kind s) (is_bad kind s) (entries kind) bad_opposed h))
@@ -284,11 +287,11 @@ module _ (kind : Kind) (s : List ℕ) where
       (λ (g : good_length kind s ≡ false). rw (sym (check_length g), fails_long g) refl) (either (good_length kind s))
 
   pub check_tells : CheckTells kind s
-  unfolding image_number image_entry
+  unfolding image_number image_entry fault_number fault_entry
   check_tells = record {
     sound = number_sound (image_check kind s) ∙ is-sound;
     long = check_cases (λ a. eqb (image_number a) 1 ≡ not (good_length kind s)) (λ g. rw g refl)
-        (λ g e b. let k = bad_reason kind s e b.bad in rw g (ne_eqb (image_number (bad_for (reason kind s e) e)) 1 (λ q. omega (arith, k.least, k.number))))
+        (λ g e b. let k = bad_reason kind s e b.bad in rw g (ne_eqb (fault_number (bad_for (reason kind s e) e)) 1 (λ q. omega (arith, k.least, k.number))))
         (λ g e b. rw g refl) (λ g. rw g refl);
     tells_zero = check_cases (λ a. image_number a ≤ 1 → image_entry a ≡ 0) (λ g l. refl)
         (λ g e b l. let k = bad_reason kind s e b.bad in absurd (omega (arith, k.least, k.number))) (λ g e b l. absurd (omega arith)) (λ g l. refl);
@@ -305,5 +308,5 @@ module _ (kind : Kind) (s : List ℕ) where
   }
 
   -- an entry that is told is a byte
-  pub told_byte : (a : ImageAnswer) → a ≡ image_check kind s → image_entry a < 256
+  pub told_byte : (a : Result (Unit {0}) ImageFault) → a ≡ image_check kind s → image_entry a < 256
   told_byte a h = let k = check_tells.entry_there in let l = entries-byte kind in rw h (omega arith)

@@ -11,7 +11,8 @@ use Rattle.rules.specs.declared.kind.Kind.{Kind}
 use Rattle.rules.specs.Serves.{Buffers, Outcome, Did, buffers, outcome}
 use Rattle.rules.specs.declared.file.File.{File}
 use Rattle.rules.specs.declared.list.LockList.{LockList}
-use Rattle.rules.specs.declared.routine.Chosen.{Chosen}
+use Rattle.std.specs.Prelude.{Option}
+use Rattle.rules.specs.declared.routine.Routine.{Routine}
 use Rattle.rules.specs.Locks.{unpack}
 use Rattle.rules.specs.Asks.{caller_file, record_of}
 use Rattle.rules.specs.Call.{decided, unless, asked_by, asked, rows_of, effect_of, served}
@@ -53,7 +54,7 @@ module _ (xs ys : List Row) (b : Buffers) (o : Outcome) (code : ℕ) (e : code �
 
 -- ---- a call on the buffers, from what its routine found in them
 
-pub served_as : (kind : Kind) (k : Chosen) (p c : ℕ) (b : Buffers) (l : LockList) (f : File) (r : ℕ) → l ≡ unpack b.list → f ≡ caller_file p l b.fcb
+pub served_as : (kind : Kind) (k : Option Routine) (p c : ℕ) (b : Buffers) (l : LockList) (f : File) (r : ℕ) → l ≡ unpack b.list → f ≡ caller_file p l b.fcb
     → r ≡ record_of b.fcb → unless (rows_of k (asked_by kind p c l f r b.image) b) b (effect_of k (asked_by kind p c l f r b.image) b) ≡ served kind k p c b
 unfolding served asked
 served_as kind k p c b l f r hl hf hr =

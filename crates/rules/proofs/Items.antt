@@ -1,21 +1,30 @@
 -- Items: names and files compared, and two that clash. Assumes nothing.
-use Prim.Native.Nat.{ℕ, ◌<◌}
-use mathlib.Core.Path.{◌≡◌, refl, sym, ◌∙◌}
-use mathlib.Core.Bool.{true, false, not}
-use mathlib.Core.List.{List}
-use mathlib.Core.Logic.{⊎_elim}
-use lib.ListN.{length, get_or}
-use lib.Dec.{eqb}
-use borrow.Author.Tests.{eqb-true, eqb-false, eq-eqb, ne_eqb, not-true}
-use Rattle.words.specs.Tests.{◌and◌, ◌or◌}
+use Rattle.std.proofs.Common.{ℕ, ◌≤◌, ◌<◌, ◌≡◌, refl, sym, subst, ◌∙◌, Bool, true, false, not, ◌&&◌, List, length, get_or, eqb, ⊎_elim, arith, eqb-true, eq-eqb, ne_eqb}
+use Rattle.std.proofs.lemmas.Bool.{eqb-false, not-true}
+use Rattle.std.specs.Cmp.Lexicographic.{pointwise, bytes_decides}
+use Rattle.std.specs.Int.{from_bool}
+use Rattle.words.specs.Tests.{◌and◌, ◌or◌, ◌if◌else◌}
 use Rattle.words.specs.Bytes.{byte, same_byte}
-use Rattle.words.proofs.Tests.{either, fails_too, all_at, all_make, and_fst, and_snd, or_so, or_case}
+use Rattle.words.proofs.Tests.{either, fails_too, same_test, all_at, all_make, and_fst, and_snd, or_so, or_case}
 use Rattle.words.proofs.Lists.{tab_ext, tab_get_d}
 use Rattle.words.proofs.Sets.{and_both, and_left, or_left, not_of_false, not_of_true}
 use Rattle.rules.specs.declared.file.File.{File}
 use Rattle.rules.specs.declared.item.Item.{Item}
 use Rattle.rules.specs.declared.list.LockList.{LockList}
 use Rattle.rules.specs.Locks.{item_at, same_name, same_file, opens_name, stand_beside, clash, clash_at}
+
+-- ---- a test as a number
+
+pub one_is : (t : Bool) → from_bool t ≡ (1 if t else 0)
+unfolding ◌if◌else◌
+one_is true = refl
+one_is false = refl
+
+pub one_most : (t : Bool) → from_bool t ≤ 1
+one_most true = omega arith
+one_most false = omega arith
+
+pub ruleset one_tested = (one_is, one_most)
 
 -- ---- names and files
 
@@ -41,12 +50,28 @@ pub name_is : (a b : List ℕ) → length a ≡ 11 → length b ≡ 11 → same_
 name_is a b l m h =
     sym (tab_get_d a 0 11 l) ∙ tab_ext (λ (k : ℕ). get_or a k 0) (λ (k : ℕ). get_or b k 0) 11 (λ k j. name-at a b h k j) ∙ tab_get_d b 0 11 m
 
+-- .. and what `==` answers of two arrays of eleven bytes
+pub name_tested : (a b : List ℕ) → length a ≡ 11 → length b ≡ 11 → pointwise eqb a b ≡ same_name a b
+name_tested a b l m =
+    let both = bytes_decides a b in
+    same_test _ _ (λ h. subst (λ (x : List ℕ). same_name a x ≡ true) (both.0 h) (name_refl a)) (λ h. both.1 (name_is a b l m h))
+
 pub file_is : (f g : File) → length f.name ≡ 11 → length g.name ≡ 11 → same_file f g ≡ true → f ≡ g
 unfolding same_file
 file_is f g l m h =
     let u = eqb-true _ _ (and_fst _ _ h) in
     let n = name_is f.name g.name l m (and_snd _ _ h) in
     λ i. record { user = u i; name = n i }
+
+-- .. and what `==` answers of two files
+both_tested : (x y z : Bool) → y ≡ z → (x && y) ≡ (x and z)
+unfolding ◌and◌
+both_tested true y z h = h
+both_tested false y z h = refl
+
+pub file_tested : (f g : File) → length f.name ≡ 11 → length g.name ≡ 11 → (eqb f.user g.user && pointwise eqb f.name g.name) ≡ same_file f g
+unfolding same_file
+file_tested f g l m = both_tested _ _ _ (name_tested f.name g.name l m)
 
 pub file_refl : (f : File) → same_file f f ≡ true
 unfolding same_file

@@ -7,6 +7,7 @@ pub mod Sound
 pub mod Checks
 pub mod Look
 pub mod Ends
+pub mod Refused
 pub mod Room
 pub mod Lists
 pub mod Runs
@@ -21,3 +22,5 @@ pub mod Several
 pub mod OneRecord
 pub mod Vector
 pub mod Told
+pub mod Chains
+pub mod Asked

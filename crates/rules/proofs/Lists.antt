@@ -1,67 +1,33 @@
 -- Laws of the lock list and of the methods over it. Assumes nothing.
-use Prim.Native.Nat.{ℕ, zero, suc, ◌+◌, ◌-◌, ◌≤◌, ◌<◌}
-use mathlib.Core.Path.{◌≡◌, refl, sym, ap, ◌∙◌}
-use mathlib.Core.Bool.{Bool, true, false, not}
-use mathlib.Core.List.{List, map, map-map}
-use mathlib.Core.Logic.{⊎_elim}
-use native.Mathlib.Omega.{arith}
-use lib.ListN.{length, set, get_or-eq_default}
-use lib.Seq.{set_out}
-use lib.Dec.{eqb, ltb}
-use borrow.Author.Rules.{rules}
-use borrow.Author.Tests.{lt-ltb, le-ltb, ltb-true, ltb-false, eq-eqb, ne_eqb, eqb-true, leb-true}
+use Rattle.std.proofs.Common.{ℕ, zero, suc, ◌+◌, ◌≤◌, ◌<◌, ◌≡◌, refl, sym, ap, ◌∙◌, Bool, true, false, not, List, map, length, get_or, set, eqb, ltb, ⊎_elim, arith, add-one, get_or-take, tests, lt-ltb, ltb-true, ltb-false, eqb-true, leb-true}
+use Rattle.std.proofs.lemmas.List.{get_or_past}
+use Rattle.std.proofs.lemmas.Simd.{map-map}
+use Rattle.std.specs.Int.{from_bool}
 use Rattle.words.specs.Tests.{◌and◌, ◌if◌else◌, any, lowest, count}
 use Rattle.words.specs.Lists.{turns}
-use Rattle.words.proofs.Tests.{either, all_at, any_none, any_found, and_fst, and_snd}
-use Rattle.words.proofs.Lists.{map_to, map_to_more, map_to_all, length-mapped, turns_none, turns_more, turns_ends}
+use Rattle.words.proofs.Tests.{either, all_at, and_fst, and_snd}
+use Rattle.words.proofs.Lists.{length-mapped, map_to, map_to_more, map_to_all, turns_none, turns_more}
 use Rattle.words.proofs.Items.{total, total_ext, total_both, total_one, map_ext}
-use Rattle.words.proofs.Sets.{choices, lowests, any_goes, is_no, lowest_stops, lowest_ends}
+use Rattle.words.proofs.Sets.{lowests, lowest_stops, lowest_ends}
+use Rattle.rules.proofs.Items.{one_is, one_most}
 use Rattle.rules.specs.declared.file.File.{File}
 use Rattle.rules.specs.declared.item.Item.{Item}
 use Rattle.rules.specs.declared.list.LockList.{LockList}
-use Rattle.rules.specs.Locks.{blank, empty_place, item_at, with_items, with_positions, moved_to, fresh_lock, is_own_lock, held, is_empty_at, is_kind_by, is_kind_by_at}
-use Rattle.rules.specs.Locks.{opens_by, locks_by, free_place, good_item, good_place, is_limit, sound_locks}
+use Rattle.rules.specs.Locks.{blank, empty_place, item_at, with_items, fresh_lock, held, is_empty_at, is_kind_by, is_kind_by_at}
+use Rattle.rules.specs.Locks.{opens_by, locks_by, good_item, good_place, is_limit, sound_locks}
 use Rattle.rules.specs.Effects.{placed, is_of_file, unless_of_file, closed, is_in_run, unless_in_run, unlocked_run, unless_by, without_by, locked_at}
 use Rattle.rules.specs.declared.kind.Kind.{Kind}
 
--- ---- a number in a run of n from r on, told without adding
+-- ---- items gone: a loop that maps the items in place
 
-pub run_past : (x r n : ℕ) → r ≤ x → n ≤ x - r → ltb x (r + n) ≡ false
-run_past x r n h k = le-ltb x (r + n) (omega arith)
+pub mapped_turn : (f : Item → Item) (i : ℕ) (l₀ l : List Item) (x : Item) → length l₀ ≡ 64 → i < 64 → l ≡ map_to f i l₀ → x ≡ f (get_or l i blank)
+    → set l i x ≡ map_to f (i + 1) l₀
+mapped_turn f i l₀ l x n h g e =
+    ap (set l i) e ∙ ap (λ (m : List Item). set m i (f (get_or m i blank))) g ∙ map_to_more f i l₀ blank (omega arith)
 
-pub run_in : (x r n : ℕ) → r ≤ x → x - r < n → ltb x (r + n) ≡ true
-run_in x r n h k = lt-ltb x (r + n) (omega arith)
-
-pub ruleset runs = (choices, run_past, run_in)
-
--- ---- items gone: a method that maps the items in place
-
--- l is l₀ with its first i items mapped
-pub record Gone (f : Item → Item) (l₀ l : LockList) (i : ℕ) : Type 0 where
-  pub long : length l₀.items ≡ 64
-  pub so : l ≡ with_items l₀ (map_to f i l₀.items)
-
-pub gone_none : (f : Item → Item) (l : LockList) → length l.items ≡ 64 → Gone f l l 0
-gone_none f l h = record { long = h; so = refl }
-
-pub gone_more : (f : Item → Item) (l₀ l : LockList) (i : ℕ) (x : Item) → i < 64 → Gone f l₀ l i → x ≡ f (item_at l i)
-    → Gone f l₀ (with_items l (set l.items i x)) (i + 1)
-gone_more f l₀ l i x h g n =
-    let k : i < length l₀.items = omega (arith, g.long) in
-    record {
-      long = g.long;
-      so =
-          ap (λ (y : Item). with_items l (set l.items i y)) n
-          ∙ ap (λ (m : LockList). with_items m (set m.items i (f (item_at m i)))) g.so
-          ∙ ap (with_items l₀) (map_to_more f i l₀.items blank k);
-    }
-
-pub gone_ends : (f : Item → Item) (l₀ l : LockList) (i : ℕ) → Gone f l₀ l i → 64 ≤ i → i ≤ 64 → l ≡ with_items l₀ (map f l₀.items)
-gone_ends f l₀ l i g h k =
-    let q : length l₀.items ≡ i = omega (arith, g.long) in
-    g.so ∙ ap (with_items l₀) (map_to_all f i l₀.items q)
-
-pub ruleset gones = (rules, length-mapped, gone_none, gone_more, gone_ends)
+pub mapped_all : (f : Item → Item) (l : LockList) (xs : List Item) (i : ℕ) → length l.items ≡ 64 → xs ≡ map_to f i l.items → 64 ≤ i → i ≤ 64
+    → with_items l xs ≡ with_items l (map f l.items)
+mapped_all f l xs i n e h k = ap (with_items l) (e ∙ map_to_all f i l.items (omega arith))
 
 -- ---- the lowest empty place below the capacity
 
@@ -76,71 +42,43 @@ pub past_empty : (l : LockList) (i : ℕ) → length l.items ≡ 64 → 64 ≤ i
 unfolding is_empty_at
 past_empty l i h k =
     let m : length l.items ≤ i = omega arith in
-    ap (λ (it : Item). eqb it.kind 0) (get_or-eq_default l.items blank m)
+    ap (λ (it : Item). eqb it.kind 0) (get_or_past l.items i blank m)
 
-pub ruleset frees = (lowests, eq-eqb, ne_eqb, length-mapped, lowest_last, past_empty)
+pub ruleset frees = (lowests, tests, length-mapped, lowest_last, past_empty)
 
 -- the mode of what stands past the last place
 pub past_mode : (l : LockList) (i : ℕ) → length l.items ≡ 64 → 64 ≤ i → 0 ≡ (item_at l i).mode
 past_mode l i h k =
     let m : length l.items ≤ i = omega arith in
-    sym (ap (λ (it : Item). it.mode) (get_or-eq_default l.items blank m))
+    sym (ap (λ (it : Item). it.mode) (get_or_past l.items i blank m))
 
--- ---- an item placed
+-- ---- items counted
 
-pub placed_at : (it : Item) (l : LockList) (at : ℕ) → at ≡ free_place l → with_items l (set l.items at it) ≡ placed it l
-unfolding placed
-placed_at it l at h = ap (λ (i : ℕ). with_items l (set l.items i it)) h
+pub count_next : (f : ℕ → Bool) (i : ℕ) → count f (i + 1) ≡ count f i + from_bool (f i)
+unfolding count
+count_next f i = rw add-one (ap (λ (x : ℕ). count f i + x) (sym (one_is (f i))))
 
--- no place for it
-pub placed_none : (it : Item) (l : LockList) (at : ℕ) → at ≡ free_place l → length l.items ≡ 64 → 64 ≤ at → l ≡ placed it l
-placed_none it l at h n k =
-    let m : length l.items ≤ at = omega arith in
-    ap (with_items l) (sym (set_out l.items at it m)) ∙ placed_at it l at h
+pub count_first : (f : ℕ → Bool) → count f 0 ≡ 0
+unfolding count
+count_first f = refl
 
-pub ruleset placings = (rules, length-mapped, placed_at, placed_none)
+pub ruleset counts = (length-mapped, get_or-take, one_most, count_first, count_next)
 
--- ---- a position set
+-- ---- a run's records one after the other
 
-pub moved_at : (l : LockList) (p e at : ℕ) → at ≡ p → with_positions l (set l.positions at e) ≡ moved_to p e l
-unfolding moved_to
-moved_at l p e at h = ap (λ (i : ℕ). with_positions l (set l.positions i e)) h
+pub turns_next : {A : Type 0} (step : ℕ → A → A) (k : ℕ) (x : A) → turns step (k + 1) x ≡ step k (turns step k x)
+turns_next step k x = sym (turns_more step k x (turns step k x) _ refl refl)
 
--- a process over 15 has none
-pub moved_none : (l : LockList) (p e at : ℕ) → at ≡ p → length l.positions ≡ 16 → 16 ≤ at → l ≡ moved_to p e l
-moved_none l p e at h n k =
-    let m : length l.positions ≤ at = omega arith in
-    ap (with_positions l) (sym (set_out l.positions at e m)) ∙ moved_at l p e at h
+module _ (p : ℕ) (f : File) (r k : ℕ) (l : LockList) where
+  pub run_held : held l p f (r + k) ≡ true → locked_at p f r k l ≡ l
+  unfolding locked_at ◌if◌else◌
+  run_held h = rw h
 
-pub ruleset movings = (rules, moved_at, moved_none)
+  pub run_new : held l p f (r + k) ≡ false → locked_at p f r k l ≡ placed (fresh_lock p f.name (r + k)) l
+  unfolding locked_at ◌if◌else◌
+  run_new h = rw h
 
--- ---- a run's records one after the other: number is that of record k, whose lock is looked for up to place i
-
-module _ (l : LockList) (p : ℕ) (f : File) (r k i number : ℕ) (e : number ≡ r + k) where
-  pub run_held : (t : Bool) (l₀ : LockList) (j : ℕ) → i < 64 → t ≡ true → k ≡ j → l ≡ turns (locked_at p f r) j l₀ → t ≡ is_own_lock l p f number i
-      → l ≡ turns (locked_at p f r) (k + 1) l₀
-  unfolding locked_at held ◌if◌else◌
-  run_held t l₀ j m y q c h =
-      let w : held l p f (r + k) ≡ true = rw (← e) (any_found (is_own_lock l p f number) 64 i m (sym h ∙ y)) in
-      turns_more (locked_at p f r) k l₀ l l (rw q c) (rw w)
-
-  module _ (l₀ : LockList) (at j : ℕ) (h : any (is_own_lock l p f number) i ≡ false) (g : 64 ≤ i) (m : i ≤ 64) (q : k ≡ j) (c : l ≡ turns (locked_at p f r) j l₀)
-      (free : at ≡ free_place l) where
-    placed_now : placed (fresh_lock p f.name number) l ≡ turns (locked_at p f r) (k + 1) l₀
-    unfolding locked_at held ◌if◌else◌
-    placed_now =
-        let v : i ≡ 64 = omega arith in
-        let w : held l p f (r + k) ≡ false = rw (← e) (rw v at h) in
-        turns_more (locked_at p f r) k l₀ l _ (rw q c) (ap (λ (x : ℕ). placed (fresh_lock p f.name x) l) e ∙ rw w)
-
-    pub run_more : (x : Item) → x ≡ fresh_lock p f.name number → with_items l (set l.items at x) ≡ turns (locked_at p f r) (k + 1) l₀
-    run_more x y = ap (λ (it : Item). with_items l (set l.items at it)) y ∙ placed_at _ l at free ∙ placed_now
-
-    -- no place for it
-    pub run_full : length l.items ≡ 64 → 64 ≤ at → l ≡ turns (locked_at p f r) (k + 1) l₀
-    run_full n z = placed_none (fresh_lock p f.name number) l at free n z ∙ placed_now
-
-pub ruleset taking = (rules, any_none, any_goes, is_no, turns_none, turns_ends, length-mapped, run_held, run_more, run_full)
+pub ruleset taking = (turns_none, turns_next, run_held, run_new)
 
 -- ---- items gone: two steps in either order, and one step twice
 

@@ -11,7 +11,8 @@ use Rattle.words.proofs.Tests.{either, equal?}
 use Rattle.words.proofs.Tables.{zero_none}
 use Rattle.words.proofs.Bytes.{put_same}
 use Rattle.rules.specs.declared.file.File.{File}
-use Rattle.rules.specs.declared.routine.Chosen.{Chosen}
+use Rattle.std.specs.Prelude.{Option}
+use Rattle.rules.specs.declared.routine.Routine.{Routine}
 use Rattle.rules.specs.Serves.{Buffers, Outcome, buffers, chosen}
 use Rattle.rules.specs.Drive.{entry_of, block_in}
 use Rattle.rules.specs.Asks.{caller_file, record_of}
@@ -54,7 +55,7 @@ module _ (kind : Kind) (b : Buffers) (ok : Ready kind b) where
       let n = contents_long kind b.image (block_in kind b.image e r) r (read_room kind o b.image f r e _ _ ok.image_sound he refl z refl) in
       ap (λ (m : List ℕ). buffers b.fcb m b.list b.image) (dma_back 0 b.dma (let n = ok.dma_long in omega arith) v n)
 
-  effect_back : (k : Chosen) → Runs k → (p : ℕ) → first_of (rows_of k (asked kind p 1 b) b) ≡ 0
+  effect_back : (k : Option Routine) → Runs k → (p : ℕ) → first_of (rows_of k (asked kind p 1 b) b) ≡ 0
       → back_at 0 b (effect_of k (asked kind p 1 b) (single 0 b)).left ≡ (effect_of k (asked kind p 1 b) b).left
   unfolding effect_of rows_of asked asked_by
   effect_back k is_read p z = read_back _ (caller_file p (unpack b.list) b.fcb) _ _ refl z

@@ -20,8 +20,8 @@ use Rattle.words.proofs.Sets.{row_no}
 use Rattle.rules.specs.declared.file.File.{File}
 use Rattle.rules.specs.declared.list.LockList.{LockList}
 use Rattle.rules.specs.declared.routine.Routine.TheVariants.{Read, Write, WriteZeros}
-use Rattle.rules.specs.declared.routine.Chosen.{Chosen}
-use Rattle.rules.specs.declared.routine.Chosen.TheVariants.{Call}
+use Rattle.std.specs.Prelude.{Option, Some}
+use Rattle.rules.specs.declared.routine.Routine.{Routine}
 use Rattle.rules.specs.Serves.{Buffers, chosen, is_unknown, is_search}
 use Rattle.rules.specs.Drive.{file_from}
 use Rattle.rules.specs.Locks.{unpack, user_of}
@@ -36,10 +36,10 @@ use Rattle.rules.specs.Kinds.{top}
 
 -- ---- the three functions
 
-pub data Runs : Chosen → Type 0 where
-  is_read : Runs (Call Read)
-  is_write : Runs (Call Write)
-  is_zeros : Runs (Call WriteZeros)
+pub data Runs : Option Routine → Type 0 where
+  is_read : Runs (Some Read)
+  is_write : Runs (Some Write)
+  is_zeros : Runs (Some WriteZeros)
 
 pub run-chosen : (n : ℕ) → serves_run n ≡ true → Runs (chosen n)
 unfolding serves_run chosen ◌if◌else◌
@@ -52,14 +52,14 @@ run-chosen n h =
     (either (eqb n 33))
 
 -- a call that takes a run is no search
-pub runs_plain : (k : Chosen) → Runs k → is_search k ≡ false
+pub runs_plain : (k : Option Routine) → Runs k → is_search k ≡ false
 unfolding is_search
 runs_plain k is_read = refl
 runs_plain k is_write = refl
 runs_plain k is_zeros = refl
 
 -- their tables look neither into the FCB nor into the DMA
-rows_single : (k : Chosen) → Runs k → (a : Asked) (i : ℕ) (b : Buffers) → rows_of k a (single i b) ≡ rows_of k a b
+rows_single : (k : Option Routine) → Runs k → (a : Asked) (i : ℕ) (b : Buffers) → rows_of k a (single i b) ≡ rows_of k a b
 unfolding rows_of single
 rows_single k is_read a i b = refl
 rows_single k is_write a i b = refl
@@ -138,7 +138,7 @@ asked_single kind i p b long =
     ∙ ap (λ (r : ℕ). asked_by kind p 1 (unpack b.list) (caller_file p (unpack b.list) b.fcb) r b.image) (fcb_number i b.fcb long)
 
 -- a record that is done is not past the end
-end_of : (k : Chosen) → Runs k → (a : Asked) (b : Buffers) → first_of (rows_of k a b) ≡ 0 → a.record_number ≤ top a.kind
+end_of : (k : Option Routine) → Runs k → (a : Asked) (b : Buffers) → first_of (rows_of k a b) ≡ 0 → a.record_number ≤ top a.kind
 unfolding rows_of rows33 rows34 rows_may
 end_of k is_read a b z = ltb-false (top a.kind) _ (row_off 6 _ _ (λ y. omega arith) (row_rest 10 _ _ (λ y. omega arith) z))
 end_of k is_write a b z = ltb-false (top a.kind) _ (row_off 6 _ _ (λ y. omega arith) (row_rest 1023 _ _ (λ y. omega arith)

@@ -16,8 +16,8 @@ use Rattle.rules.specs.declared.kind.Kind.{Kind}
 use Rattle.rules.specs.declared.list.LockList.{LockList}
 use Rattle.rules.specs.declared.routine.Routine.TheVariants.{Open, Close, SearchFirst, SearchNext, Delete, Make, Rename, Read, Write, Size, WriteZeros}
 use Rattle.rules.specs.declared.routine.Routine.TheVariants.{TestWrite, Lock, Unlock, FreeSpace, Terminate}
-use Rattle.rules.specs.declared.routine.Chosen.{Chosen}
-use Rattle.rules.specs.declared.routine.Chosen.TheVariants.{Call, Unknown}
+use Rattle.std.specs.Prelude.{Option, Some, None}
+use Rattle.rules.specs.declared.routine.Routine.{Routine}
 use Rattle.rules.specs.Serves.{is_search, Buffers, Outcome, Did, outcome, chosen}
 use Rattle.rules.specs.Drive.{no_entry}
 use Rattle.rules.specs.Locks.{item_at, mode_unlocked, is_opened}
@@ -33,26 +33,26 @@ pub nonzero_all : (kind : Kind) (n p c : ℕ) (b : Buffers) → none_zero (rows_
 unfolding rows_inside rows_all
 nonzero_all kind n p c b = search nonzeros depth 20 fits 20000
 
-pub nonzero_of : (k : Chosen) (a : Asked) (b : Buffers) → none_zero (rows_of k a b) ≡ true
+pub nonzero_of : (k : Option Routine) (a : Asked) (b : Buffers) → none_zero (rows_of k a b) ≡ true
 unfolding rows_of rows_new rows15 rows16 rows19 rows22 rows23 rows33 rows34 rows35 rows41 rows42 rows43 rows_there rows_may rows_room rows_differ rows_run rows_lacking
     rows_take
-nonzero_of (Call Open) a b = search nonzeros depth 20 fits 20000
-nonzero_of (Call Close) a b = search nonzeros depth 20 fits 20000
-nonzero_of (Call SearchFirst) a b = search nonzeros depth 20 fits 20000
-nonzero_of (Call SearchNext) a b = search nonzeros depth 20 fits 20000
-nonzero_of (Call Delete) a b = search nonzeros depth 20 fits 20000
-nonzero_of (Call Make) a b = search nonzeros depth 20 fits 20000
-nonzero_of (Call Rename) a b = search nonzeros depth 20 fits 20000
-nonzero_of (Call Read) a b = search nonzeros depth 20 fits 20000
-nonzero_of (Call Write) a b = search nonzeros depth 20 fits 20000
-nonzero_of (Call Size) a b = search nonzeros depth 20 fits 20000
-nonzero_of (Call WriteZeros) a b = search nonzeros depth 20 fits 20000
-nonzero_of (Call TestWrite) a b = search nonzeros depth 20 fits 20000
-nonzero_of (Call Lock) a b = search nonzeros depth 20 fits 20000
-nonzero_of (Call Unlock) a b = search nonzeros depth 20 fits 20000
-nonzero_of (Call FreeSpace) a b = search nonzeros depth 20 fits 20000
-nonzero_of (Call Terminate) a b = search nonzeros depth 20 fits 20000
-nonzero_of Unknown a b = search nonzeros depth 20 fits 20000
+nonzero_of (Some Open) a b = search nonzeros depth 20 fits 20000
+nonzero_of (Some Close) a b = search nonzeros depth 20 fits 20000
+nonzero_of (Some SearchFirst) a b = search nonzeros depth 20 fits 20000
+nonzero_of (Some SearchNext) a b = search nonzeros depth 20 fits 20000
+nonzero_of (Some Delete) a b = search nonzeros depth 20 fits 20000
+nonzero_of (Some Make) a b = search nonzeros depth 20 fits 20000
+nonzero_of (Some Rename) a b = search nonzeros depth 20 fits 20000
+nonzero_of (Some Read) a b = search nonzeros depth 20 fits 20000
+nonzero_of (Some Write) a b = search nonzeros depth 20 fits 20000
+nonzero_of (Some Size) a b = search nonzeros depth 20 fits 20000
+nonzero_of (Some WriteZeros) a b = search nonzeros depth 20 fits 20000
+nonzero_of (Some TestWrite) a b = search nonzeros depth 20 fits 20000
+nonzero_of (Some Lock) a b = search nonzeros depth 20 fits 20000
+nonzero_of (Some Unlock) a b = search nonzeros depth 20 fits 20000
+nonzero_of (Some FreeSpace) a b = search nonzeros depth 20 fits 20000
+nonzero_of (Some Terminate) a b = search nonzeros depth 20 fits 20000
+nonzero_of None a b = search nonzeros depth 20 fits 20000
 
 pub nonzero_call : (kind : Kind) (n p c : ℕ) (b : Buffers) → none_zero (rows_call kind n p c b) ≡ true
 unfolding rows_call
@@ -64,31 +64,31 @@ below_all : (kind : Kind) (n p c : ℕ) (b : Buffers) → codes_below 4096 (rows
 unfolding rows_inside rows_all
 below_all kind n p c b = search belows depth 20 fits 20000
 
-below_of : (k : Chosen) (a : Asked) (b : Buffers) → codes_below 4096 (rows_of k a b) ≡ true
+below_of : (k : Option Routine) (a : Asked) (b : Buffers) → codes_below 4096 (rows_of k a b) ≡ true
 unfolding rows_of rows_new rows15 rows16 rows19 rows22 rows23 rows33 rows34 rows35 rows41 rows42 rows43 rows_there rows_may rows_room rows_differ rows_run rows_lacking
     rows_take
-below_of (Call Open) a b = search belows depth 20 fits 20000
-below_of (Call Close) a b = search belows depth 20 fits 20000
-below_of (Call SearchFirst) a b = search belows depth 20 fits 20000
-below_of (Call SearchNext) a b = search belows depth 20 fits 20000
-below_of (Call Delete) a b = search belows depth 20 fits 20000
-below_of (Call Make) a b = search belows depth 20 fits 20000
-below_of (Call Rename) a b = search belows depth 20 fits 20000
-below_of (Call Read) a b = search belows depth 20 fits 20000
-below_of (Call Write) a b = search belows depth 20 fits 20000
-below_of (Call Size) a b = search belows depth 20 fits 20000
-below_of (Call WriteZeros) a b = search belows depth 20 fits 20000
-below_of (Call TestWrite) a b = search belows depth 20 fits 20000
-below_of (Call Lock) a b = search belows depth 20 fits 20000
-below_of (Call Unlock) a b = search belows depth 20 fits 20000
-below_of (Call FreeSpace) a b = search belows depth 20 fits 20000
-below_of (Call Terminate) a b = search belows depth 20 fits 20000
-below_of Unknown a b = search belows depth 20 fits 20000
+below_of (Some Open) a b = search belows depth 20 fits 20000
+below_of (Some Close) a b = search belows depth 20 fits 20000
+below_of (Some SearchFirst) a b = search belows depth 20 fits 20000
+below_of (Some SearchNext) a b = search belows depth 20 fits 20000
+below_of (Some Delete) a b = search belows depth 20 fits 20000
+below_of (Some Make) a b = search belows depth 20 fits 20000
+below_of (Some Rename) a b = search belows depth 20 fits 20000
+below_of (Some Read) a b = search belows depth 20 fits 20000
+below_of (Some Write) a b = search belows depth 20 fits 20000
+below_of (Some Size) a b = search belows depth 20 fits 20000
+below_of (Some WriteZeros) a b = search belows depth 20 fits 20000
+below_of (Some TestWrite) a b = search belows depth 20 fits 20000
+below_of (Some Lock) a b = search belows depth 20 fits 20000
+below_of (Some Unlock) a b = search belows depth 20 fits 20000
+below_of (Some FreeSpace) a b = search belows depth 20 fits 20000
+below_of (Some Terminate) a b = search belows depth 20 fits 20000
+below_of None a b = search belows depth 20 fits 20000
 
 pub all_below : (kind : Kind) (n p c : ℕ) (b : Buffers) → first_of (rows_all kind n p c b) < 4096
 all_below kind n p c b = first_below 4096 _ (omega arith) (below_all kind n p c b)
 
-pub of_below : (k : Chosen) (a : Asked) (b : Buffers) → first_of (rows_of k a b) < 4096
+pub of_below : (k : Option Routine) (a : Asked) (b : Buffers) → first_of (rows_of k a b) < 4096
 of_below k a b = first_below 4096 _ (omega arith) (below_of k a b)
 
 pub call_below : (kind : Kind) (n p c : ℕ) (b : Buffers) → first_of (rows_call kind n p c b) < 4096
@@ -136,25 +136,25 @@ unfolding ◌if◌else◌
 if_zero true x y h k = h
 if_zero false x y h k = k
 
-pub effect_zero : (k : Chosen) (a : Asked) (b : Buffers) → is_search k ≡ false → (effect_of k a b).answer ≡ 0 ∕ 0
+pub effect_zero : (k : Option Routine) (a : Asked) (b : Buffers) → is_search k ≡ false → (effect_of k a b).answer ≡ 0 ∕ 0
 unfolding is_search effect_of does15 does16 does19 does22 makes does23 does33 does34 does35 does41 does42 does43 does46 does143
-effect_zero (Call Open) a b h = if_zero (is_opened a.place) _ _ refl refl
-effect_zero (Call Close) a b h = refl
-effect_zero (Call SearchFirst) a b h = absurd (true≢false h)
-effect_zero (Call SearchNext) a b h = absurd (true≢false h)
-effect_zero (Call Delete) a b h = refl
-effect_zero (Call Make) a b h = refl
-effect_zero (Call Rename) a b h = refl
-effect_zero (Call Read) a b h = refl
-effect_zero (Call Write) a b h = refl
-effect_zero (Call Size) a b h = refl
-effect_zero (Call WriteZeros) a b h = refl
-effect_zero (Call TestWrite) a b h = refl
-effect_zero (Call Lock) a b h = if_zero (eqb (item_at a.list a.place).mode mode_unlocked) _ _ refl refl
-effect_zero (Call Unlock) a b h = if_zero (eqb (item_at a.list a.place).mode mode_unlocked) _ _ refl refl
-effect_zero (Call FreeSpace) a b h = refl
-effect_zero (Call Terminate) a b h = refl
-effect_zero Unknown a b h = refl
+effect_zero (Some Open) a b h = if_zero (is_opened a.place) _ _ refl refl
+effect_zero (Some Close) a b h = refl
+effect_zero (Some SearchFirst) a b h = absurd (true≢false h)
+effect_zero (Some SearchNext) a b h = absurd (true≢false h)
+effect_zero (Some Delete) a b h = refl
+effect_zero (Some Make) a b h = refl
+effect_zero (Some Rename) a b h = refl
+effect_zero (Some Read) a b h = refl
+effect_zero (Some Write) a b h = refl
+effect_zero (Some Size) a b h = refl
+effect_zero (Some WriteZeros) a b h = refl
+effect_zero (Some TestWrite) a b h = refl
+effect_zero (Some Lock) a b h = if_zero (eqb (item_at a.list a.place).mode mode_unlocked) _ _ refl refl
+effect_zero (Some Unlock) a b h = if_zero (eqb (item_at a.list a.place).mode mode_unlocked) _ _ refl refl
+effect_zero (Some FreeSpace) a b h = refl
+effect_zero (Some Terminate) a b h = refl
+effect_zero None a b h = refl
 
 -- a search answers a place in the directory record, 0 to 3, or 255/0
 pub search_answers : (kind : Kind) (p : ℕ) (l : LockList) (e : ℕ) (b : Buffers)
@@ -163,29 +163,29 @@ unfolding searched finds finds_none ◌if◌else◌
 search_answers kind p l e b =
     ⊎_elim (λ (h : no_entry kind e ≡ true). inr (rw h)) (λ (h : no_entry kind e ≡ false). inl (rw h (omega arith))) (either (no_entry kind e))
 
-success : (k : Chosen) (a : Asked) (b : Buffers) → is_search k ≡ false → ((effect_of k a b).answer < 4) ⊎ ((effect_of k a b).answer ≡ 255 ∕ 0)
+success : (k : Option Routine) (a : Asked) (b : Buffers) → is_search k ≡ false → ((effect_of k a b).answer < 4) ⊎ ((effect_of k a b).answer ≡ 255 ∕ 0)
 success k a b h = inl (rw (effect_zero k a b h) (omega arith))
 
 -- so does every effect: 0/0 is one of these
-pub effect_answers : (k : Chosen) (a : Asked) (b : Buffers) → ((effect_of k a b).answer < 4) ⊎ ((effect_of k a b).answer ≡ 255 ∕ 0)
+pub effect_answers : (k : Option Routine) (a : Asked) (b : Buffers) → ((effect_of k a b).answer < 4) ⊎ ((effect_of k a b).answer ≡ 255 ∕ 0)
 unfolding is_search
-effect_answers (Call SearchFirst) a b = unfold effect_of does17 in search_answers a.kind a.process a.list _ b
-effect_answers (Call SearchNext) a b = unfold effect_of does18 in search_answers a.kind a.process a.list _ b
-effect_answers (Call Open) a b = success (Call Open) a b refl
-effect_answers (Call Close) a b = success (Call Close) a b refl
-effect_answers (Call Delete) a b = success (Call Delete) a b refl
-effect_answers (Call Make) a b = success (Call Make) a b refl
-effect_answers (Call Rename) a b = success (Call Rename) a b refl
-effect_answers (Call Read) a b = success (Call Read) a b refl
-effect_answers (Call Write) a b = success (Call Write) a b refl
-effect_answers (Call Size) a b = success (Call Size) a b refl
-effect_answers (Call WriteZeros) a b = success (Call WriteZeros) a b refl
-effect_answers (Call TestWrite) a b = success (Call TestWrite) a b refl
-effect_answers (Call Lock) a b = success (Call Lock) a b refl
-effect_answers (Call Unlock) a b = success (Call Unlock) a b refl
-effect_answers (Call FreeSpace) a b = success (Call FreeSpace) a b refl
-effect_answers (Call Terminate) a b = success (Call Terminate) a b refl
-effect_answers Unknown a b = success Unknown a b refl
+effect_answers (Some SearchFirst) a b = unfold effect_of does17 in search_answers a.kind a.process a.list _ b
+effect_answers (Some SearchNext) a b = unfold effect_of does18 in search_answers a.kind a.process a.list _ b
+effect_answers (Some Open) a b = success (Some Open) a b refl
+effect_answers (Some Close) a b = success (Some Close) a b refl
+effect_answers (Some Delete) a b = success (Some Delete) a b refl
+effect_answers (Some Make) a b = success (Some Make) a b refl
+effect_answers (Some Rename) a b = success (Some Rename) a b refl
+effect_answers (Some Read) a b = success (Some Read) a b refl
+effect_answers (Some Write) a b = success (Some Write) a b refl
+effect_answers (Some Size) a b = success (Some Size) a b refl
+effect_answers (Some WriteZeros) a b = success (Some WriteZeros) a b refl
+effect_answers (Some TestWrite) a b = success (Some TestWrite) a b refl
+effect_answers (Some Lock) a b = success (Some Lock) a b refl
+effect_answers (Some Unlock) a b = success (Some Unlock) a b refl
+effect_answers (Some FreeSpace) a b = success (Some FreeSpace) a b refl
+effect_answers (Some Terminate) a b = success (Some Terminate) a b refl
+effect_answers None a b = success None a b refl
 
 module _ (kind : Kind) (n p c : ℕ) (b : Buffers) where
   -- the answer is 0/0 only where no row applies, ..

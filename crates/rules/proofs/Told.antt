@@ -1,4 +1,5 @@
 -- A book of one size of drive is never read as of the other. Assumes nothing.
+use Rattle.std.specs.Prelude.{Err}
 use Prim.Native.Nat.{ℕ}
 use mathlib.Core.Path.{◌≡◌, refl, sym, ap, ◌∙◌}
 use mathlib.Core.Bool.{true, false, not}
@@ -12,7 +13,7 @@ use Rattle.words.specs.Tables.{◌∕◌, first_of}
 use Rattle.words.proofs.Tests.{either}
 use Rattle.words.proofs.Sets.{row_yes, row_no}
 use Rattle.rules.specs.declared.kind.Kind.{Kind}
-use Rattle.rules.specs.declared.answer.ImageAnswer.TheVariants.{WrongLength}
+use Rattle.rules.specs.declared.answer.ImageFault.TheVariants.{WrongLength}
 use Rattle.rules.specs.Serves.{Buffers, outcome}
 use Rattle.rules.specs.Drive.{good_length, sound_image, image_check}
 use Rattle.rules.specs.Look.{may_look, look_block, part_at, look_at}
@@ -50,7 +51,7 @@ module _ (own kind : Kind) (other : is_large own ≡ is_large kind → ⊥) (s :
   other_sound = rw other_length
 
   -- .. the image check answers 1, ..
-  pub other_check : image_check kind s ≡ WrongLength
+  pub other_check : image_check kind s ≡ (Err WrongLength)
   unfolding image_check ◌if◌else◌
   other_check = rw other_length
 

@@ -1,13 +1,13 @@
 -- "The drive". Assumes nothing.
-use Rattle.std.specs.Prelude.{ℕ, ◌+◌, ◌*◌, ◌/◌, ◌%◌, Bool, true, false, not, List, [], ◌∷◌, length, leb, ltb, eqb}
+use Rattle.std.specs.Prelude.{ℕ, ◌+◌, ◌*◌, ◌/◌, ◌%◌, Bool, true, false, not, List, [], ◌∷◌, length, leb, ltb, eqb, Result, Ok, Err}
 use Rattle.words.specs.Tests.{◌and◌, ◌or◌, ◌if◌else◌, all, any, lowest, greatest, count}
 use Rattle.words.specs.Lists.{tab}
 use Rattle.words.specs.Bytes.{byte, low_from, number_at}
 use Rattle.words.specs.Tables.{Row, ◌when◌, first_of}
 use Rattle.rules.specs.declared.kind.Kind.{Kind}
 use Rattle.rules.specs.Kinds.{block_size, block_records, fewest, most, entries, numbers, width, last_module}
-use Rattle.rules.specs.declared.answer.ImageAnswer.{ImageAnswer}
-use Rattle.rules.specs.declared.answer.ImageAnswer.TheVariants.{Sound, WrongLength, BadUser, BadName, BadNumbers, BlockOutside, BlockBefore, ExtentBefore, NoFirst}
+use Rattle.rules.specs.declared.answer.ImageFault.{ImageFault}
+use Rattle.rules.specs.declared.answer.ImageFault.TheVariants.{WrongLength, BadUser, BadName, BadNumbers, BlockOutside, BlockBefore, ExtentBefore, NoFirst}
 use Rattle.rules.specs.declared.file.File.{File}
 use Rattle.rules.specs.declared.file.Found.{Found}
 
@@ -247,7 +247,7 @@ reasons kind s e =
 unfoldable pub reason : Kind → List ℕ → ℕ → ℕ
 reason kind s e = 0 if is_empty s e else first_of (reasons kind s e)
 
-unfoldable pub bad_for : ℕ → ℕ → ImageAnswer
+unfoldable pub bad_for : ℕ → ℕ → ImageFault
 bad_for why e =
     BadUser e if eqb why 2 else
     BadName e if eqb why 3 else
@@ -264,8 +264,8 @@ unfoldable pub bad_entry : Kind → List ℕ → ℕ
 bad_entry kind s = lowest (is_bad kind s) (entries kind)
 
 -- .. what they answer; ..
-unfoldable pub judged : Kind → List ℕ → ImageAnswer
-judged kind s = Sound if no_entry kind (bad_entry kind s) else bad_for (reason kind s (bad_entry kind s)) (bad_entry kind s)
+unfoldable pub judged : Kind → List ℕ → Result (Unit {0}) ImageFault
+judged kind s = Ok tt if no_entry kind (bad_entry kind s) else Err (bad_for (reason kind s (bad_entry kind s)) (bad_entry kind s))
 
 -- .. then 8, given last of all, for the lowest entry of a file lacking extent 0.
 unfoldable pub lacks_first : Kind → List ℕ → ℕ → Bool
@@ -274,50 +274,49 @@ lacks_first kind s e = not (has_first kind s e)
 unfoldable pub headless : Kind → List ℕ → ℕ
 headless kind s = lowest (lacks_first kind s) (entries kind)
 
-unfoldable pub is_sound : ImageAnswer → Bool
-is_sound Sound = true
-is_sound WrongLength = false
-is_sound (BadUser e) = false
-is_sound (BadName e) = false
-is_sound (BadNumbers e) = false
-is_sound (BlockOutside e) = false
-is_sound (BlockBefore e) = false
-is_sound (ExtentBefore e) = false
-is_sound (NoFirst e) = false
+unfoldable pub is_sound : Result (Unit {0}) ImageFault → Bool
+is_sound (Ok x) = true
+is_sound (Err f) = false
 
-unfoldable pub directory_answer : Kind → List ℕ → ImageAnswer
+unfoldable pub directory_answer : Kind → List ℕ → Result (Unit {0}) ImageFault
 directory_answer kind s =
     judged kind s if not (is_sound (judged kind s)) else
-    Sound if no_entry kind (headless kind s) else
-    NoFirst (headless kind s)
+    Ok tt if no_entry kind (headless kind s) else
+    Err (NoFirst (headless kind s))
 
-unfoldable pub image_check : Kind → List ℕ → ImageAnswer
-image_check kind s = WrongLength if not (good_length kind s) else directory_answer kind s
+unfoldable pub image_check : Kind → List ℕ → Result (Unit {0}) ImageFault
+image_check kind s = Err WrongLength if not (good_length kind s) else directory_answer kind s
 
 -- The number of an answer; ..
-unfoldable pub image_number : ImageAnswer → ℕ
-image_number Sound = 0
-image_number WrongLength = 1
-image_number (BadUser e) = 2
-image_number (BadName e) = 3
-image_number (BadNumbers e) = 4
-image_number (BlockOutside e) = 5
-image_number (BlockBefore e) = 6
-image_number (ExtentBefore e) = 7
-image_number (NoFirst e) = 8
+unfoldable pub fault_number : ImageFault → ℕ
+fault_number WrongLength = 1
+fault_number (BadUser e) = 2
+fault_number (BadName e) = 3
+fault_number (BadNumbers e) = 4
+fault_number (BlockOutside e) = 5
+fault_number (BlockBefore e) = 6
+fault_number (ExtentBefore e) = 7
+fault_number (NoFirst e) = 8
+
+unfoldable pub image_number : Result (Unit {0}) ImageFault → ℕ
+image_number (Ok x) = 0
+image_number (Err f) = fault_number f
 
 -- .. the entry that it tells: 0 and 1 tell entry 0.
-unfoldable pub image_entry : ImageAnswer → ℕ
-image_entry Sound = 0
-image_entry WrongLength = 0
-image_entry (BadUser e) = e
-image_entry (BadName e) = e
-image_entry (BadNumbers e) = e
-image_entry (BlockOutside e) = e
-image_entry (BlockBefore e) = e
-image_entry (ExtentBefore e) = e
-image_entry (NoFirst e) = e
+unfoldable pub fault_entry : ImageFault → ℕ
+fault_entry WrongLength = 0
+fault_entry (BadUser e) = e
+fault_entry (BadName e) = e
+fault_entry (BadNumbers e) = e
+fault_entry (BlockOutside e) = e
+fault_entry (BlockBefore e) = e
+fault_entry (ExtentBefore e) = e
+fault_entry (NoFirst e) = e
+
+unfoldable pub image_entry : Result (Unit {0}) ImageFault → ℕ
+image_entry (Ok x) = 0
+image_entry (Err f) = fault_entry f
 
 -- both in one number, as a C host gets them
-unfoldable pub image_told : ImageAnswer → ℕ
+unfoldable pub image_told : Result (Unit {0}) ImageFault → ℕ
 image_told a = image_number a + 256 * image_entry a

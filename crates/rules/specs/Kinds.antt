@@ -1,20 +1,18 @@
 -- The kinds of drive and their sizes (T-09), and the rule that the book's programs are written to (T-11). Assumes nothing.
-use Rattle.std.specs.Prelude.{ℕ, Bool, true, false, eqb}
+use Rattle.std.specs.Prelude.{ℕ, Bool, true, false, eqb, Option, Some, None}
 use Rattle.words.specs.Tests.{◌if◌else◌}
 use Rattle.rules.specs.declared.kind.Rule.{Rule}
 use Rattle.rules.specs.declared.kind.Rule.TheVariants.{Mpm, Cpm}
 use Rattle.rules.specs.declared.kind.Kind.{Kind}
 use Rattle.rules.specs.declared.kind.Kind.TheVariants.{Small, Large}
-use Rattle.rules.specs.declared.kind.Told.{Told}
-use Rattle.rules.specs.declared.kind.Told.TheVariants.{Known, Other}
 
 -- 0 MP/M II, 1 CP/M 2.2; "anything but 1 being rule 0"
 unfoldable pub told_rule : ℕ → Rule
 told_rule n = Cpm if eqb n 1 else Mpm
 
 -- the kind that a number tells: 0 the first, 1 the second, no other number; with the rule of the book
-unfoldable pub told_kind : ℕ → Rule → Told
-told_kind n u = Known (Small u) if eqb n 0 else Known (Large u) if eqb n 1 else Other
+unfoldable pub told_kind : ℕ → Rule → Option Kind
+told_kind n u = Some (Small u) if eqb n 0 else Some (Large u) if eqb n 1 else None
 
 unfoldable pub rule_of : Kind → Rule
 rule_of (Small u) = u

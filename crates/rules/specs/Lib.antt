@@ -1,4 +1,5 @@
 pub mod Kinds
+pub mod Refusals
 pub mod Serves
 pub mod Drive
 pub mod Checks

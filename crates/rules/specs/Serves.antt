@@ -1,10 +1,8 @@
 -- "What the engine serves". Assumes nothing.
-use Rattle.std.specs.Prelude.{ℕ, ◌≡◌, Bool, true, false, List, eqb}
+use Rattle.std.specs.Prelude.{ℕ, ◌≡◌, Bool, true, false, List, eqb, Option, Some, None}
 use Rattle.words.specs.Tests.{◌if◌else◌}
 use Rattle.rules.specs.declared.routine.Routine.{Routine}
 use Rattle.rules.specs.declared.routine.Routine.TheVariants.{Open, Close, SearchFirst, SearchNext, Delete, Make, Rename, Read, Write, Size, WriteZeros, TestWrite, Lock, Unlock, FreeSpace, Terminate}
-use Rattle.rules.specs.declared.routine.Chosen.{Chosen}
-use Rattle.rules.specs.declared.routine.Chosen.TheVariants.{Call, Unknown}
 
 -- Sixteen processes, 0 to 15.
 abbrev pub processes : ℕ
@@ -32,49 +30,49 @@ function_of FreeSpace = 46
 function_of Terminate = 143
 
 -- the call that a function number chooses
-unfoldable pub chosen : ℕ → Chosen
+unfoldable pub chosen : ℕ → Option Routine
 chosen n =
-    Call Open if eqb n 15 else
-    Call Close if eqb n 16 else
-    Call SearchFirst if eqb n 17 else
-    Call SearchNext if eqb n 18 else
-    Call Delete if eqb n 19 else
-    Call Make if eqb n 22 else
-    Call Rename if eqb n 23 else
-    Call Read if eqb n 33 else
-    Call Write if eqb n 34 else
-    Call Size if eqb n 35 else
-    Call WriteZeros if eqb n 40 else
-    Call TestWrite if eqb n 41 else
-    Call Lock if eqb n 42 else
-    Call Unlock if eqb n 43 else
-    Call FreeSpace if eqb n 46 else
-    Call Terminate if eqb n 143 else
-    Unknown
+    Some Open if eqb n 15 else
+    Some Close if eqb n 16 else
+    Some SearchFirst if eqb n 17 else
+    Some SearchNext if eqb n 18 else
+    Some Delete if eqb n 19 else
+    Some Make if eqb n 22 else
+    Some Rename if eqb n 23 else
+    Some Read if eqb n 33 else
+    Some Write if eqb n 34 else
+    Some Size if eqb n 35 else
+    Some WriteZeros if eqb n 40 else
+    Some TestWrite if eqb n 41 else
+    Some Lock if eqb n 42 else
+    Some Unlock if eqb n 43 else
+    Some FreeSpace if eqb n 46 else
+    Some Terminate if eqb n 143 else
+    None
 
-unfoldable pub is_unknown : Chosen → Bool
-is_unknown (Call k) = false
-is_unknown Unknown = true
+unfoldable pub is_unknown : Option Routine → Bool
+is_unknown (Some k) = false
+is_unknown None = true
 
 -- 17 and 18, whose answer is no 0/0 where they are accepted (T-02)
-unfoldable pub is_search : Chosen → Bool
-is_search (Call SearchFirst) = true
-is_search (Call SearchNext) = true
-is_search (Call Open) = false
-is_search (Call Close) = false
-is_search (Call Delete) = false
-is_search (Call Make) = false
-is_search (Call Rename) = false
-is_search (Call Read) = false
-is_search (Call Write) = false
-is_search (Call Size) = false
-is_search (Call WriteZeros) = false
-is_search (Call TestWrite) = false
-is_search (Call Lock) = false
-is_search (Call Unlock) = false
-is_search (Call FreeSpace) = false
-is_search (Call Terminate) = false
-is_search Unknown = false
+unfoldable pub is_search : Option Routine → Bool
+is_search (Some SearchFirst) = true
+is_search (Some SearchNext) = true
+is_search (Some Open) = false
+is_search (Some Close) = false
+is_search (Some Delete) = false
+is_search (Some Make) = false
+is_search (Some Rename) = false
+is_search (Some Read) = false
+is_search (Some Write) = false
+is_search (Some Size) = false
+is_search (Some WriteZeros) = false
+is_search (Some TestWrite) = false
+is_search (Some Lock) = false
+is_search (Some Unlock) = false
+is_search (Some FreeSpace) = false
+is_search (Some Terminate) = false
+is_search None = false
 
 -- A call has four separate lent buffers: FCB (36 bytes), DMA (2,048 since T-07), list (1,316 since T-11), image.
 abbrev pub fcb_size : ℕ

@@ -1,10 +1,9 @@
 ghost use Rattle.std.specs.Prelude.{◌≡◌, ◌<◌};
-ghost use Rattle.rules.specs.Drive.{is_sound, image_number, image_entry, image_told};
+ghost use Rattle.rules.specs.Drive.{fault_number, fault_entry, image_number, image_entry, image_told};
 
-// What the image check finds; where an entry is bad, which.
+// What is wrong with an image; where an entry is bad, which.
 #[derive(Clone, Copy)]
-pub enum ImageAnswer {
-    Sound,
+pub enum ImageFault {
     WrongLength,
     BadUser(usize),
     BadName(usize),
@@ -15,61 +14,69 @@ pub enum ImageAnswer {
     NoFirst(usize),
 }
 
-// The number of an answer.
-pub fn image_number(answer: ImageAnswer) -> u32
+impl ImageFault {
+    // Its number.
+    #[tactic(auto, unfolding(crate::specs::Drive::fault_number))]
+    pub fn number(self) -> u32
+        ensures { (result ≡ fault_number self) × (result < 9) }
+    {
+        match self {
+            ImageFault::WrongLength => 1,
+            ImageFault::BadUser(_) => 2,
+            ImageFault::BadName(_) => 3,
+            ImageFault::BadNumbers(_) => 4,
+            ImageFault::BlockOutside(_) => 5,
+            ImageFault::BlockBefore(_) => 6,
+            ImageFault::ExtentBefore(_) => 7,
+            ImageFault::NoFirst(_) => 8,
+        }
+    }
+
+    // The entry that it tells.
+    #[tactic(auto, unfolding(crate::specs::Drive::fault_entry))]
+    pub fn entry(self) -> usize
+        ensures { result ≡ fault_entry self }
+    {
+        match self {
+            ImageFault::WrongLength => 0,
+            ImageFault::BadUser(e)
+            | ImageFault::BadName(e)
+            | ImageFault::BadNumbers(e)
+            | ImageFault::BlockOutside(e)
+            | ImageFault::BlockBefore(e)
+            | ImageFault::ExtentBefore(e)
+            | ImageFault::NoFirst(e) => e,
+        }
+    }
+}
+
+// The number of the image check's answer.
+#[tactic(auto, unfolding(crate::specs::Drive::image_number))]
+pub fn image_number(answer: Result<(), ImageFault>) -> u32
     ensures { (result ≡ image_number answer) × (result < 9) }
 {
     match answer {
-        ImageAnswer::Sound => 0,
-        ImageAnswer::WrongLength => 1,
-        ImageAnswer::BadUser(_) => 2,
-        ImageAnswer::BadName(_) => 3,
-        ImageAnswer::BadNumbers(_) => 4,
-        ImageAnswer::BlockOutside(_) => 5,
-        ImageAnswer::BlockBefore(_) => 6,
-        ImageAnswer::ExtentBefore(_) => 7,
-        ImageAnswer::NoFirst(_) => 8,
+        Ok(()) => 0,
+        Err(fault) => fault.number(),
     }
 }
 
 // The entry that it tells.
-pub fn image_entry(answer: ImageAnswer) -> usize
+#[tactic(auto, unfolding(crate::specs::Drive::image_entry))]
+pub fn image_entry(answer: Result<(), ImageFault>) -> usize
     ensures { result ≡ image_entry answer }
 {
     match answer {
-        ImageAnswer::Sound => 0,
-        ImageAnswer::WrongLength => 0,
-        ImageAnswer::BadUser(e) => e,
-        ImageAnswer::BadName(e) => e,
-        ImageAnswer::BadNumbers(e) => e,
-        ImageAnswer::BlockOutside(e) => e,
-        ImageAnswer::BlockBefore(e) => e,
-        ImageAnswer::ExtentBefore(e) => e,
-        ImageAnswer::NoFirst(e) => e,
+        Ok(()) => 0,
+        Err(fault) => fault.entry(),
     }
 }
 
 // Both in one number, as a C host gets them.
-pub fn image_told(answer: ImageAnswer) -> u32
+#[tactic(auto, unfolding(crate::specs::Drive::image_told))]
+pub fn image_told(answer: Result<(), ImageFault>) -> u32
     requires { image_entry answer < 256 }
     ensures { result ≡ image_told answer }
 {
     image_number(answer) + 256 * (image_entry(answer) as u32)
-}
-
-// No entry is bad.
-pub fn is_sound(answer: ImageAnswer) -> bool
-    ensures { result ≡ is_sound answer }
-{
-    match answer {
-        ImageAnswer::Sound => true,
-        ImageAnswer::WrongLength => false,
-        ImageAnswer::BadUser(_) => false,
-        ImageAnswer::BadName(_) => false,
-        ImageAnswer::BadNumbers(_) => false,
-        ImageAnswer::BlockOutside(_) => false,
-        ImageAnswer::BlockBefore(_) => false,
-        ImageAnswer::ExtentBefore(_) => false,
-        ImageAnswer::NoFirst(_) => false,
-    }
 }

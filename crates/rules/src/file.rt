@@ -1,5 +1,5 @@
 // A file is a user and a name: its eleven bytes with the high bits clear.
-#[derive(Clone, Copy)]
+#[derive(Clone, Copy, PartialEq, Eq)]
 pub struct File {
     pub user: u8,
     pub name: [u8; 11],

@@ -2,27 +2,22 @@ ghost use Rattle.std.specs.Prelude.{◌≡◌, ◌≤◌, ltb};
 ghost use Rattle.rules.specs.Kinds.{told_rule, told_kind, rule_of, block_size, block_records, fewest, most, vector_size, entries, numbers, highest, top, last_module};
 
 // The rule that a book's programs are written to: MP/M II's, or CP/M 2.2's.
-#[derive(Clone, Copy)]
+#[derive(Clone, Copy, PartialEq, Eq)]
 pub enum Rule {
     Mpm,
     Cpm,
 }
 
-// The kind of a drive: blocks of 1,024 bytes and one-byte block numbers, or of 2,048 bytes and two-byte numbers; and the rule of its book.
-#[derive(Clone, Copy)]
+// The kind of a drive: blocks of 1,024 bytes and one-byte block numbers, or of 2,048 bytes and two-byte numbers; and
+// the rule of its book.
+#[derive(Clone, Copy, PartialEq, Eq)]
 pub enum Kind {
     Small(Rule),
     Large(Rule),
 }
 
-// What a number tells of the kind.
-#[derive(Clone, Copy)]
-pub enum Told {
-    Known(Kind),
-    Other,
-}
-
 // The rule that a number tells.
+#[tactic(auto, using(words::proofs::Sets::keys), unfolding(crate::specs::Kinds::told_rule))]
 pub fn told_rule(number: u32) -> Rule
     ensures { result ≡ told_rule number }
 {
@@ -33,17 +28,19 @@ pub fn told_rule(number: u32) -> Rule
 }
 
 // The kind that a number tells, with that rule.
-pub fn told_kind(number: u32, rule: Rule) -> Told
+#[tactic(auto, using(words::proofs::Sets::keys), unfolding(crate::specs::Kinds::told_kind))]
+pub fn told_kind(number: u32, rule: Rule) -> Option<Kind>
     ensures { result ≡ told_kind number rule }
 {
     match number {
-        0 => Told::Known(Kind::Small(rule)),
-        1 => Told::Known(Kind::Large(rule)),
-        _ => Told::Other,
+        0 => Some(Kind::Small(rule)),
+        1 => Some(Kind::Large(rule)),
+        _ => None,
     }
 }
 
 // Bytes to a block.
+#[tactic(auto, unfolding(crate::specs::Kinds::block_size))]
 pub fn block_size(kind: Kind) -> usize
     ensures { (result ≡ block_size kind) × (1024 ≤ result) × (result ≤ 2048) }
 {
@@ -54,6 +51,7 @@ pub fn block_size(kind: Kind) -> usize
 }
 
 // Records to a block.
+#[tactic(auto, unfolding(crate::specs::Kinds::block_records))]
 pub fn block_records(kind: Kind) -> usize
     ensures { (result ≡ block_records kind) × (8 ≤ result) × (result ≤ 16) }
 {
@@ -64,6 +62,7 @@ pub fn block_records(kind: Kind) -> usize
 }
 
 // Entries of the directory.
+#[tactic(auto, unfolding(crate::specs::Kinds::entries))]
 pub fn entries(kind: Kind) -> usize
     ensures { (result ≡ entries kind) × (64 ≤ result) × (result ≤ 128) }
 {
@@ -74,6 +73,7 @@ pub fn entries(kind: Kind) -> usize
 }
 
 // Block numbers to an entry.
+#[tactic(auto, unfolding(crate::specs::Kinds::numbers))]
 pub fn numbers(kind: Kind) -> usize
     ensures { (result ≡ numbers kind) × (8 ≤ result) × (result ≤ 16) }
 {
@@ -84,6 +84,7 @@ pub fn numbers(kind: Kind) -> usize
 }
 
 // The fewest blocks of a drive, and the most.
+#[tactic(auto, unfolding(crate::specs::Kinds::fewest))]
 pub fn fewest(kind: Kind) -> usize
     ensures { result ≡ fewest kind }
 {
@@ -93,6 +94,7 @@ pub fn fewest(kind: Kind) -> usize
     }
 }
 
+#[tactic(auto, unfolding(crate::specs::Kinds::most))]
 pub fn most(kind: Kind) -> usize
     ensures { result ≡ most kind }
 {
@@ -103,6 +105,7 @@ pub fn most(kind: Kind) -> usize
 }
 
 // Bytes to a vector: a bit for each of the most blocks.
+#[tactic(auto, unfolding(crate::specs::Kinds::vector_size))]
 pub fn vector_size(kind: Kind) -> usize
     ensures { (result ≡ vector_size kind) × (result ≤ 512) }
 {
@@ -113,16 +116,17 @@ pub fn vector_size(kind: Kind) -> usize
 }
 
 // The rule of a kind.
+#[tactic(auto, unfolding(crate::specs::Kinds::rule_of))]
 fn rule_of(kind: Kind) -> Rule
     ensures { result ≡ rule_of kind }
 {
     match kind {
-        Kind::Small(rule) => rule,
-        Kind::Large(rule) => rule,
+        Kind::Small(rule) | Kind::Large(rule) => rule,
     }
 }
 
 // The highest record number of a rule.
+#[tactic(auto, unfolding(crate::specs::Kinds::highest))]
 fn highest(rule: Rule) -> usize
     ensures { result ≡ highest rule }
 {
@@ -133,6 +137,7 @@ fn highest(rule: Rule) -> usize
 }
 
 // A record number is past the highest.
+#[tactic(auto, unfolding(crate::specs::Kinds::top))]
 pub fn is_past(kind: Kind, r: usize) -> bool
     ensures { result ≡ ltb (top kind) r }
 {
@@ -140,6 +145,7 @@ pub fn is_past(kind: Kind, r: usize) -> bool
 }
 
 // The highest record's module.
+#[tactic(auto, unfolding(crate::specs::Kinds::last_module, crate::specs::Kinds::module_of))]
 pub fn last_module(kind: Kind) -> u8
     ensures { result ≡ last_module kind }
 {

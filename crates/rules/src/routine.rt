@@ -18,10 +18,3 @@ pub enum Routine {
     FreeSpace,
     Terminate,
 }
-
-// What a function number chooses.
-#[derive(Clone, Copy)]
-pub enum Chosen {
-    Call(Routine),
-    Unknown,
-}

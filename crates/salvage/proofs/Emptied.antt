@@ -1,14 +1,6 @@
 -- The first two passes as the code's needs ask them: emptying an entry keeps what the hints know. Assumes nothing.
-use Prim.Native.Nat.{ℕ, ◌+◌, ◌*◌, ◌≤◌, ◌<◌}
-use mathlib.Core.Path.{◌≡◌, refl, sym, ap, ◌∙◌}
-use mathlib.Core.Bool.{Bool, true, false, not}
-use mathlib.Core.List.{List}
-use mathlib.Core.Logic.{⊎_elim}
-use native.Mathlib.Omega.{arith}
-use lib.ListN.{length, set}
-use lib.Dec.{eqb}
-use borrow.Author.Rules.{rules}
-use borrow.Author.Tests.{eq-eqb, ne_eqb, not-true, not-false}
+use Rattle.std.proofs.Common.{Result, Ok, Err, is_ok, is_err, ℕ, ◌+◌, ◌*◌, ◌≤◌, ◌<◌, ◌≡◌, refl, sym, ap, ◌∙◌, Bool, true, false, not, List, ⊎_elim}
+use Rattle.std.proofs.Common.{arith, length, set, eqb, rules, eq-eqb, ne_eqb}
 use Rattle.words.specs.Lists.{tab, turns}
 use Rattle.words.specs.Tables.{first_of}
 use Rattle.words.specs.Hints.{Hints}
@@ -22,7 +14,8 @@ use Rattle.rules.specs.Drive.{is_empty, good_fields, has_first}
 use Rattle.rules.proofs.Frames.{Same, head_of, empty_same, extent_same, file_same}
 use Rattle.index.specs.Slots.{slot_at, in_use}
 use Rattle.index.proofs.Slots.{known_empty}
-use Rattle.drive.specs.Marks.{field_reasons}
+use Rattle.rules.specs.declared.answer.ImageFault.{ImageFault}
+use Rattle.drive.specs.Marks.{field_reasons, told_for}
 use Rattle.drive.specs.Walks.{Repeats}
 use Rattle.drive.proofs.Marks.{fields_good}
 use Rattle.drive.proofs.Walks.{entry-byte, known_none}
@@ -70,6 +63,10 @@ module _ (s : List ℕ) (e : ℕ) (fits : 32 * e + 32 ≤ length s) where
 
 -- ---- whether an entry must go
 
+not_ok : (t : Result (Unit {0}) ImageFault) → not (is_ok t) ≡ is_err t
+not_ok (Ok x) = refl
+not_ok (Err f) = refl
+
 module _ (kind : Kind) (s : List ℕ) (e : ℕ) (hints : List ℕ) (r : Bool) (h : r ≡ is_empty s e) where
   -- an empty entry stays, ..
   pub must_empty : r ≡ true → Hints (slot_at s) (in_use s) e hints → MustGo kind s e false hints
@@ -80,26 +77,26 @@ module _ (kind : Kind) (s : List ℕ) (e : ℕ) (hints : List ℕ) (r : Bool) (h
     knows = λ z. known_empty s e hints k (sym h ∙ t);
   }
 
-  module _ (u : r ≡ false) (why : ℕ) (f : why ≡ first_of (field_reasons kind s e)) where
-    fields_as : good_fields kind s e ≡ eqb why 0
-    fields_as = sym (fields_good kind s e) ∙ ap (λ (x : ℕ). eqb x 0) (sym f)
+  module _ (u : r ≡ false) (t : Result (Unit {0}) ImageFault) (f : t ≡ told_for (first_of (field_reasons kind s e)) e) (b : Bool) (g : b ≡ is_err t) where
+    fields_as : not (good_fields kind s e) ≡ b
+    fields_as = ap not (sym (fields_good kind s e) ∙ ap is_ok (sym f)) ∙ not_ok t ∙ sym g
 
     -- .. one with a bad field must go, ..
-    pub must_field : (why ≡ 0 → ⊥) → Hints (slot_at s) (in_use s) e hints → MustGo kind s e true hints
+    pub must_field : b ≡ true → Hints (slot_at s) (in_use s) e hints → MustGo kind s e true hints
     unfolding must_go
     must_field n k = record {
-      answer = sym (and_both _ _ (not_of_false _ (sym h ∙ u)) (or_left _ _ (not_of_false _ (fields_as ∙ ne_eqb why 0 n))));
+      answer = sym (and_both _ _ (not_of_false _ (sym h ∙ u)) (or_left _ _ (fields_as ∙ n)));
       before = k;
       knows = λ z. absurd (never refl z);
     }
 
     -- .. any other where it repeats an earlier one
-    pub must_repeat : why ≡ 0 → (t : Bool) → Repeats s e t hints → MustGo kind s e t hints
+    pub must_repeat : b ≡ false → (y : Bool) → Repeats s e y hints → MustGo kind s e y hints
     unfolding must_go
-    must_repeat z t w = record {
-      answer = and_then t _ _ (not_of_false _ (sym h ∙ u)) (or_then t _ _ (not_of_true _ (fields_as ∙ eq-eqb why 0 z)) w.answer);
+    must_repeat z y w = record {
+      answer = and_then y _ _ (not_of_false _ (sym h ∙ u)) (or_then y _ _ (fields_as ∙ z) w.answer);
       before = hints_fewer s e hints w.knows;
-      knows = λ y. w.knows;
+      knows = λ v. w.knows;
     }
 
 pub ruleset choosing = (rules, must_empty, must_field, must_repeat)
@@ -108,16 +105,16 @@ pub ruleset choosing = (rules, must_empty, must_field, must_repeat)
 
 module _ (kind : Kind) (s : List ℕ) (e : ℕ) (hints : List ℕ) (r : Bool) where
   -- the first pass: the entry stays, ..
-  pub weeded_kept : MustGo kind s e r hints → not r ≡ true → Known (weeded_at kind e s) (e + 1) s hints
+  pub weeded_kept : MustGo kind s e r hints → r ≡ false → Known (weeded_at kind e s) (e + 1) s hints
   unfolding weeded_at
-  weeded_kept m n = let z = not-true r n in record { image = if_no _ _ _ _ (sym m.answer ∙ z) refl; knows = m.knows z }
+  weeded_kept m z = record { image = if_no _ _ _ _ (sym m.answer ∙ z) refl; knows = m.knows z }
 
   -- .. or is emptied
-  pub weeded_gone : (t : List ℕ) → MustGo kind s e r hints → not r ≡ false → 32 * e + 32 ≤ length s → t ≡ set s (32 * e) 229
+  pub weeded_gone : (t : List ℕ) → MustGo kind s e r hints → r ≡ true → 32 * e + 32 ≤ length s → t ≡ set s (32 * e) 229
       → Known (weeded_at kind e s) (e + 1) t hints
   unfolding weeded_at emptied
-  weeded_gone t m n fits w = record {
-    image = if_yes _ _ _ _ (sym m.answer ∙ not-false r n) w;
+  weeded_gone t m z fits w = record {
+    image = if_yes _ _ _ _ (sym m.answer ∙ z) w;
     knows = rw w (known_gone s e fits hints m.before);
   }
 
@@ -132,7 +129,7 @@ module _ (kind : Kind) (s : List ℕ) (e : ℕ) (hints : List ℕ) (r : Bool) wh
   unfolding begun_at emptied
   begun_gone t h f long l w n k = record { image = if_no _ _ _ _ (sym h ∙ f) w; knows = rw w (known_still s e (omega arith) n hints k) }
 
-pub ruleset turning-out = (rules, weeded_kept, weeded_gone, begun_kept, begun_gone)
+pub ruleset turning_out = (rules, weeded_kept, weeded_gone, begun_kept, begun_gone)
 
 -- ---- all entries
 
@@ -175,4 +172,4 @@ pub used_ends : (kind : Kind) (n e : ℕ) (s r₀ r : List ℕ) → length r₀ 
     → r ≡ tab (emptied_told s) (entries kind)
 used_ends kind n e s r₀ r m h f g l = filled_ends (emptied_told s) (entries kind) e r₀ r (m ∙ f) h (omega arith) (omega arith)
 
-pub ruleset noting-used = (rules, refl, filled_none, filled_turn, used_ends)
+pub ruleset noting_used = (rules, refl, filled_none, filled_turn, used_ends)

@@ -1,13 +1,5 @@
 -- The repair's passes one after the other, and the ends of the routine. Assumes nothing.
-use Prim.Native.Nat.{ℕ, ◌*◌, ◌≤◌}
-use mathlib.Core.Path.{◌≡◌, refl, sym, ap, ◌∙◌}
-use mathlib.Core.Bool.{true, false}
-use mathlib.Core.List.{List}
-use native.Mathlib.Omega.{arith}
-use lib.ListN.{length, get_or}
-use lib.Dec.{eqb}
-use borrow.Author.Rules.{rules}
-use borrow.Author.Tests.{eq-eqb, ne_eqb}
+use Rattle.std.proofs.Common.{ℕ, ◌*◌, ◌≤◌, ◌≡◌, refl, sym, ap, ◌∙◌, true, false, List, arith, length, get_or, eqb, rules, eq-eqb, ne_eqb}
 use Rattle.words.specs.Lists.{tab}
 use Rattle.words.specs.Tables.{first_of}
 use Rattle.words.specs.Bytes.{byte}

@@ -1,6 +1,6 @@
 -- What the passes of a repair have done so far. Assumes nothing.
 use Rattle.std.specs.Prelude.{ℕ, ◌+◌, ◌≡◌, Bool, false, List}
-use Rattle.words.specs.Tests.{◌if◌else◌, count}
+use Rattle.words.specs.Tests.{count}
 use Rattle.words.specs.Lists.{tab}
 use Rattle.words.specs.Bytes.{byte}
 use Rattle.words.specs.Hints.{Hints}
@@ -25,10 +25,10 @@ pub record Known (x : List ℕ) (n : ℕ) (t hints : List ℕ) : Type 0 where
 
 -- ---- the third: s is the image when the place, the entry or the pass begins
 
--- place k of entry e: r is 1 where it was zeroed
-pub record PlaceDone (kind : Kind) (s : List ℕ) (e k r : ℕ) (t seen : List ℕ) : Type 0 where
+-- place k of entry e: r is whether it was zeroed
+pub record PlaceDone (kind : Kind) (s : List ℕ) (e k : ℕ) (r : Bool) (t seen : List ℕ) : Type 0 where
   pub image : t ≡ zeroed_at kind e k s
-  pub told : r ≡ (1 if must_zero kind s e k else 0)
+  pub told : r ≡ must_zero kind s e k
   pub marks : Marks kind 1 t e (k + 1) seen
 
 -- the places of entry e before k: n were zeroed

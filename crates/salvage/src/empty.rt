@@ -2,12 +2,15 @@ ghost use Rattle.std.specs.Prelude.{◌≡◌, ◌+◌, ◌*◌, ◌<◌, ◌≤
 ghost use Rattle.words.specs.Hints.{Hints};
 ghost use Rattle.words.specs.Lists.{tab};
 ghost use Rattle.rules.specs.Kinds.{entries};
+ghost use Rattle.rules.specs.Drive.{has_first};
 ghost use Rattle.index.specs.Slots.{slot_at, in_use};
 ghost use Rattle.repair.specs.Salvage.{weeded_at, weeded, begun_at, begun, kept, emptied_told};
 ghost use Rattle.salvage.specs.Passes.{MustGo, Known};
 
-use directory::entry::is_empty;
-use drive::check::{field_reason, is_begun, is_repeat};
+use directory::entry::Entry;
+use directory::find::Directory;
+use drive::check::{field_fault, is_begun, is_repeat};
+use index::find::Index;
 use rules::kind::{Kind, entries};
 
 // Empties entry `e`.
@@ -18,29 +21,30 @@ fn empty_out(image: &mut [u8], e: usize)
     image[32 * e] = 0xE5;
 }
 
-// Entry `e` has a bad field, or an earlier entry has its file and extent. The hints know the entries before `e`, and `e` too
+// An entry has a bad field, or an earlier entry has its file and extent. The hints know the entries before it, and it too
 // where it stays.
-fn must_go(kind: Kind, image: &[u8], e: usize, hints: &mut [u8; 256]) -> bool
-    requires { (32 * e + 32 ≤ length image.now) × (e < 256) × Hints (slot_at image.now) (in_use image.now) e hints.old }
-    ensures { MustGo kind image.now e result hints.new }
+#[tactic(auto, using(crate::proofs::Emptied::choosing))]
+fn must_go(kind: Kind, entry: &Entry, hints: &mut [u8; 256]) -> bool
+    requires { (entry.now.place < 256) × Hints (slot_at entry.now.image.now) (in_use entry.now.image.now) entry.now.place hints.old }
+    ensures { MustGo kind entry.now.image.now entry.now.place result hints.new }
 {
-    if is_empty(image, e) {
+    if entry.is_empty() {
         return false;
     }
-    if field_reason(kind, image, e) != 0 {
+    if field_fault(kind, entry).is_err() {
         return true;
     }
-    is_repeat(image, e, hints)
+    is_repeat(entry, hints)
 }
 
+#[tactic(auto, using(crate::proofs::Emptied::turning_out))]
 fn weed_at(kind: Kind, image: &mut [u8], e: usize, hints: &mut [u8; 256])
     requires { (32 * e + 32 ≤ length image.old) × (e < 256) × Hints (slot_at image.old) (in_use image.old) e hints.old }
     ensures { Known (weeded_at kind e image.old) (e + 1) image.new hints.new }
 {
-    if !must_go(kind, &*image, e, hints) {
-        return;
+    if must_go(kind, &Entry::at(&*image, e), hints) {
+        empty_out(image, e);
     }
-    empty_out(image, e);
 }
 
 // The first pass: empties each entry with a bad field, and each that repeats one that was kept.
@@ -48,34 +52,41 @@ fn weed(kind: Kind, image: &mut [u8], hints: &mut [u8; 256])
     requires { (32 * entries kind ≤ length image.old) × Hints (slot_at image.old) (in_use image.old) 0 hints.old }
     ensures { Known (weeded kind image.old) (entries kind) image.new hints.new }
 {
-    let n = entries(kind);
-    let mut e = 0;
-    while e < n {
+    for e in 0..entries(kind) {
         weed_at(kind, &mut *image, e, &mut *hints);
-        e += 1;
     }
+}
+
+// The file of entry `e`, which may be empty, has an extent 0.
+fn begins(directory: &Directory, e: usize, hints: &[u8; 256]) -> bool
+    requires { (e < entries directory.now.kind) × Hints (slot_at directory.now.image.now) (in_use directory.now.image.now) (entries directory.now.kind) hints.now }
+    ensures { result ≡ has_first directory.now.kind directory.now.image.now e }
+{
+    let directory = *directory;
+    is_begun(&Index { directory, hints }, e)
 }
 
 fn begin_at(kind: Kind, image: &mut [u8], e: usize, hints: &[u8; 256])
     requires { (e < entries kind) × (32 * entries kind ≤ length image.old) × Hints (slot_at image.old) (in_use image.old) (entries kind) hints.now }
     ensures { Known (begun_at kind e image.old) (entries kind) image.new hints.now }
 {
-    if is_begun(kind, &*image, hints, e) {
-        return;
+    let directory = Directory {
+        kind,
+        image: &*image,
+    };
+    if !begins(&directory, e, hints) {
+        empty_out(image, e);
     }
-    empty_out(image, e);
 }
 
-// The second pass: empties the entries of files lacking extent 0. Fewer entries are in use then, so the hints still know all.
+// The second pass: empties the entries of files lacking extent 0. Fewer entries are in use then, so the hints still know
+// all.
 fn begin(kind: Kind, image: &mut [u8], hints: &[u8; 256])
     requires { (32 * entries kind ≤ length image.old) × Hints (slot_at image.old) (in_use image.old) (entries kind) hints.now }
     ensures { image.new ≡ begun kind image.old }
 {
-    let n = entries(kind);
-    let mut e = 0;
-    while e < n {
+    for e in 0..entries(kind) {
         begin_at(kind, &mut *image, e, hints);
-        e += 1;
     }
 }
 
@@ -89,25 +100,20 @@ pub fn keep(kind: Kind, image: &mut [u8])
     begin(kind, image, &hints);
 }
 
-fn emptied_told(image: &[u8], e: usize) -> u8
-    requires { 32 * e + 32 ≤ length image.now }
-    ensures { result ≡ emptied_told image.now e }
+#[tactic(auto, using(words::proofs::Sets::choices), unfolding(repair::specs::Salvage::emptied_told))]
+fn emptied_told(entry: &Entry) -> u8
+    ensures { result ≡ emptied_told entry.now.image.now entry.now.place }
 {
-    if is_empty(image, e) {
-        return 0;
-    }
-    255
+    if entry.is_empty() { 0 } else { 255 }
 }
 
 // Notes in the report which entries are in use, before any is emptied: 255 stays with those that are.
-pub fn note_used(kind: Kind, image: &[u8], report: &mut [u8])
-    requires { (32 * entries kind ≤ length image.now) × (length report.old ≡ entries kind) }
-    ensures { report.new ≡ tab (emptied_told image.now) (entries kind) }
+#[tactic(auto, using(crate::proofs::Emptied::noting_used))]
+pub fn note_used(directory: &Directory, report: &mut [u8])
+    requires { length report.old ≡ entries directory.now.kind }
+    ensures { report.new ≡ tab (emptied_told directory.now.image.now) (entries directory.now.kind) }
 {
-    let n = entries(kind);
-    let mut e = 0;
-    while e < n {
-        report[e] = emptied_told(image, e);
-        e += 1;
+    for (e, told) in report.iter_mut().enumerate() {
+        *told = emptied_told(&directory.entry(e));
     }
 }

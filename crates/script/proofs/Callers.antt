@@ -1,14 +1,11 @@
 -- What the engine did with the parts of a record is what the record asks of it. Assumes nothing.
-use Prim.Native.Nat.{ℕ}
-use mathlib.Core.Path.{◌≡◌, ap, ◌∙◌}
-use mathlib.Core.List.{List}
+use Rattle.std.proofs.Common.{◌≡◌, ap, ◌∙◌, ℕ, List}
 use Rattle.rules.specs.Kinds.{told_rule, told_kind}
 use Rattle.rules.specs.Locks.{rule_in}
 use Rattle.rules.specs.Serves.{Buffers, buffers}
 use Rattle.rules.specs.Vector.{DidFive, built}
 use Rattle.rules.specs.Told.{start_told, five_told, build_told}
 use Rattle.locklist.specs.Start.{DidStart}
-use Rattle.script.specs.Lines.{Lined, call_line}
 use Rattle.script.specs.Records.{first_number, second_number, third_number, users_in, rule_number, fcb_in, dma_in}
 use Rattle.script.specs.Run.{first_kind, start_of, call_of, DidCall}
 
@@ -31,10 +28,6 @@ did_call s n p c fcb dma list image vector a f d l i u h g e x y w =
       leaves_image = ap (λ (x : Buffers). x.image) w.outcome_so.leaves;
       leaves_vector = w.vector_so;
     }
-
-pub line_of : (s : List ℕ) (number p n answer r : ℕ) (before after : List ℕ) → p ≡ second_number s → n ≡ first_number s
-    → Lined (call_line number p n answer) r before after → Lined (call_line number (second_number s) (first_number s) answer) r before after
-line_of s number p n answer r before after h g w = rw (h, g) at w
 
 -- the vector under the record's rule
 pub did_build : (s image v : List ℕ) (r a : ℕ) (u : List ℕ) → r ≡ rule_number s → built a u ≡ build_told (told_kind first_kind (told_rule r)) image v

@@ -1,19 +1,11 @@
--- Laws of decimal digits: they read back as the number, 20 of them hold 64 bits, and a loop writes them from the last one on. Assumes nothing.
-use Prim.Native.Nat.{ℕ, zero, suc, ◌+◌, ◌-◌, ◌*◌, ◌/◌, ◌%◌, ◌^◌, ◌≤◌, ◌<◌}
-use mathlib.Core.Path.{◌≡◌, refl, sym, ap, ◌∙◌}
-use mathlib.Core.Bool.{true, false}
-use mathlib.Core.List.{List, [], ◌∷◌, ◌++◌, append_assoc}
-use mathlib.Core.Logic.{⊎_elim}
-use native.Mathlib.Nat.{not-suc-le-zero, pow-suc}
-use native.Mathlib.Omega.{arith}
-use borrow.Author.Rules.{rules}
-use borrow.Author.Tests.{ltb-true, ltb-false, lt-ltb, le-ltb}
-use lib.Dec.{ltb}
-use lib.ListN.{length, set, drop, length-set, length-append, length-drop, drop_of_length-le, get_or-append}
-use lib.Seq.{drop-cons, drop-set-lt, get_or-set_same}
+-- Laws of decimal digits: they read back as the number, 20 of them hold 64 bits, and the library writes them. Assumes nothing.
+use Rattle.std.proofs.Common.{◌≡◌, refl, sym, ◌∙◌, ℕ, zero, suc, ◌+◌, ◌-◌, ◌*◌, ◌/◌, ◌%◌, ◌^◌, ◌≤◌, ◌<◌, true, false, List, [], ◌∷◌, ◌++◌, length, ⊎_elim, not-suc-le-zero, pow-suc, arith, ltb, ltb-true, ltb-false, lt-ltb, le-ltb, length-append, decimal}
+use Rattle.std.specs.Fmt.{digits as digits_in}
+use Rattle.std.proofs.lemmas.Fmt.{decimal_by_steps}
+use lib.ListN.{get_or-append}
 use Rattle.words.specs.Tests.{◌if◌else◌}
 use Rattle.words.specs.Bytes.{byte}
-use Rattle.words.proofs.Tests.{either}
+use Rattle.words.proofs.Tests.{either, equal?}
 use Rattle.script.specs.Text.{digits_below, digits, read_on, read_number}
 
 -- ---- the digits before the last one
@@ -87,7 +79,7 @@ pub digits_enough : (n : ℕ) → n < 10 ^ 20 → digits n ≡ digits_below 20 n
 unfolding digits
 digits_enough n h = enough (suc n) 19 n (omega arith) h
 
-pub digits_short : (n : ℕ) → n < 18446744073709551616 → length (digits n) ≤ 20
+pub digits_short : (n : ℕ) → n ≤ 18446744073709551616 → length (digits n) ≤ 20
 unfolding digits
 digits_short n h = short 19 (suc n) n (omega arith)
 
@@ -127,56 +119,22 @@ pub digits_first : (n : ℕ) → 0 < n → 48 < byte (digits n) 0
 unfolding digits
 digits_first n h = first_below (suc n) n (omega arith) h
 
--- ---- a loop that writes them from the last one on: those of rest but its last are to come
+-- ---- the library writes them, up to one number past 64 bits
 
-pub record Spelt (n rest at : ℕ) (out : List ℕ) : Type 0 where
-  pub long : length out ≡ 20
-  pub within : at < 20
-  pub so : digits n ≡ ahead rest ++ drop at out
+below : (n : ℕ) → n < 18446744073709551616 → decimal n ≡ digits n
+below n h = sym (decimal_by_steps (λ (m : ℕ) (ds : List ℕ). digits m ≡ ds) one more n h)
+  where
+    one : (n : ℕ) → n < 10 → digits n ≡ (48 + n) ∷ []
+    one n h =
+        let e : n % 10 ≡ n = omega arith in
+        digits_last n ∙ rw (ahead_none n (omega arith), e)
 
--- one digit more, at the place before
-put_digit : (out : List ℕ) (at d : ℕ) → at < length out → drop at (set out at d) ≡ d ∷ drop (suc at) out
-put_digit out at d h =
-    drop-cons (set out at d) at 0 (omega (arith, length-set out at d)) ∙ rw (get_or-set_same out at d 0 h, drop-set-lt (suc at) out at d (omega arith))
+    more : (n : ℕ) (ds : List ℕ) → 10 ≤ n → digits (n / 10) ≡ ds → digits n ≡ ds ++ ((48 + n % 10) ∷ [])
+    more n ds h e = digits_last n ∙ rw (ahead_more n (omega arith), e)
 
-pub spelt_first : (n d : ℕ) (out : List ℕ) → length out ≡ 20 → d ≡ 48 + n % 10 → Spelt n n 19 (set out 19 d)
-spelt_first n d out h e =
-    let p : drop 19 (set out 19 d) ≡ d ∷ drop 20 out = put_digit out 19 d (omega arith) in
-    let z : drop 20 out ≡ [] = drop_of_length-le out {i = 20} (omega arith) in
-    record {
-      long = length-set out 19 d ∙ h;
-      within = omega arith;
-      so = cc (digits_last n);
-    }
+past : decimal 18446744073709551616 ≡ digits 18446744073709551616
+unfolding digits_in digits_below ◌if◌else◌
+past = sym (digits_enough 18446744073709551616 (omega arith))
 
-module _ (n rest at : ℕ) (out : List ℕ) (s : Spelt n rest at out) where
-  -- a digit that is to come has a place
-  pub spelt_room : n < 18446744073709551616 → 9 < rest → 1 ≤ at
-  spelt_room h g =
-      let a : length (ahead rest) ≡ length (digits (rest / 10)) = ap length (ahead_more rest g) in
-      let b : length (digits (rest / 10)) ≡ length (ahead (rest / 10)) + 1 = ap length (digits_last (rest / 10))
-      ∙ length-append (ahead (rest / 10)) ((48 + rest / 10 % 10) ∷ []) in
-      let d : length (digits n) ≡ length (ahead rest) + (length out - at) = ap length s.so ∙ length-append (ahead rest) (drop at out) ∙ rw length-drop in
-      let k = digits_short n h in
-      let l = s.long in
-      let w = s.within in
-      omega arith
-
-  pub spelt_more : (d : ℕ) → 1 ≤ at → 9 < rest → d ≡ 48 + rest / 10 % 10 → Spelt n (rest / 10) (at - 1) (set out (at - 1) d)
-  spelt_more d h g e =
-      let l = s.long in
-      let w = s.within in
-      let z : suc (at - 1) ≡ at = omega arith in
-      let p : drop (at - 1) (set out (at - 1) d) ≡ d ∷ drop at out = put_digit out (at - 1) d (omega arith) ∙ rw z in
-      let q : (ahead (rest / 10) ++ (d ∷ [])) ++ drop at out ≡ ahead (rest / 10) ++ (d ∷ drop at out) = append_assoc (ahead (rest / 10)) (d ∷ [])
-      (drop at out) in
-      record {
-        long = length-set out (at - 1) d ∙ l;
-        within = omega arith;
-        so = cc (s.so, ahead_more rest g, digits_last (rest / 10));
-      }
-
-  pub spelt_ends : rest ≤ 9 → drop at out ≡ digits n
-  spelt_ends h = sym (s.so ∙ rw (ahead_none rest h))
-
-pub ruleset spells = (rules, spelt_first, spelt_room, spelt_more, spelt_ends)
+pub decimal_digits : (n : ℕ) → n ≤ 18446744073709551616 → decimal n ≡ digits n
+decimal_digits n h = ⊎_elim (λ (e : n ≡ 18446744073709551616). rw e past) (λ (e : n ≡ 18446744073709551616 → ⊥). below n (omega arith)) (equal? n 18446744073709551616)

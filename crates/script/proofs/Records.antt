@@ -1,16 +1,10 @@
 -- A record is what its parts make, and its parts are what it was made of. Assumes nothing.
-use Prim.Native.Nat.{ℕ, ◌≤◌}
-use mathlib.Core.Path.{◌≡◌, refl, ap, ◌∙◌}
-use mathlib.Core.Bool.{true}
-use mathlib.Core.List.{List, [], ◌∷◌, ◌++◌}
-use native.Mathlib.Omega.{arith}
-use borrow.Author.Tests.{eq-eqb, eqb-true}
-use lib.Dec.{eqb}
-use lib.ListN.{length, take, drop, length-append, length-drop, drop_of_length-le, take-append-drop}
-use lib.Seq.{take_at, take_all, drop_at, drop-drop, drop-cons, get_or_at}
+use Rattle.std.proofs.Common.{◌≡◌, refl, sym, ap, ◌∙◌, ℕ, ◌≤◌, true, false, true≢false, List, [], ◌∷◌, ◌++◌, length, take, drop, arith, eqb, eq-eqb, ne_eqb, eqb-true, ⊎_elim, length-append, length-drop, drop_of_length-le, take-append-drop, take_at, take_all, drop_at, drop-drop, drop-cons}
+use Rattle.std.specs.List.{starts_with}
+use lib.Seq.{get_or_at}
 use Rattle.words.specs.Tests.{◌and◌}
 use Rattle.words.specs.Bytes.{byte}
-use Rattle.words.proofs.Tests.{and_fst, and_snd}
+use Rattle.words.proofs.Tests.{either, and_fst, and_snd}
 use Rattle.rules.specs.Serves.{processes, fcb_size, dma_size}
 use Rattle.script.specs.Records.{start_size, call_size, start_record, call_record, is_record, is_start, is_call, first_number, second_number, third_number, users_in}
 use Rattle.script.specs.Records.{rule_number, fcb_in, dma_in}
@@ -66,6 +60,21 @@ module _ (function process count : ℕ) (fcb dma : List ℕ) (h : length fcb ≡
   pub call_dma : dma_in (call_record function process count fcb dma) ≡ dma
   unfolding call_record
   call_dma = ap (take dma_size) (drop_at fcb dma fcb_size h) ∙ take_all dma_size dma (omega arith)
+
+-- ---- its first two bytes, as `starts_with` compares them
+
+eqb_turn : (a b : ℕ) → eqb a b ≡ eqb b a
+eqb_turn a b =
+    ⊎_elim (λ (e : eqb a b ≡ true). e ∙ sym (eq-eqb b a (sym (eqb-true a b e)))) (λ (e : eqb a b ≡ false).
+    e ∙ sym (ne_eqb b a (λ q. true≢false (sym (eq-eqb a b (sym q)) ∙ e)))) (either (eqb a b))
+
+pub begins_with : (s : List ℕ) (a b : ℕ) → 2 ≤ length s → starts_with eqb s (a ∷ b ∷ []) ≡ (eqb (byte s 0) a and eqb (byte s 1) b)
+unfolding ◌and◌
+begins_with [] a b h = absurd (omega arith)
+begins_with (x ∷ []) a b h = absurd (omega arith)
+begins_with (x ∷ y ∷ s) a b h = rw (eqb_turn a x, eqb_turn b y) (
+    ⊎_elim (λ (e : eqb x a ≡ true). rw e (⊎_elim (λ (f : eqb y b ≡ true). rw f) (λ (f : eqb y b ≡ false). rw f) (either (eqb y b))))
+    (λ (e : eqb x a ≡ false). rw e) (either (eqb x a)))
 
 -- ---- from the record to its parts and back
 

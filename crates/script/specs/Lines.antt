@@ -1,20 +1,6 @@
 -- The lines that `mpmcalls` prints. Assumes nothing.
-use Rattle.std.specs.Prelude.{ℕ, ◌+◌, ◌/◌, ◌%◌, ◌≤◌, ◌≡◌, List, [], ◌∷◌, ◌++◌, length, take, drop}
+use Rattle.std.specs.Prelude.{ℕ, ◌+◌, ◌/◌, ◌%◌, List, [], ◌∷◌, ◌++◌}
 use Rattle.script.specs.Text.{text, digits}
-
--- a line was put into a buffer's first n bytes, and the others stay (`long` follows from `within`: a caller's `&buffer[..n]` asks both)
-pub record Lined (line : List ℕ) (n : ℕ) (before after : List ℕ) : Type 0 where
-  pub within : n ≤ length after
-  pub long : n ≡ length (take n after)
-  pub so : take n after ≡ line
-  pub rest : drop n after ≡ drop n before
-
--- v was added to the first n bytes of a buffer, which are r then, and the others stay
-pub record Added (v : List ℕ) (n r : ℕ) (before after : List ℕ) : Type 0 where
-  pub within : r ≤ length after
-  pub grows : n ≤ r
-  pub so : take r after ≡ take n before ++ v
-  pub rest : drop r after ≡ drop r before
 
 abbrev pub space : ℕ
 space = 0x20

@@ -2,7 +2,6 @@
 #![tactic(auto)]
 
 pub mod caller;
-mod decimal;
 pub mod line;
 mod part;
 pub mod record;

@@ -1,86 +1,132 @@
-ghost use Rattle.std.specs.Prelude.{◌≡◌, ◌+◌, ◌≤◌, length};
+// The lines that are printed, each built in bytes of its own.
+ghost use Rattle.std.specs.Prelude.{◌≡◌, ◌+◌, ◌^◌, ◌≤◌, [], ◌++◌, length};
 ghost use Rattle.script.specs.Records.{first_number, second_number};
-ghost use Rattle.script.specs.Lines.{Lined, Added, field, header_line, call_line, end_line, bad_start_line, bad_call_line, long_image_line};
+ghost use Rattle.script.specs.Lines.{field, header_line, call_line, end_line, bad_start_line, bad_call_line, long_image_line};
 
-use crate::decimal::spell;
 use crate::part::{first_number, second_number};
-use words::byte::put_bytes;
+use itoa::Buffer;
+use std::marker::Model;
 
-// Adds bytes to a line of n bytes, and answers how many it has then.
-fn add(line: &mut [u8; 128], n: usize, v: &[u8]) -> usize
-    requires { n + length v.now ≤ 128 }
-    ensures { (result ≡ n + length v.now) × Added v.now n result line.old line.new }
-{
-    put_bytes(line, n, v);
-    n + v.len()
+// The bytes of a line so far.
+#[derive(Drop)]
+pub struct Line {
+    bytes: [u8; 128],
+    len: usize,
 }
 
-// Adds a number in decimal and the byte after it.
-fn add_number(line: &mut [u8; 128], n: usize, x: u64, after: u8) -> usize
-    requires { n + 21 ≤ 128 }
-    ensures { (result ≤ n + 21) × Added (field x after) n result line.old line.new }
-{
-    let mut digits = [0u8; 20];
-    let at = spell(x, &mut digits);
-    let n = add(line, n, &digits[at..]);
-    add(line, n, &[after])
+impl Model for Line {
+    ghost use Rattle.std.specs.Prelude.{ℕ, ◌≤◌, List, take};
+
+    ghost Value = { List ℕ };
+
+    ghost view = { λ l. take l.len l.bytes };
+
+    ghost invariant = { λ l. l.len ≤ 128 };
+}
+
+impl Line {
+    // One with no bytes.
+    pub fn new() -> Self
+        ensures { result ≡ [] }
+    {
+        Line {
+            bytes: [0; 128],
+            len: 0,
+        }
+    }
+
+    // Adds bytes.
+    fn push(&mut self, v: &[u8])
+        requires { length self.old + length v.now ≤ 128 }
+        ensures { self.new ≡ self.old ++ v.now }
+    {
+        let end = self.len + v.len();
+        self.bytes[self.len..end].copy_from_slice(v);
+        self.len = end;
+    }
+
+    // Adds a number in decimal and the byte after it.
+    #[tactic(auto, using(crate::proofs::Lines::number_short))]
+    fn push_number(&mut self, x: u128, after: u8)
+        requires { (x ≤ 2 ^ 64) × (length self.old + 21 ≤ 128) }
+        ensures { (self.new ≡ self.old ++ field x after) × (length self.new ≤ length self.old + 21) }
+    {
+        self.push(Buffer::new().format(x).as_bytes());
+        self.push(&[after]);
+    }
+
+    // Its bytes.
+    pub fn as_bytes(&self) -> &[u8]
+        ensures { (result.now ≡ self.now) × (length result.now ≤ 128) }
+    {
+        &self.bytes[..self.len]
+    }
 }
 
 // The line before all others.
-pub fn header_line(line: &mut [u8; 128]) -> usize
-    ensures { Lined header_line result line.old line.new }
+#[tactic(auto, unfolding(crate::specs::Lines::header_line, crate::specs::Text::text))]
+pub fn header_line() -> Line
+    ensures { result ≡ header_line }
 {
-    add(line, 0, b"call process function A H\n")
+    let mut line = Line::new();
+    line.push(b"call process function A H\n");
+    line
 }
 
 // The line of a call: its number, process and function of its record, and A and H of its answer.
-pub fn call_line(line: &mut [u8; 128], number: u64, s: &[u8], answer: u32) -> usize
-    ensures { Lined (call_line number (second_number s.now) (first_number s.now) answer) result line.old line.new }
+#[tactic(auto, using(crate::proofs::Lines::joined), unfolding(crate::specs::Lines::call_line))]
+pub fn call_line(number: u64, s: &[u8], answer: u32) -> Line
+    ensures { result ≡ call_line number (second_number s.now) (first_number s.now) answer }
 {
-    numbers_line(line, number, second_number(s), first_number(s), answer)
-}
-
-// The same, of the numbers.
-fn numbers_line(line: &mut [u8; 128], number: u64, process: u8, function: u8, answer: u32) -> usize
-    ensures { Lined (call_line number process function answer) result line.old line.new }
-{
-    let n = add_number(line, 0, number, b' ');
-    let n = add_number(line, n, process as u64, b' ');
-    let n = add_number(line, n, function as u64, b' ');
-    let n = add_number(line, n, (answer % 256) as u64, b' ');
-    add_number(line, n, (answer / 256) as u64, b'\n')
+    let (process, function) = (second_number(s), first_number(s));
+    let mut line = Line::new();
+    line.push_number(u128::from(number), b' ');
+    line.push_number(u128::from(process), b' ');
+    line.push_number(u128::from(function), b' ');
+    line.push_number(u128::from(answer % 256), b' ');
+    line.push_number(u128::from(answer / 256), b'\n');
+    line
 }
 
 // The line after so many calls, where the input ends.
-pub fn end_line(line: &mut [u8; 128], calls: u64) -> usize
-    ensures { Lined (end_line calls) result line.old line.new }
+#[tactic(auto, unfolding(crate::specs::Lines::end_line, crate::specs::Text::text))]
+pub fn end_line(calls: u64) -> Line
+    ensures { result ≡ end_line calls }
 {
-    let n = add(line, 0, b"end ");
-    add_number(line, n, calls, b'\n')
+    let mut line = Line::new();
+    line.push(b"end ");
+    line.push_number(u128::from(calls), b'\n');
+    line
 }
 
 // The line in its place at a bad start.
-pub fn bad_start_line(line: &mut [u8; 128]) -> usize
-    ensures { Lined bad_start_line result line.old line.new }
+#[tactic(auto, unfolding(crate::specs::Lines::bad_start_line, crate::specs::Lines::bad_line, crate::specs::Text::text))]
+pub fn bad_start_line() -> Line
+    ensures { result ≡ bad_start_line }
 {
-    let n = add(line, 0, b"bad record ");
-    add_number(line, n, 0, b'\n')
+    let mut line = Line::new();
+    line.push(b"bad record ");
+    line.push_number(0, b'\n');
+    line
 }
 
-// The line in its place at a bad record after so many calls. One number more than 64 bits hold is written out.
-pub fn bad_call_line(line: &mut [u8; 128], calls: u64) -> usize
-    ensures { Lined (bad_call_line calls) result line.old line.new }
+// The line in its place at a bad record after so many calls. Its number may be one more than 64 bits hold.
+#[tactic(auto, unfolding(crate::specs::Lines::bad_call_line, crate::specs::Lines::bad_line, crate::specs::Text::text))]
+pub fn bad_call_line(calls: u64) -> Line
+    ensures { result ≡ bad_call_line calls }
 {
-    let n = add(line, 0, b"bad record ");
-    if calls == u64::MAX {
-        return add(line, n, b"18446744073709551616\n");
-    }
-    add_number(line, n, calls + 1, b'\n')
+    let mut line = Line::new();
+    line.push(b"bad record ");
+    line.push_number(u128::from(calls) + 1, b'\n');
+    line
 }
 
 // The only line where the image is longer than the program takes.
-pub fn long_image_line(line: &mut [u8; 128]) -> usize
-    ensures { Lined long_image_line result line.old line.new }
+#[tactic(auto, unfolding(crate::specs::Lines::long_image_line, crate::specs::Text::text))]
+pub fn long_image_line() -> Line
+    ensures { result ≡ long_image_line }
 {
-    add(line, 0, b"image too long\n")
+    let mut line = Line::new();
+    line.push(b"image too long\n");
+    line
 }

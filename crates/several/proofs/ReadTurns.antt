@@ -1,26 +1,20 @@
 -- 33 record by record: each turn is the single call of its record. Assumes nothing.
-use Prim.Native.Nat.{ℕ, suc, ◌+◌, ◌*◌, ◌/◌, ◌≤◌, ◌<◌}
-use mathlib.Core.Path.{◌≡◌, refl, sym, ap, ◌∙◌}
-use mathlib.Core.Bool.{false}
-use mathlib.Core.List.{List}
-use native.Mathlib.Numerals.{add-one}
-use native.Mathlib.Omega.{arith}
-use lib.ListN.{length}
-use borrow.Author.Tests.{eq-eqb, ne_eqb}
+use Rattle.std.proofs.Common.{◌≡◌, ℕ, suc, ◌+◌, ◌*◌, ◌/◌, ◌<◌, ◌≤◌, false, List, length, Option, Some, refl, sym, ap, ◌∙◌, add-one, arith, eq-eqb}
 use Rattle.words.specs.Tests.{◌if◌else◌}
 use Rattle.words.specs.Tables.{first_of}
-use Rattle.words.proofs.Tables.{first_below, belows}
-use Rattle.rules.specs.Kinds.{entries}
+use Rattle.rules.specs.declared.kind.Kind.{Kind}
+use Rattle.rules.specs.declared.code.Refusal.{Refusal}
 use Rattle.rules.specs.declared.file.File.{File}
 use Rattle.rules.specs.declared.list.LockList.{LockList}
-use Rattle.rules.specs.declared.routine.Chosen.{Chosen}
-use Rattle.rules.specs.declared.routine.Chosen.TheVariants.{Call}
+use Rattle.rules.specs.declared.routine.Routine.{Routine}
 use Rattle.rules.specs.declared.routine.Routine.TheVariants.{Read}
+use Rattle.rules.specs.Refusals.{code_of}
+use Rattle.rules.specs.Kinds.{entries}
 use Rattle.rules.specs.Serves.{Buffers, Outcome, Did, outcome, chosen, is_unknown, with_dma}
 use Rattle.rules.specs.Drive.{entry_of, block_in}
 use Rattle.rules.specs.Locks.{unpack, open_of}
 use Rattle.rules.specs.Asks.{caller_file, record_of}
-use Rattle.rules.specs.Codes.{bad_drive, rows_there, rows33}
+use Rattle.rules.specs.Codes.{bad_drive, rows33}
 use Rattle.rules.specs.Effects.{contents, does33}
 use Rattle.rules.specs.Call.{Ready, asked_by, rows_of, effect_of}
 use Rattle.rules.specs.Several.{single, back_at, run, several, told}
@@ -30,13 +24,9 @@ use Rattle.rules.proofs.Singles.{Runs, is_read, dma_back, asked_at, code_single,
 use Rattle.rules.proofs.Several.{code_at, several_none, several_more, stops_told, ends_told}
 use Rattle.directory.proofs.Runs.{known_none, known_more}
 use Rattle.records.specs.By.{read_at}
+use Rattle.records.proofs.Reading.{read_at-refused}
+use Rattle.rules.proofs.Refused.{code_above}
 use Rattle.several.specs.So.{Asks, Reading}
-use Rattle.rules.specs.declared.kind.Kind.{Kind}
-
--- the code leaves the high four bits of H free
-pub below_33 : (kind : Kind) (o e r : ℕ) (s : List ℕ) (c : ℕ) → c ≡ first_of (rows33 kind o e r s) → c < 4096
-unfolding rows33 rows_there
-below_33 kind o e r s c h = rw h (first_below 4096 _ (omega arith) (search belows depth 20 fits 20000))
 
 -- ---- a turn
 
@@ -65,7 +55,7 @@ module _ (kind : Kind) (p c : ℕ) (f : File) (o r : ℕ) (b : Buffers) (a : Ask
     list_sound = ok.list_sound;
   }
 
-  read_chosen : chosen 33 ≡ Call Read
+  read_chosen : chosen 33 ≡ Some Read
   unfolding chosen ◌if◌else◌
   read_chosen = refl
 
@@ -81,7 +71,7 @@ module _ (kind : Kind) (p c : ℕ) (f : File) (o r : ℕ) (b : Buffers) (a : Ask
     rows_found : first_of (rows_of (chosen 33) (asked_at kind p i b') b') ≡ first_of (rows33 kind o e (r + i) s)
     unfolding rows_of asked_by
     rows_found =
-        ap (λ (k : Chosen). first_of (rows_of k (asked_at kind p i b') b')) read_chosen
+        ap (λ (k : Option Routine). first_of (rows_of k (asked_at kind p i b') b')) read_chosen
         ∙ ap (λ (g : File). first_of (rows33 kind (open_of (unpack b.list) p g) (entry_of kind s g ((record_of b.fcb + i) / 128)) (record_of b.fcb + i) s))
         (sym a.file)
         ∙ ap (λ (q : ℕ). first_of (rows33 kind (open_of (unpack b.list) p f) (entry_of kind s f ((q + i) / 128)) (q + i) s)) (sym a.number)
@@ -91,7 +81,7 @@ module _ (kind : Kind) (p c : ℕ) (f : File) (o r : ℕ) (b : Buffers) (a : Ask
     effect_found : effect_of (chosen 33) (asked_at kind p i b') (single i b') ≡ does33 kind e (r + i) (single i b')
     unfolding effect_of asked_by
     effect_found =
-        ap (λ (k : Chosen). effect_of k (asked_at kind p i b') (single i b')) read_chosen
+        ap (λ (k : Option Routine). effect_of k (asked_at kind p i b') (single i b')) read_chosen
         ∙ ap (λ (g : File). does33 kind (entry_of kind s g ((record_of b.fcb + i) / 128)) (record_of b.fcb + i) (single i b')) (sym a.file)
         ∙ ap (λ (q : ℕ). does33 kind (entry_of kind s f ((q + i) / 128)) (q + i) (single i b')) (sym a.number)
         ∙ ap (λ (q : ℕ). does33 kind q (r + i) (single i b')) (sym he)
@@ -120,26 +110,26 @@ reading_none kind p f r b = record { so_far = several_none kind 33 p b; long = r
 
 module _ (kind : Kind) (p c : ℕ) (f : File) (o r : ℕ) (b : Buffers) (a : Asks kind 33 p c f o r b) (i e₁ : ℕ) (dma : List ℕ)
     (w : Reading kind p f r b i e₁ dma) where
-  module _ (below : i < c) (e code : ℕ) (dma' : List ℕ) (he : e ≡ entry_of kind b.image f ((r + i) / 128)) (hl : e ≤ entries kind)
-      (hc : code ≡ first_of (rows33 kind o e (r + i) b.image)) (hd : dma' ≡ read_at kind o e (r + i) (128 * i) b.image dma) where
+  module _ (below : i < c) (e : ℕ) (dma' : List ℕ) (he : e ≡ entry_of kind b.image f ((r + i) / 128)) where
     -- one more
-    pub reading_more : code ≡ 0 → length dma' ≡ length dma → Reading kind p f r b (i + 1) e dma'
-    reading_more z n = record {
-      so_far = rw add-one (turn_reads kind p c f o r b a i dma w.long below e he code hc w.so_far z
+    pub reading_more : 0 ≡ first_of (rows33 kind o e (r + i) b.image) → dma' ≡ read_at kind o e (r + i) (128 * i) b.image dma → e ≤ entries kind
+        → length dma' ≡ length dma → Reading kind p f r b (i + 1) e dma'
+    reading_more hc hd hl n = record {
+      so_far = rw add-one (turn_reads kind p c f o r b a i dma w.long below e he 0 hc w.so_far refl
           ∙ ap (λ (x : List ℕ). run 0 (suc i) (with_dma b x)) (sym hd));
       long = n ∙ w.long;
       known = known_more kind b.image f r i e he hl;
     }
 
-    -- the first refusal stops the call
-    pub reading_stops : (answer : ℕ) → (code ≡ 0 → ⊥) → answer ≡ code + 4096 * i → Did (told (several kind 33 p c b)) answer (with_dma b dma')
-    unfolding read_at ◌if◌else◌
-    reading_stops answer n ha =
-        let q : dma' ≡ dma = hd ∙ rw (ne_eqb (first_of (rows33 kind o e (r + i) b.image)) 0 (λ z. n (hc ∙ z))) refl in
-        let k = code_is kind p c f o r b a i dma w.long below e he code hc in
+    -- the first refusal stops the call, and leaves the DMA
+    pub reading_stops : (q : Refusal) (answer at : ℕ) → code_of q ≡ first_of (rows33 kind o e (r + i) b.image)
+        → dma' ≡ read_at kind o e (r + i) at b.image dma → answer ≡ code_of q + 4096 * i → Did (told (several kind 33 p c b)) answer (with_dma b dma')
+    reading_stops q answer at hc hd ha =
+        let n : 0 < code_of q = code_above q in
+        let k = code_is kind p c f o r b a i dma w.long below e he (code_of q) hc in
         let g : told (several kind 33 p c b) ≡ outcome answer (with_dma b dma) = stops_told kind 33 p b (with_dma b dma) i c w.so_far
-        (λ z. n (sym k ∙ z)) below ∙ ap (λ (x : ℕ). outcome x (with_dma b dma)) (ap (λ (x : ℕ). x + 4096 * i) k ∙ sym ha) in
-        rw q (did_as _ _ answer _ (sym g) (did_none answer (with_dma b dma)))
+        (λ z. let y : code_of q ≡ 0 = sym k ∙ z in omega arith) below ∙ ap (λ (x : ℕ). outcome x (with_dma b dma)) (ap (λ (x : ℕ). x + 4096 * i) k ∙ sym ha) in
+        rw (hd, read_at-refused kind o e (r + i) at b.image dma (let m = hc in omega arith)) (did_as _ _ answer _ (sym g) (did_none answer (with_dma b dma)))
 
   -- all went well
   pub reading_ends : c ≤ i → i ≤ c → Did (told (several kind 33 p c b)) 0 (with_dma b dma)

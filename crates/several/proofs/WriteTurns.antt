@@ -1,29 +1,19 @@
 -- 34 and 40 record by record: each turn is the single call of its record. Assumes nothing.
-use Prim.Native.Nat.{ℕ, suc, ◌+◌, ◌-◌, ◌*◌, ◌/◌, ◌≤◌, ◌<◌}
-use mathlib.Core.Path.{◌≡◌, refl, sym, ap, subst, ◌∙◌}
-use mathlib.Core.Bool.{Bool, true, false}
-use mathlib.Core.List.{List, ◌++◌}
-use mathlib.Core.Logic.{⊎_elim}
-use native.Mathlib.Numerals.{add-one}
-use native.Mathlib.Omega.{arith}
-use lib.ListN.{length, take, drop}
-use lib.Seq.{take-length}
-use lib.Dec.{eqb, leb}
-use borrow.Author.Tests.{eq-eqb, ne_eqb, eqb-false, leb-false}
+use Rattle.std.proofs.Common.{◌≡◌, ℕ, suc, ◌+◌, ◌-◌, ◌*◌, ◌/◌, ◌<◌, ◌≤◌, Bool, true, false, leb, eqb, List, length, take, drop, Option, Some, refl, sym, ap, subst, ◌∙◌, ⊎_elim, add-one, arith, eq-eqb, ne_eqb, leb-false}
+use Rattle.std.proofs.lemmas.Bool.{eqb-false}
+use Rattle.std.proofs.Math.Seq.{take-length}
 use Rattle.words.specs.Tests.{◌and◌, ◌or◌, ◌if◌else◌, lowest}
 use Rattle.words.specs.Bytes.{part}
-use Rattle.words.specs.Tables.{Row, first_of, none_zero}
+use Rattle.words.specs.Tables.{first_of, none_zero}
 use Rattle.words.proofs.Tests.{either, equal?, lowest_holds, lowest_least}
-use Rattle.words.proofs.Tables.{nonzeros, zero_none, first_below, belows}
+use Rattle.words.proofs.Tables.{nonzeros, zero_none}
 use Rattle.words.proofs.Bytes.{part_long}
-use Rattle.rules.specs.Kinds.{most, entries}
+use Rattle.rules.specs.declared.kind.Kind.{Kind}
 use Rattle.rules.specs.declared.file.File.{File}
 use Rattle.rules.specs.declared.list.LockList.{LockList}
 use Rattle.rules.specs.declared.spot.Spot.{Spot}
-use Rattle.rules.specs.declared.routine.Chosen.{Chosen}
-use Rattle.rules.specs.declared.routine.Chosen.TheVariants.{Call}
 use Rattle.rules.specs.declared.routine.Routine.{Routine}
-use Rattle.rules.specs.declared.routine.Routine.TheVariants.{Write, WriteZeros}
+use Rattle.rules.specs.Kinds.{most, entries}
 use Rattle.rules.specs.Serves.{Buffers, Outcome, Did, buffers, outcome, chosen, is_unknown, with_image}
 use Rattle.rules.specs.Drive.{blocks, good_length, entry_of, look_up, read_only, block_in, free_entry, free_block, sound_image}
 use Rattle.rules.specs.Locks.{item_at, unpack, open_of, locked_by_other}
@@ -40,13 +30,15 @@ use Rattle.rules.proofs.Several.{code_at, several_none, several_more, stops_told
 use Rattle.rules.proofs.Rows.{Passes34, passes_34}
 use Rattle.directory.proofs.Runs.{known_none, known_more}
 use Rattle.soundness.proofs.Blocks.{only, found_below}
+use Rattle.soundness.specs.Taking.{taken_by}
+use Rattle.soundness.proofs.Taken.{caller_long}
+use Rattle.soundness.proofs.Vectors.{vector_written}
 use Rattle.soundness.proofs.Written.{written_entry, written_first}
 use Rattle.soundness.proofs.Kept.{SoundBoth, call_sound}
-use Rattle.records.specs.By.{rows_may_by, OneDid, marked_by}
+use Rattle.records.specs.By.{write_routine, OneDid, marked_by}
 use Rattle.records.proofs.Writing.{may_by}
-use Rattle.records.proofs.Marking.{file_named, file_there, one_vector}
+use Rattle.records.proofs.Marking.{file_there, marked_not, marked_so}
 use Rattle.several.specs.So.{Asks, write_number, StopsAt, Writing}
-use Rattle.rules.specs.declared.kind.Kind.{Kind}
 
 -- ---- the record's bytes of the DMA
 
@@ -97,26 +89,14 @@ module _ (kind : Kind) (p : ℕ) (l : LockList) (o : ℕ) (f : File) (e₀ e r :
   passing : first_of (rows34 kind p l o f e₀ e r s) ≡ 0 → Passes34 kind p l o f e₀ e r s
   passing z = passes_34 kind p l o f e₀ e r s (zero_none (rows34 kind p l o f e₀ e r s) real_34 z)
 
--- the code of one record's write leaves the high four bits of H free
-pub below_34 : (kind : Kind) (zeros : Bool) (o : ℕ) (stopped locked : Bool) (f : File) (e₀ e r : ℕ) (v s : List ℕ) (code entry : ℕ) (t : List ℕ)
-    → OneDid kind zeros o stopped locked f e₀ e r v s code entry t → code < 4096
-unfolding rows_may_by rows_room
-below_34 kind zeros o stopped locked f e₀ e r v s code entry t d =
-    rw d.gives (first_below 4096 _ (omega arith) (search belows depth 20 fits 20000))
-
 -- ---- a turn
 
-unfoldable routine_of : Bool → Routine
-routine_of false = Write
-routine_of true = WriteZeros
-
-write_chosen : (zeros : Bool) → chosen (write_number zeros) ≡ Call (routine_of zeros)
-unfolding chosen ◌if◌else◌ write_number routine_of
+write_chosen : (zeros : Bool) → chosen (write_number zeros) ≡ Some (write_routine zeros)
+unfolding chosen ◌if◌else◌ write_number
 write_chosen false = refl
 write_chosen true = refl
 
-write_runs : (zeros : Bool) → Runs (Call (routine_of zeros))
-unfolding routine_of
+write_runs : (zeros : Bool) → Runs (Some (write_routine zeros))
 write_runs false = is_write
 write_runs true = is_zeros
 
@@ -166,16 +146,16 @@ module _ (kind : Kind) (zeros : Bool) (p c : ℕ) (f : File) (e₀ o r locked : 
 
   -- the single call of this record is 34's table and effect on what was found
   module _ (e : ℕ) (he : e ≡ entry_of kind s f (q / 128)) where
-    table : (z : Bool) → first_of (rows_of (Call (routine_of z)) (asked_at kind p i b') b') ≡ first_of
+    table : (z : Bool) → first_of (rows_of (Some (write_routine z)) (asked_at kind p i b') b') ≡ first_of
         (rows34 kind p l (open_of l p (caller_file p l b.fcb)) (caller_file p l b.fcb) (entry_of kind s (caller_file p l b.fcb) 0)
         (entry_of kind s (caller_file p l b.fcb) ((record_of b.fcb + i) / 128)) (record_of b.fcb + i) s)
-    unfolding rows_of asked_by look_up routine_of
+    unfolding rows_of asked_by look_up
     table false = refl
     table true = refl
 
     rows_found : first_of (rows_of (chosen n) (asked_at kind p i b') b') ≡ first_of (rows34 kind p l o f e₀ e q s)
     rows_found =
-        ap (λ (k : Chosen). first_of (rows_of k (asked_at kind p i b') b')) (write_chosen zeros)
+        ap (λ (k : Option Routine). first_of (rows_of k (asked_at kind p i b') b')) (write_chosen zeros)
         ∙ table zeros
         ∙ ap (λ (g : File). first_of (rows34 kind p l (open_of l p g) g (entry_of kind s g 0) (entry_of kind s g ((record_of b.fcb + i) / 128))
         (record_of b.fcb + i) s)) (sym a.file)
@@ -184,16 +164,16 @@ module _ (kind : Kind) (zeros : Bool) (p c : ℕ) (f : File) (e₀ o r locked : 
         ∙ ap (λ (m : ℕ). first_of (rows34 kind p l o f m (entry_of kind s f (q / 128)) q s)) (sym w.first)
         ∙ ap (λ (m : ℕ). first_of (rows34 kind p l o f e₀ m q s)) (sym he)
 
-    effects : (z : Bool) → effect_of (Call (routine_of z)) (asked_at kind p i b') (single i b') ≡ does34 kind z (caller_file p l b.fcb)
+    effects : (z : Bool) → effect_of (Some (write_routine z)) (asked_at kind p i b') (single i b') ≡ does34 kind z (caller_file p l b.fcb)
         (entry_of kind s (caller_file p l b.fcb) 0) (entry_of kind s (caller_file p l b.fcb) ((record_of b.fcb + i) / 128)) (record_of b.fcb + i)
         (single i b')
-    unfolding effect_of asked_by look_up routine_of
+    unfolding effect_of asked_by look_up
     effects false = refl
     effects true = refl
 
     effect_found : effect_of (chosen n) (asked_at kind p i b') (single i b') ≡ does34 kind zeros f e₀ e q (single i b')
     effect_found =
-        ap (λ (k : Chosen). effect_of k (asked_at kind p i b') (single i b')) (write_chosen zeros)
+        ap (λ (k : Option Routine). effect_of k (asked_at kind p i b') (single i b')) (write_chosen zeros)
         ∙ effects zeros
         ∙ ap (λ (g : File). does34 kind zeros g (entry_of kind s g 0) (entry_of kind s g ((record_of b.fcb + i) / 128)) (record_of b.fcb + i) (single i b'))
         (sym a.file)
@@ -236,11 +216,11 @@ module _ (kind : Kind) (zeros : Bool) (p c : ℕ) (f : File) (e₀ o r locked : 
         passes = passing kind p l o f e₀ e q s (sym hc ∙ z)
 
         named : length f.name ≡ 11
-        named = file_named kind p l o f b' again refl a.file a.place
+        named = rw a.file (caller_long p l b.fcb)
 
         -- the file is on the image, since the caller has it open
         there : entry_of kind s f 0 < entries kind
-        there = file_there kind p l o f b' again refl a.file a.place passes.may.is_open
+        there = let m = passes.may.is_open in rw a.file (file_there kind p s b.list b.fcb w.list_sound (rw (a.place, a.file) at m))
 
         -- as the laws of writing have it
         abbrev here : ℕ
@@ -295,6 +275,13 @@ module _ (kind : Kind) (zeros : Bool) (p c : ℕ) (f : File) (e₀ o r locked : 
         entry_now : (spot_at kind s e q).entry ≡ entry_of kind t f (q / 128)
         entry_now = ap (λ (y : ℕ). (spot_at kind s y q).entry) he ∙ sym at_spot ∙ ap (λ (y : List ℕ). entry_of kind y f (q / 128)) (sym same)
 
+        -- the vector of what it leaves
+        vector_now : vector_of kind t ≡ taken_by (spot_at kind s e q) (vector_of kind s)
+        vector_now =
+            ap (λ (y : List ℕ). vector_of kind y) same
+            ∙ vector_written kind zeros s f q v (sound_of kind s w.image_sound) named passes.may.fits there full room₀ block₀
+            ∙ ap (λ (y : ℕ). taken_by (spot_at kind s y q) (vector_of kind s)) (sym he)
+
 -- ---- the loop
 
 pub writing_none : (kind : Kind) (zeros : Bool) (p c : ℕ) (f : File) (e₀ o r locked : ℕ) (b : Buffers) → Asks kind (write_number zeros) p c f o r b
@@ -311,24 +298,27 @@ writing_none kind zeros p c f e₀ o r locked b a h = record {
 
 module _ (kind : Kind) (zeros : Bool) (p c : ℕ) (f : File) (e₀ o r mode locked : ℕ) (b : Buffers) (x : StopsAt (unpack b.list) p f o r c mode locked)
     (a : Asks kind (write_number zeros) p c f o r b) (i e₁ : ℕ) (s : List ℕ) (w : Writing kind zeros p f e₀ r locked b i e₁ s) where
+  -- u and j: the entry that was read, the file's extent 0
   module _ (below : i < c) (e : ℕ) (stopped : Bool) (code entry : ℕ) (t : List ℕ) (he : e ≡ entry_of kind s f ((r + i) / 128))
-      (hs : stopped ≡ (read_only s e₀ or eqb mode 2))
+      (u : List ℕ) (j : ℕ) (hu : u ≡ s) (hj : j ≡ e₀) (hs : stopped ≡ (read_only u j or eqb mode 2))
       (d : OneDid kind zeros o stopped (eqb i locked) f e₀ e (r + i) (take (128 * i + 128 - 128 * i) (drop (128 * i) b.dma)) s code entry t) where
     locked_so : eqb i locked ≡ locked_by_other (unpack b.list) p f (r + i)
     locked_so = locked_here (unpack b.list) p f r c i locked x.locked_is below w.unlocked
 
+    stops_so : stopped ≡ (read_only s e₀ or eqb (item_at (unpack b.list) o).mode 2)
+    stops_so = rw (hu, hj) at hs ∙ ap (λ (m : ℕ). read_only s e₀ or eqb m 2) x.mode_is
+
     coded : code ≡ first_of (rows34 kind p (unpack b.list) o f e₀ e (r + i) s)
     unfolding rows34
-    coded =
-        d.gives ∙ ap (λ (m : List Row). first_of (m ++ rows_room kind s e (r + i)))
-        (may_by kind p (unpack b.list) o f e₀ (r + i) s stopped (eqb i locked) (hs ∙ ap (λ (m : ℕ). read_only s e₀ or eqb m 2) x.mode_is) locked_so)
+    coded = rw (← may_by kind p (unpack b.list) o f e₀ (r + i) s, ← stops_so, ← locked_so) d.gives
+
+    wrote : code ≡ 0 → t ≡ written kind zeros (spot_at kind s e (r + i)) e₀ f (r + i) (part (128 * i) 128 b.dma) s
+    wrote z = let k : 128 * i + 128 - 128 * i ≡ 128 = omega arith in rw k at (d.wrote z)
 
     -- one more
     pub writing_more : code ≡ 0 → length t ≡ length s → Writing kind zeros p f e₀ r locked b (i + 1) entry t
     writing_more z n =
-        let k : 128 * i + 128 - 128 * i ≡ 128 = omega arith in
-        let g : t ≡ written kind zeros (spot_at kind s e (r + i)) e₀ f (r + i) (part (128 * i) 128 b.dma) s = d.wrote z
-        ∙ ap (λ (m : ℕ). written kind zeros (spot_at kind s e (r + i)) e₀ f (r + i) (take m (drop (128 * i) b.dma)) s) k in
+        let g = wrote z in
         let y = subst (λ (m : List ℕ). SoundBoth kind b.list m) (sym g) (both kind zeros p c f e₀ o r locked b a i e₁ s w below e he code coded z) in
         let not-here : i ≡ locked → ⊥ = eqb-false i locked (locked_so
         ∙ (passes kind zeros p c f e₀ o r locked b a i e₁ s w below e he code coded z).may.none_others) in
@@ -348,17 +338,23 @@ module _ (kind : Kind) (zeros : Bool) (p c : ℕ) (f : File) (e₀ o r mode lock
     -- the vector is that of the image left
     pub writing_vector : (u v : List ℕ) → u ≡ vector_of kind s → v ≡ marked_by code (spot_at kind s e (r + i)) u → v ≡ vector_of kind t
     writing_vector u v hu hv =
-        one_vector kind p (unpack b.list) o f (with_image b s) (again kind zeros p c f e₀ o r locked b a i e₁ s w below) refl a.file a.place e₀ e
-        (r + i) _ w.first he (lent_long b.dma i c below a.run_fits a.ready.dma_long) zeros stopped (eqb i locked) code entry t u v d hu hv
+        ⊎_elim
+        (λ (z : code ≡ 0).
+        rw (z, hu) at hv ∙ marked_so (spot_at kind s e (r + i)) (vector_of kind s)
+        ∙ sym (vector_now kind zeros p c f e₀ o r locked b a i e₁ s w below e he code coded z) ∙ ap (λ (y : List ℕ). vector_of kind y) (sym (wrote z)))
+        (λ (z : code ≡ 0 → ⊥).
+        hv ∙ marked_not code (spot_at kind s e (r + i)) u (omega arith) ∙ hu ∙ ap (λ (y : List ℕ). vector_of kind y) (sym (d.kept z)))
+        (equal? code 0)
 
     -- the first refusal stops the call
-    pub writing_stops : (answer : ℕ) → (code ≡ 0 → ⊥) → answer ≡ code + 4096 * i
+    pub writing_stops : (answer : ℕ) → 0 < code → answer ≡ code + 4096 * i
         → Did (told (several kind (write_number zeros) p c b)) answer (with_image b t)
     writing_stops answer n ha =
         let k = code_is kind zeros p c f e₀ o r locked b a i e₁ s w below e he code coded in
         let g : told (several kind (write_number zeros) p c b) ≡ outcome answer (with_image b s) = stops_told kind (write_number zeros) p b (with_image b s) i c
-        w.so_far (λ z. n (sym k ∙ z)) below ∙ ap (λ (m : ℕ). outcome m (with_image b s)) (ap (λ (m : ℕ). m + 4096 * i) k ∙ sym ha) in
-        rw (d.kept n) (did_as _ _ answer _ (sym g) (did_none answer (with_image b s)))
+        w.so_far (λ z. let y : code ≡ 0 = sym k ∙ z in omega arith) below
+        ∙ ap (λ (m : ℕ). outcome m (with_image b s)) (ap (λ (m : ℕ). m + 4096 * i) k ∙ sym ha) in
+        rw (d.kept (λ z. omega arith)) (did_as _ _ answer _ (sym g) (did_none answer (with_image b s)))
 
   -- all went well
   pub writing_ends : c ≤ i → i ≤ c → Did (told (several kind (write_number zeros) p c b)) 0 (with_image b s)

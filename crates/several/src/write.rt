@@ -8,7 +8,8 @@ ghost use Rattle.rules.specs.Vector.{vector_of};
 ghost use Rattle.several.specs.So.{Asks, write_number, StopsAt};
 
 use crate::refusal::after;
-use directory::find::entry_of;
+use directory::entry::Entry;
+use directory::find::Directory;
 use directory::run::entry_at;
 use locklist::fcb::{caller_file, record_of};
 use records::may::write_stopped;
@@ -16,6 +17,7 @@ use records::write::write_one;
 use rules::file::File;
 use rules::kind::Kind;
 use rules::list::LockList;
+use rules::size::{DMA_SIZE, FCB_SIZE, LIST_SIZE};
 
 // 34 and 40 on what was found, record by record: the open is at place `o` in that mode, the record at distance `locked` is the first
 // that another process has locked.
@@ -29,24 +31,30 @@ fn write_run(
     r: u32,
     count: u32,
     locked: u32,
-    fcb: &[u8],
-    dma: &[u8],
-    list: &[u8],
+    fcb: &[u8; FCB_SIZE],
+    dma: &[u8; DMA_SIZE],
+    list: &[u8; LIST_SIZE],
     image: &mut [u8],
     vector: &mut [u8],
 ) -> u32
     requires { (r < 16777216) × StopsAt (unpack list.now) p f o r count mode locked × Asks kind (write_number zeros) p count f o r (buffers fcb.now dma.now list.now image.old) × (vector.old ≡ vector_of kind image.old) }
     ensures { Did (told (several kind (write_number zeros) p count (buffers fcb.now dma.now list.now image.old))) result (buffers fcb.now dma.now list.now image.new) × (vector.new ≡ vector_of kind image.new) }
 {
-    let first = entry_of(kind, &*image, f, 0);
+    let before = Directory {
+        kind,
+        image: &*image,
+    };
+    let first = before.entry_of(f, 0);
     let mut e = 0;
-    let mut i: u32 = 0;
-    while i < count {
-        let here = entry_at(kind, &*image, f, r as usize, i as usize, e);
-        let stopped = write_stopped(mode, first, &*image);
+    for i in 0..count {
+        let directory = Directory {
+            kind,
+            image: &*image,
+        };
+        let here = entry_at(&directory, f, r as usize, i as usize, e);
+        let stopped = write_stopped(mode, &Entry::at(&*image, first));
         let from = 128 * (i as usize);
-        let to = from + 128;
-        let did = write_one(
+        match write_one(
             kind,
             zeros,
             o,
@@ -56,33 +64,32 @@ fn write_run(
             first,
             here,
             r + i,
-            &dma[from..to],
+            &dma[from..from + 128],
             image,
             vector,
-        );
-        if did.code != 0 {
-            return after(did.code, i as usize);
+        ) {
+            Ok(entry) => e = entry,
+            Err(refusal) => return after(refusal, i as usize),
         }
-        e = did.entry;
-        i += 1;
     }
     0
 }
 
 // 34 and 40 (`zeros`) on the buffers.
+#[tactic(auto, using(crate::proofs::ReadTurns::asks, crate::proofs::WriteTurns::stops_at))]
 pub fn write_several(
     kind: Kind,
     zeros: bool,
     p: u8,
-    l: LockList,
+    l: &LockList,
     count: u32,
-    fcb: &[u8],
-    dma: &[u8],
-    list: &[u8],
+    fcb: &[u8; FCB_SIZE],
+    dma: &[u8; DMA_SIZE],
+    list: &[u8; LIST_SIZE],
     image: &mut [u8],
     vector: &mut [u8],
 ) -> u32
-    requires { (l ≡ unpack list.now) × (p < 16) × (count ≤ 16) × (bad_drive (write_number zeros) fcb.now ≡ false) × Ready kind (buffers fcb.now dma.now list.now image.old) × (vector.old ≡ vector_of kind image.old) }
+    requires { (l.now ≡ unpack list.now) × (p < 16) × (count ≤ 16) × (bad_drive (write_number zeros) fcb.now ≡ false) × Ready kind (buffers fcb.now dma.now list.now image.old) × (vector.old ≡ vector_of kind image.old) }
     ensures { Did (told (several kind (write_number zeros) p count (buffers fcb.now dma.now list.now image.old))) result (buffers fcb.now dma.now list.now image.new) × (vector.new ≡ vector_of kind image.new) }
 {
     let f = caller_file(l, p, fcb);

@@ -1,16 +1,15 @@
 -- The plain engine: single calls one after another. Assumes nothing.
-use Prim.Native.Nat.{ℕ, suc, ◌+◌, ◌-◌, ◌*◌, ◌≤◌, ◌<◌}
+use Prim.Native.Nat.{ℕ, suc, ◌+◌, ◌-◌, ◌*◌, ◌/◌, ◌%◌, ◌≤◌, ◌<◌}
 use mathlib.Core.Path.{◌≡◌, refl, sym, ap, ◌∙◌}
 use mathlib.Core.Bool.{Bool, true, false, not}
-use mathlib.Core.List.{List}
+use mathlib.Core.List.{List, [], ◌∷◌}
 use mathlib.Core.Logic.{⊎_elim}
 use native.Mathlib.Numerals.{add-one}
 use native.Mathlib.Omega.{arith}
 use lib.ListN.{length, take, drop}
-use Rattle.words.specs.Bytes.{part, put}
-use Rattle.words.specs.Tables.{first_of, any_row}
+use Rattle.words.specs.Bytes.{put, le}
+use Rattle.words.specs.Tables.{◌∕◌, first_of, any_row}
 use Rattle.words.proofs.Tests.{either}
-use Rattle.words.proofs.Bytes.{put_whole}
 use Rattle.words.proofs.Tables.{zero_none}
 use Rattle.words.proofs.Sets.{not_yes, not_no}
 use Rattle.rules.specs.Serves.{Buffers, Outcome, Did, buffers, chosen, is_search}
@@ -34,19 +33,22 @@ use Rattle.rules.proofs.Sizes.{top_fits}
 
 -- ---- its FCB and its DMA
 
-pub fcb_made : (fcb zero a v own : List ℕ) (r i : ℕ) → length fcb ≡ 36 → length zero ≡ 36 → r ≡ record_of fcb → a ≡ put 0 fcb zero → v ≡ three_of (r + i)
-    → own ≡ put 33 v a → own ≡ fcb_at i fcb
-unfolding fcb_at
-fcb_made fcb zero a v own r i n m hr ha hv h =
-    h ∙ ap (λ (x : List ℕ). put 33 x a) (hv ∙ ap (λ (x : ℕ). three_of (x + i)) hr)
-    ∙ ap (λ (x : List ℕ). put 33 (three_of (record_of fcb + i)) x) (ha ∙ put_whole fcb zero (n ∙ sym m))
+three_le : (n : ℕ) → n < 16777216 → le 3 n ≡ three_of n
+unfolding le three_of
+three_le n h =
+    let e : n / 256 / 256 % 256 ≡ n / 256 / 256 = omega arith in
+    ap (λ (x : ℕ). n % 256 ∷ n / 256 % 256 ∷ x ∷ []) e
 
-pub dma_made : (dma zero a own : List ℕ) (i : ℕ) → length dma ≡ 2048 → length zero ≡ 2048 → a ≡ put 0 dma zero
-    → own ≡ put 0 (take (128 * i + 128 - 128 * i) (drop (128 * i) dma)) a → own ≡ dma_at i dma
+pub fcb_made : (fcb v own : List ℕ) (r i : ℕ) → r ≡ record_of fcb → r + i < 16777216 → v ≡ le 3 (r + i) → own ≡ put 33 v fcb → own ≡ fcb_at i fcb
+unfolding fcb_at
+fcb_made fcb v own r i hr b hv h =
+    h ∙ ap (λ (x : List ℕ). put 33 x fcb) (hv ∙ three_le (r + i) b ∙ ap (λ (x : ℕ). three_of (x + i)) hr)
+
+pub dma_made : (dma own : List ℕ) (i : ℕ) → own ≡ put 0 (take (128 * i + 128 - 128 * i) (drop (128 * i) dma)) dma → own ≡ dma_at i dma
 unfolding dma_at
-dma_made dma zero a own i n m ha h =
+dma_made dma own i h =
     let k : 128 * i + 128 - 128 * i ≡ 128 = omega arith in
-    h ∙ ap (λ (x : ℕ). put 0 (take x (drop (128 * i) dma)) a) k ∙ ap (λ (x : List ℕ). put 0 (part (128 * i) 128 dma) x) (ha ∙ put_whole dma zero (n ∙ sym m))
+    h ∙ ap (λ (x : ℕ). put 0 (take x (drop (128 * i) dma)) dma) k
 
 -- ---- the single call
 
@@ -171,3 +173,8 @@ module _ (kind : Kind) (n p c : ℕ) (v : List ℕ) (b : Buffers) (r : Bool) (e 
       singly_went a left u d =
           passed_did kind n p c v b (call_singly kind n p c b) none.0 a left u
           (did_as _ _ a left (sym (singly_told kind n p c b (not_yes r _ e h) none.1)) d.did) d.agrees
+
+-- an FCB, a DMA or a list of wrong length
+pub singly_unsized : (kind : Kind) (n p c : ℕ) (v : List ℕ) (b : Buffers) → serves_run n ≡ true → 255 ∕ 13 ≡ first_of (rows_five kind n p c v b)
+    → DidFive (singly_five kind n p c v b) (255 ∕ 13) b v
+singly_unsized kind n p c v b s h = singly_stopped kind n p c v b true (sym s) refl (255 ∕ 13) h (λ z. omega arith)

@@ -16,8 +16,8 @@ use Rattle.rules.specs.declared.file.File.{File}
 use Rattle.rules.specs.declared.list.LockList.{LockList}
 use Rattle.rules.specs.declared.routine.Routine.TheVariants.{Open, Close, SearchFirst, SearchNext, Delete, Make, Rename, Read, Write, Size, WriteZeros}
 use Rattle.rules.specs.declared.routine.Routine.TheVariants.{TestWrite, Lock, Unlock, FreeSpace, Terminate}
-use Rattle.rules.specs.declared.routine.Chosen.{Chosen}
-use Rattle.rules.specs.declared.routine.Chosen.TheVariants.{Call, Unknown}
+use Rattle.std.specs.Prelude.{Option, Some, None}
+use Rattle.rules.specs.declared.routine.Routine.{Routine}
 use Rattle.rules.specs.Serves.{Buffers, chosen}
 use Rattle.rules.specs.Locks.{unpack, opens_by, locks_by, free_place, free_places}
 use Rattle.rules.specs.Asks.{caller_file, record_of}
@@ -98,43 +98,43 @@ module _ (kind : Kind) (p c : ℕ) (b : Buffers) where
   not_14 : 14 ∕ 0 ≡ 0 → ⊥
   not_14 z = absurd (omega arith)
 
-  own_11 : (k : Chosen) → first_of (rows_of k (asked kind p c b) b) ≡ 255 ∕ 11 → NoPlace p l
+  own_11 : (k : Option Routine) → first_of (rows_of k (asked kind p c b) b) ≡ 255 ∕ 11 → NoPlace p l
   unfolding rows_of asked asked_by rows_new rows15 rows16 rows19 rows22 rows23 rows33 rows34 rows35 rows41 rows42 rows43 rows_there rows_may rows_room rows_differ
       rows_run rows_lacking rows_take only_if any_code ◌and◌ ◌or◌
-  own_11 (Call Open) h =
+  own_11 (Some Open) h =
       let h₁ = (row_past (255 ∕ 9) (255 ∕ 11) _ _ (λ z. omega arith) h).1 in
       let h₂ = (row_past (255 ∕ 0) (255 ∕ 11) _ _ (λ z. omega arith) h₁).1 in
       let h₃ = (row_past (255 ∕ 5) (255 ∕ 11) _ _ (λ z. omega arith) h₂).1 in
       let h₄ = only_gives (255 ∕ 11) _ _ not_11 h₃ in
       limit_rows [] (none_gives (255 ∕ 11) not_11) (row_past (255 ∕ 5) (255 ∕ 11) _ _ (λ z. omega arith) h₄).1
-  own_11 (Call Make) h =
+  own_11 (Some Make) h =
       let h₁ = (row_past (255 ∕ 9) (255 ∕ 11) _ _ (λ z. omega arith) h).1 in
       let h₂ = (row_past (255 ∕ 8) (255 ∕ 11) _ _ (λ z. omega arith) h₁).1 in
       limit_rows _ (λ z. none_gives (255 ∕ 11) not_11 (row_past (255 ∕ 0) (255 ∕ 11) _ _ (λ y. omega arith) z).1) h₂
-  own_11 (Call Lock) h =
+  own_11 (Some Lock) h =
       let h₁ = (row_past (10 ∕ 0) (255 ∕ 11) _ _ (λ z. omega arith) h).1 in
       absurd (absent (255 ∕ 11) _ not_11 refl (only_gives (255 ∕ 11) _ _ not_11 h₁))
-  own_11 (Call Unlock) h =
+  own_11 (Some Unlock) h =
       let h₁ = (row_past (10 ∕ 0) (255 ∕ 11) _ _ (λ z. omega arith) h).1 in
       absurd (absent (255 ∕ 11) _ not_11 refl (only_gives (255 ∕ 11) _ _ not_11 h₁))
-  own_11 (Call Close) h = absurd (absent (255 ∕ 11) _ not_11 refl h)
-  own_11 (Call SearchFirst) h = absurd (absent (255 ∕ 11) _ not_11 refl h)
-  own_11 (Call SearchNext) h = absurd (absent (255 ∕ 11) _ not_11 refl h)
-  own_11 (Call Delete) h = absurd (absent (255 ∕ 11) _ not_11 refl h)
-  own_11 (Call Rename) h = absurd (absent (255 ∕ 11) _ not_11 refl h)
-  own_11 (Call Read) h = absurd (absent (255 ∕ 11) _ not_11 refl h)
-  own_11 (Call Write) h = absurd (absent (255 ∕ 11) _ not_11 refl h)
-  own_11 (Call Size) h = absurd (absent (255 ∕ 11) _ not_11 refl h)
-  own_11 (Call WriteZeros) h = absurd (absent (255 ∕ 11) _ not_11 refl h)
-  own_11 (Call TestWrite) h = absurd (absent (255 ∕ 11) _ not_11 refl h)
-  own_11 (Call FreeSpace) h = absurd (absent (255 ∕ 11) _ not_11 refl h)
-  own_11 (Call Terminate) h = absurd (absent (255 ∕ 11) _ not_11 refl h)
-  own_11 Unknown h = absurd (absent (255 ∕ 11) _ not_11 refl h)
+  own_11 (Some Close) h = absurd (absent (255 ∕ 11) _ not_11 refl h)
+  own_11 (Some SearchFirst) h = absurd (absent (255 ∕ 11) _ not_11 refl h)
+  own_11 (Some SearchNext) h = absurd (absent (255 ∕ 11) _ not_11 refl h)
+  own_11 (Some Delete) h = absurd (absent (255 ∕ 11) _ not_11 refl h)
+  own_11 (Some Rename) h = absurd (absent (255 ∕ 11) _ not_11 refl h)
+  own_11 (Some Read) h = absurd (absent (255 ∕ 11) _ not_11 refl h)
+  own_11 (Some Write) h = absurd (absent (255 ∕ 11) _ not_11 refl h)
+  own_11 (Some Size) h = absurd (absent (255 ∕ 11) _ not_11 refl h)
+  own_11 (Some WriteZeros) h = absurd (absent (255 ∕ 11) _ not_11 refl h)
+  own_11 (Some TestWrite) h = absurd (absent (255 ∕ 11) _ not_11 refl h)
+  own_11 (Some FreeSpace) h = absurd (absent (255 ∕ 11) _ not_11 refl h)
+  own_11 (Some Terminate) h = absurd (absent (255 ∕ 11) _ not_11 refl h)
+  own_11 None h = absurd (absent (255 ∕ 11) _ not_11 refl h)
 
-  own_14 : (k : Chosen) → first_of (rows_of k (asked kind p c b) b) ≡ 14 ∕ 0 → TooFew p c l (caller_file p l b.fcb) (record_of b.fcb)
+  own_14 : (k : Option Routine) → first_of (rows_of k (asked kind p c b) b) ≡ 14 ∕ 0 → TooFew p c l (caller_file p l b.fcb) (record_of b.fcb)
   unfolding rows_of asked asked_by rows_new rows15 rows16 rows19 rows22 rows23 rows33 rows34 rows35 rows41 rows42 rows43 rows_there rows_may rows_room rows_differ
       rows_run rows_lacking rows_take only_if any_code ◌and◌ ◌or◌
-  own_14 (Call Lock) h =
+  own_14 (Some Lock) h =
       let h₁ = only_gives (14 ∕ 0) _ _ not_14 (row_past (10 ∕ 0) (14 ∕ 0) _ _ (λ z. omega arith) h).1 in
       let h₂ = (row_past (13 ∕ 0) (14 ∕ 0) _ _ (λ z. omega arith) h₁).1 in
       let h₃ = (row_past (6 ∕ 0) (14 ∕ 0) _ _ (λ z. omega arith) h₂).1 in
@@ -143,26 +143,26 @@ module _ (kind : Kind) (p c : ℕ) (b : Buffers) where
       let h₆ = (row_past (8 ∕ 0) (14 ∕ 0) _ _ (λ z. omega arith) h₅).1 in
       let w = row_past (12 ∕ 0) (14 ∕ 0) _ _ (λ z. omega arith) h₆ in
       record { within = ltb-false _ _ w.0; few = ltb-true _ _ (row_gives (14 ∕ 0) _ [] (none_gives (14 ∕ 0) not_14) w.1) }
-  own_14 (Call Open) h =
+  own_14 (Some Open) h =
       let h₁ = (row_past (255 ∕ 9) (14 ∕ 0) _ _ (λ z. omega arith) h).1 in
       let h₂ = (row_past (255 ∕ 0) (14 ∕ 0) _ _ (λ z. omega arith) h₁).1 in
       let h₃ = (row_past (255 ∕ 5) (14 ∕ 0) _ _ (λ z. omega arith) h₂).1 in
       absurd (absent (14 ∕ 0) _ not_14 refl (only_gives (14 ∕ 0) _ _ not_14 h₃))
-  own_14 (Call Make) h = absurd (absent (14 ∕ 0) _ not_14 refl h)
-  own_14 (Call Unlock) h = absurd (absent (14 ∕ 0) _ not_14 refl (only_gives (14 ∕ 0) _ _ not_14 (row_past (10 ∕ 0) (14 ∕ 0) _ _ (λ z. omega arith) h).1))
-  own_14 (Call Close) h = absurd (absent (14 ∕ 0) _ not_14 refl h)
-  own_14 (Call SearchFirst) h = absurd (absent (14 ∕ 0) _ not_14 refl h)
-  own_14 (Call SearchNext) h = absurd (absent (14 ∕ 0) _ not_14 refl h)
-  own_14 (Call Delete) h = absurd (absent (14 ∕ 0) _ not_14 refl h)
-  own_14 (Call Rename) h = absurd (absent (14 ∕ 0) _ not_14 refl h)
-  own_14 (Call Read) h = absurd (absent (14 ∕ 0) _ not_14 refl h)
-  own_14 (Call Write) h = absurd (absent (14 ∕ 0) _ not_14 refl h)
-  own_14 (Call Size) h = absurd (absent (14 ∕ 0) _ not_14 refl h)
-  own_14 (Call WriteZeros) h = absurd (absent (14 ∕ 0) _ not_14 refl h)
-  own_14 (Call TestWrite) h = absurd (absent (14 ∕ 0) _ not_14 refl h)
-  own_14 (Call FreeSpace) h = absurd (absent (14 ∕ 0) _ not_14 refl h)
-  own_14 (Call Terminate) h = absurd (absent (14 ∕ 0) _ not_14 refl h)
-  own_14 Unknown h = absurd (absent (14 ∕ 0) _ not_14 refl h)
+  own_14 (Some Make) h = absurd (absent (14 ∕ 0) _ not_14 refl h)
+  own_14 (Some Unlock) h = absurd (absent (14 ∕ 0) _ not_14 refl (only_gives (14 ∕ 0) _ _ not_14 (row_past (10 ∕ 0) (14 ∕ 0) _ _ (λ z. omega arith) h).1))
+  own_14 (Some Close) h = absurd (absent (14 ∕ 0) _ not_14 refl h)
+  own_14 (Some SearchFirst) h = absurd (absent (14 ∕ 0) _ not_14 refl h)
+  own_14 (Some SearchNext) h = absurd (absent (14 ∕ 0) _ not_14 refl h)
+  own_14 (Some Delete) h = absurd (absent (14 ∕ 0) _ not_14 refl h)
+  own_14 (Some Rename) h = absurd (absent (14 ∕ 0) _ not_14 refl h)
+  own_14 (Some Read) h = absurd (absent (14 ∕ 0) _ not_14 refl h)
+  own_14 (Some Write) h = absurd (absent (14 ∕ 0) _ not_14 refl h)
+  own_14 (Some Size) h = absurd (absent (14 ∕ 0) _ not_14 refl h)
+  own_14 (Some WriteZeros) h = absurd (absent (14 ∕ 0) _ not_14 refl h)
+  own_14 (Some TestWrite) h = absurd (absent (14 ∕ 0) _ not_14 refl h)
+  own_14 (Some FreeSpace) h = absurd (absent (14 ∕ 0) _ not_14 refl h)
+  own_14 (Some Terminate) h = absurd (absent (14 ∕ 0) _ not_14 refl h)
+  own_14 None h = absurd (absent (14 ∕ 0) _ not_14 refl h)
 
 -- ---- a call
 
@@ -199,13 +199,13 @@ module _ (kind : Kind) (n p c : ℕ) (b : Buffers) where
 -- ---- 33, 34 and 40 give neither, whatever they are lent
 
 module _ (kind : Kind) (p c : ℕ) (b : Buffers) where
-  run_11 : (k : Chosen) → Runs k → any_code (255 ∕ 11) (rows_of k (asked kind p c b) b) ≡ false
+  run_11 : (k : Option Routine) → Runs k → any_code (255 ∕ 11) (rows_of k (asked kind p c b) b) ≡ false
   unfolding rows_of rows33 rows34 rows_there rows_may rows_room any_code ◌and◌ ◌or◌
   run_11 k is_read = refl
   run_11 k is_write = refl
   run_11 k is_zeros = refl
 
-  run_14 : (k : Chosen) → Runs k → any_code (14 ∕ 0) (rows_of k (asked kind p c b) b) ≡ false
+  run_14 : (k : Option Routine) → Runs k → any_code (14 ∕ 0) (rows_of k (asked kind p c b) b) ≡ false
   unfolding rows_of rows33 rows34 rows_there rows_may rows_room any_code ◌and◌ ◌or◌
   run_14 k is_read = refl
   run_14 k is_write = refl

@@ -24,8 +24,8 @@ use Rattle.rules.specs.declared.list.LockList.{LockList}
 use Rattle.rules.specs.declared.spot.Spot.{Spot}
 use Rattle.rules.specs.declared.routine.Routine.TheVariants.{Open, Close, SearchFirst, SearchNext, Delete, Make, Rename, Read, Write, Size, WriteZeros}
 use Rattle.rules.specs.declared.routine.Routine.TheVariants.{TestWrite, Lock, Unlock, FreeSpace, Terminate}
-use Rattle.rules.specs.declared.routine.Chosen.{Chosen}
-use Rattle.rules.specs.declared.routine.Chosen.TheVariants.{Call, Unknown}
+use Rattle.std.specs.Prelude.{Option, Some, None}
+use Rattle.rules.specs.declared.routine.Routine.{Routine}
 use Rattle.rules.specs.Serves.{Buffers, Outcome, chosen}
 use Rattle.rules.specs.Drive.{name_at, record_at, block_in, file_from}
 use Rattle.rules.specs.Locks.{blank, is_opened, item_at, user_of, position_of, first_mark, second_mark, pack_item, pack, unpack, is_limit, is_user, is_rule, is_low}
@@ -239,26 +239,26 @@ module _ (kind : Kind) (n p c : ℕ) (b : Buffers) (w : InBytes b) where
       (λ (q : leb (entries kind) e ≡ false). rw q (bytes_put 0 _ b.dma (bytes_part (128 * (e / 4)) 128 b.image w.image_bytes) w.dma_bytes))
       (either (leb (entries kind) e))
 
-  dma_done : (k : Chosen) (a : Asked) → are_bytes (effect_of k a b).left.dma ≡ true
+  dma_done : (k : Option Routine) (a : Asked) → are_bytes (effect_of k a b).left.dma ≡ true
   unfolding effect_of does15 does16 does17 does18 does19 does22 makes does23 does33 contents does34 does35 does41 does42 does43 does46 does143
-  dma_done (Call Open) a = dma_if (is_opened a.place) _ _ refl refl
-  dma_done (Call Close) a = w.dma_bytes
-  dma_done (Call SearchFirst) a = dma_searched _ _ _ _
-  dma_done (Call SearchNext) a = dma_searched _ _ _ _
-  dma_done (Call Delete) a = w.dma_bytes
-  dma_done (Call Make) a = w.dma_bytes
-  dma_done (Call Rename) a = w.dma_bytes
-  dma_done (Call Read) a = bytes_put 0 _ b.dma (bytes_part
+  dma_done (Some Open) a = dma_if (is_opened a.place) _ _ refl refl
+  dma_done (Some Close) a = w.dma_bytes
+  dma_done (Some SearchFirst) a = dma_searched _ _ _ _
+  dma_done (Some SearchNext) a = dma_searched _ _ _ _
+  dma_done (Some Delete) a = w.dma_bytes
+  dma_done (Some Make) a = w.dma_bytes
+  dma_done (Some Rename) a = w.dma_bytes
+  dma_done (Some Read) a = bytes_put 0 _ b.dma (bytes_part
       (record_at a.kind (block_in a.kind b.image a.entry a.record_number) a.record_number) 128 b.image w.image_bytes) w.dma_bytes
-  dma_done (Call Write) a = w.dma_bytes
-  dma_done (Call Size) a = w.dma_bytes
-  dma_done (Call WriteZeros) a = w.dma_bytes
-  dma_done (Call TestWrite) a = w.dma_bytes
-  dma_done (Call Lock) a = dma_if (eqb (item_at a.list a.place).mode 1) _ _ refl refl
-  dma_done (Call Unlock) a = dma_if (eqb (item_at a.list a.place).mode 1) _ _ refl refl
-  dma_done (Call FreeSpace) a = bytes_put 0 _ b.dma (bytes_le 3 _) w.dma_bytes
-  dma_done (Call Terminate) a = w.dma_bytes
-  dma_done Unknown a = w.dma_bytes
+  dma_done (Some Write) a = w.dma_bytes
+  dma_done (Some Size) a = w.dma_bytes
+  dma_done (Some WriteZeros) a = w.dma_bytes
+  dma_done (Some TestWrite) a = w.dma_bytes
+  dma_done (Some Lock) a = dma_if (eqb (item_at a.list a.place).mode 1) _ _ refl refl
+  dma_done (Some Unlock) a = dma_if (eqb (item_at a.list a.place).mode 1) _ _ refl refl
+  dma_done (Some FreeSpace) a = bytes_put 0 _ b.dma (bytes_le 3 _) w.dma_bytes
+  dma_done (Some Terminate) a = w.dma_bytes
+  dma_done None a = w.dma_bytes
 
   dma_left : are_bytes (call kind n p c b).left.dma ≡ true
   dma_left =

@@ -15,7 +15,7 @@ use Rattle.rules.specs.declared.item.Item.{Item}
 use Rattle.rules.specs.declared.list.LockList.{LockList}
 use Rattle.rules.specs.declared.routine.Routine.TheVariants.{Open, Close, Delete, Make, Rename, Read, Write, Size, WriteZeros}
 use Rattle.rules.specs.declared.routine.Routine.TheVariants.{TestWrite, Lock, Unlock, FreeSpace, Terminate}
-use Rattle.rules.specs.declared.routine.Chosen.TheVariants.{Call}
+use Rattle.std.specs.Prelude.{Some}
 use Rattle.rules.specs.Serves.{Buffers, Outcome, buffers, outcome, chosen, is_search, with_fcb, with_dma, with_list, with_image}
 use Rattle.rules.specs.Drive.{blocks, legal_name, entry_of, free_entry, free_block, block_in, block_of}
 use Rattle.rules.specs.Locks.{item_at, moved_to, with_items, unpack, pack, open_of, any_open, locked_by_other, opens_by, locks_by, free_place, free_places}
@@ -152,33 +152,33 @@ image_written kind zeros p b v =
 
 pub data Leaf (kind : Kind) (n p c : ℕ) (b : Buffers) : Outcome → Type 0 where
   refused : (code : ℕ) → (code ≡ 0 → ⊥) → Leaf kind n p c b (outcome code b)
-  reopened : chosen n ≡ Call Open → Passed kind p c b → OpensAgain p b → (fcb : List ℕ) → Leaf kind n p c b (accept (buffers fcb b.dma b.list b.image))
-  newly_opened : chosen n ≡ Call Open → Passed kind p c b → MayOpen kind p b → (fcb : List ℕ)
+  reopened : chosen n ≡ Some Open → Passed kind p c b → OpensAgain p b → (fcb : List ℕ) → Leaf kind n p c b (accept (buffers fcb b.dma b.list b.image))
+  newly_opened : chosen n ≡ Some Open → Passed kind p c b → MayOpen kind p b → (fcb : List ℕ)
       → Leaf kind n p c b (accept (buffers fcb b.dma (pack (opened p (file_by p b) (open_mode b.fcb) (list_of b))) b.image))
-  newly_made : chosen n ≡ Call Make → Passed kind p c b → MayMake kind p b → (fcb : List ℕ)
+  newly_made : chosen n ≡ Some Make → Passed kind p c b → MayMake kind p b → (fcb : List ℕ)
       → Leaf kind n p c b (accept (buffers fcb b.dma (pack (opened p (file_by p b) (make_mode b.fcb) (list_of b)))
       (made (free_entry kind b.image) (file_by p b) b.image)))
-  now_closed : chosen n ≡ Call Close → Passed kind p c b → open_by p b < 64 → Leaf kind n p c b (accept (with_list b (pack (closed p (file_by p b) (list_of b)))))
-  now_erased : chosen n ≡ Call Delete → Passed kind p c b → MayDelete kind p b → 64 ≤ open_by p b
+  now_closed : chosen n ≡ Some Close → Passed kind p c b → open_by p b < 64 → Leaf kind n p c b (accept (with_list b (pack (closed p (file_by p b) (list_of b)))))
+  now_erased : chosen n ≡ Some Delete → Passed kind p c b → MayDelete kind p b → 64 ≤ open_by p b
       → Leaf kind n p c b (accept (with_image b (erased kind (file_by p b) b.image)))
-  now_dropped : chosen n ≡ Call Delete → Passed kind p c b → MayDelete kind p b → open_by p b < 64
+  now_dropped : chosen n ≡ Some Delete → Passed kind p c b → MayDelete kind p b → open_by p b < 64
       → Leaf kind n p c b (accept (with_image (with_list b (pack (closed p (file_by p b) (list_of b)))) (erased kind (file_by p b) b.image)))
-  now_renamed : chosen n ≡ Call Rename → Passed kind p c b → MayRename kind p b
+  now_renamed : chosen n ≡ Some Rename → Passed kind p c b → MayRename kind p b
       → Leaf kind n p c b (accept (with_image b (renamed kind (file_by p b) (new_by p b).name b.image)))
-  now_read : chosen n ≡ Call Read → Passed kind p c b → (dma : List ℕ) → Leaf kind n p c b (accept (with_dma b dma))
-  now_sized : chosen n ≡ Call Size → Passed kind p c b → (fcb : List ℕ) → Leaf kind n p c b (accept (with_fcb b fcb))
-  now_written : (chosen n ≡ Call Write) ⊎ (chosen n ≡ Call WriteZeros) → Passed kind p c b → MayWrite kind p b → (zeros : Bool)
+  now_read : chosen n ≡ Some Read → Passed kind p c b → (dma : List ℕ) → Leaf kind n p c b (accept (with_dma b dma))
+  now_sized : chosen n ≡ Some Size → Passed kind p c b → (fcb : List ℕ) → Leaf kind n p c b (accept (with_fcb b fcb))
+  now_written : (chosen n ≡ Some Write) ⊎ (chosen n ≡ Some WriteZeros) → Passed kind p c b → MayWrite kind p b → (zeros : Bool)
       → Leaf kind n p c b (accept (with_image b (image_written kind zeros p b b.dma)))
-  now_rewritten : chosen n ≡ Call TestWrite → Passed kind p c b → MayWrite kind p b → (block_of kind b.image (file_by p b) (record_of b.fcb) ≡ 0 → ⊥)
+  now_rewritten : chosen n ≡ Some TestWrite → Passed kind p c b → MayWrite kind p b → (block_of kind b.image (file_by p b) (record_of b.fcb) ≡ 0 → ⊥)
       → (v : List ℕ) → 128 ≤ length v → v ≡ part 128 128 b.dma → Leaf kind n p c b (accept (with_image b (image_written kind false p b v)))
-  now_locked : chosen n ≡ Call Lock → Passed kind p c b → MayLock kind p c b
+  now_locked : chosen n ≡ Some Lock → Passed kind p c b → MayLock kind p c b
       → Leaf kind n p c b (accept (with_list b (pack (locked_run p (file_by p b) (record_of b.fcb) c (list_of b)))))
-  lock_idle : chosen n ≡ Call Lock → Passed kind p c b → Idle p b → Leaf kind n p c b (accept b)
-  now_unlocked : chosen n ≡ Call Unlock → Passed kind p c b → MayUnlock p b
+  lock_idle : chosen n ≡ Some Lock → Passed kind p c b → Idle p b → Leaf kind n p c b (accept b)
+  now_unlocked : chosen n ≡ Some Unlock → Passed kind p c b → MayUnlock p b
       → Leaf kind n p c b (accept (with_list b (pack (unlocked_run p (file_by p b) (record_of b.fcb) c (list_of b)))))
-  unlock_idle : chosen n ≡ Call Unlock → Passed kind p c b → Idle p b → Leaf kind n p c b (accept b)
-  now_told : chosen n ≡ Call FreeSpace → Passed kind p c b → (dma : List ℕ) → Leaf kind n p c b (accept (with_dma b dma))
-  now_ended : chosen n ≡ Call Terminate → Passed kind p c b → Leaf kind n p c b (accept (with_list b (pack (terminated kind p (list_of b)))))
+  unlock_idle : chosen n ≡ Some Unlock → Passed kind p c b → Idle p b → Leaf kind n p c b (accept b)
+  now_told : chosen n ≡ Some FreeSpace → Passed kind p c b → (dma : List ℕ) → Leaf kind n p c b (accept (with_dma b dma))
+  now_ended : chosen n ≡ Some Terminate → Passed kind p c b → Leaf kind n p c b (accept (with_list b (pack (terminated kind p (list_of b)))))
   now_searched : is_search (chosen n) ≡ true → Passed kind p c b → (answer e : ℕ) → e ≤ entries kind → (dma : List ℕ)
       → Leaf kind n p c b (outcome answer (buffers b.fcb dma
       (pack (moved_to p e (with_items (list_of b) (map (λ (it : Item). it) (list_of b).items)))) b.image))

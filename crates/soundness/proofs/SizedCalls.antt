@@ -12,7 +12,7 @@ use Rattle.words.proofs.Tests.{equal?}
 use Rattle.rules.specs.declared.kind.Kind.{Kind}
 use Rattle.rules.specs.declared.file.File.{File}
 use Rattle.rules.specs.declared.routine.Routine.TheVariants.{Delete, Make, Rename, Write, WriteZeros, TestWrite}
-use Rattle.rules.specs.declared.routine.Chosen.TheVariants.{Call}
+use Rattle.std.specs.Prelude.{Some}
 use Rattle.rules.specs.Kinds.{entries}
 use Rattle.rules.specs.Serves.{Buffers, Outcome, chosen}
 use Rattle.rules.specs.Drive.{is_empty, file_at, entry_of, look_up, free_entry}
@@ -138,7 +138,7 @@ module _ (kind : Kind) (p c : ℕ) (b : Buffers) (ok : Passed kind p c b) where
 -- ---- every call
 
 module _ (kind : Kind) (n p c : ℕ) (b : Buffers) (f : File) (long : length f.name ≡ 11)
-    (stays : (chosen n ≡ Call Delete) ⊎ (chosen n ≡ Call Rename) → f ≡ file_by p b → ⊥) where
+    (stays : (chosen n ≡ Some Delete) ⊎ (chosen n ≡ Some Rename) → f ≡ file_by p b → ⊥) where
   -- an image of which no entry of the file was touched
   untouched : (t : List ℕ) (h : File) → Passed kind p c b → SoundImage kind t → Touches kind b.image t (file_by p b) h → (f ≡ file_by p b → ⊥)
       → file_size kind b.image f ≤ file_size kind t f
@@ -181,36 +181,36 @@ module _ (kind : Kind) (n p c : ℕ) (b : Buffers) (f : File) (long : length f.n
 
 module _ (kind : Kind) (n p c : ℕ) (b : Buffers) (pass : any_row (rows_call kind n p c b) ≡ false) where
   -- a file just made has size 0
-  pub made_zero : chosen n ≡ Call Make → file_size kind (call kind n p c b).left.image (file_by p b) ≡ 0
+  pub made_zero : chosen n ≡ Some Make → file_size kind (call kind n p c b).left.image (file_by p b) ≡ 0
   unfolding effect_of asked asked_by does22 makes
   made_zero e =
-      let a = accepted_as kind n p c b (Call Make) e pass in
+      let a = accepted_as kind n p c b (Some Make) e pass in
       rw a.did (made_size kind p c b a.ok (may_make kind n p c b a.ok a.passes))
 
   -- the size of a file is more than the number of a record just written, ..
-  pub size_written : (chosen n ≡ Call Write) ⊎ (chosen n ≡ Call WriteZeros)
+  pub size_written : (chosen n ≡ Some Write) ⊎ (chosen n ≡ Some WriteZeros)
       → record_of b.fcb + 1 ≤ file_size kind (call kind n p c b).left.image (file_by p b)
   unfolding rows_of effect_of asked asked_by does34 look_up
   size_written w =
       ⊎_elim
-      (λ (e : chosen n ≡ Call Write).
-      let a = accepted_as kind n p c b (Call Write) e pass in
+      (λ (e : chosen n ≡ Some Write).
+      let a = accepted_as kind n p c b (Some Write) e pass in
       rw a.did (written_size kind p c b a.ok false b.dma (may_write kind n p c b a.ok a.passes) (let z = a.ok.ready.dma_long in omega arith)))
-      (λ (e : chosen n ≡ Call WriteZeros).
-      let a = accepted_as kind n p c b (Call WriteZeros) e pass in
+      (λ (e : chosen n ≡ Some WriteZeros).
+      let a = accepted_as kind n p c b (Some WriteZeros) e pass in
       rw a.did (written_size kind p c b a.ok true b.dma (may_write kind n p c b a.ok a.passes) (let z = a.ok.ready.dma_long in omega arith)))
       w
 
   -- .. by 41 too
-  pub size_rewritten : chosen n ≡ Call TestWrite → record_of b.fcb + 1 ≤ file_size kind (call kind n p c b).left.image (file_by p b)
+  pub size_rewritten : chosen n ≡ Some TestWrite → record_of b.fcb + 1 ≤ file_size kind (call kind n p c b).left.image (file_by p b)
   unfolding effect_of asked asked_by does41 look_up
   size_rewritten e =
-      let a = accepted_as kind n p c b (Call TestWrite) e pass in
+      let a = accepted_as kind n p c b (Some TestWrite) e pass in
       rw a.did (written_size kind p c b a.ok false _ (may_rewrite kind n p c b a.ok a.passes).0 (second_full kind n p c b a.ok))
 
   -- Rename gives the new name the old size
-  pub size_renamed : chosen n ≡ Call Rename → file_size kind (call kind n p c b).left.image (new_by p b) ≡ file_size kind b.image (file_by p b)
+  pub size_renamed : chosen n ≡ Some Rename → file_size kind (call kind n p c b).left.image (new_by p b) ≡ file_size kind b.image (file_by p b)
   unfolding effect_of asked asked_by does23
   size_renamed e =
-      let a = accepted_as kind n p c b (Call Rename) e pass in
+      let a = accepted_as kind n p c b (Some Rename) e pass in
       rw a.did (renamed_size kind p c b a.ok (may_rename kind n p c b a.ok a.passes))

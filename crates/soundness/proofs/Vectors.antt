@@ -24,8 +24,8 @@ use Rattle.rules.specs.Serves.{Buffers}
 use Rattle.rules.specs.Drive.{blocks, is_empty, map_number, map_place, is_of, entry_of, block_in, holds_number, names_block, is_used, is_free, free_entry, free_block}
 use Rattle.rules.specs.Asks.{record_of}
 use Rattle.rules.specs.declared.routine.Routine.TheVariants.{Make, Rename}
-use Rattle.rules.specs.declared.routine.Chosen.{Chosen}
-use Rattle.rules.specs.declared.routine.Chosen.TheVariants.{Call}
+use Rattle.std.specs.Prelude.{Option, Some}
+use Rattle.rules.specs.declared.routine.Routine.{Routine}
 use Rattle.rules.specs.Effects.{made, erased, renamed, makes, does22, does23, spot_at, written}
 use Rattle.rules.specs.Call.{decided, unless, asked, asked_by, rows_of, effect_of, served}
 use Rattle.rules.specs.Vector.{is_taken, vector_of}
@@ -371,7 +371,7 @@ module _ (kind : Kind) (p c : ℕ) (b : Buffers) (ok : Passed kind p c b) where
 
 module _ (kind : Kind) (p c : ℕ) (b : Buffers) (ok : Passed kind p c b) where
   -- refused by it the image stays; so the effect tells
-  served_vector : (k : Chosen)
+  served_vector : (k : Option Routine)
       → (any_row (rows_of k (asked kind p c b) b) ≡ false → vector_of kind (effect_of k (asked kind p c b) b).left.image ≡ vector_of kind b.image)
       → vector_of kind (served kind k p c b).left.image ≡ vector_of kind b.image
   unfolding served unless decided ◌if◌else◌
@@ -382,11 +382,11 @@ module _ (kind : Kind) (p c : ℕ) (b : Buffers) (ok : Passed kind p c b) where
       (either (any_row (rows_of k (asked kind p c b) b)))
 
   -- Make leaves the vector as it was, ..
-  pub make_vector : vector_of kind (served kind (Call Make) p c b).left.image ≡ vector_of kind b.image
+  pub make_vector : vector_of kind (served kind (Some Make) p c b).left.image ≡ vector_of kind b.image
   unfolding effect_of does22 makes asked asked_by
-  make_vector = served_vector (Call Make) (λ h. made_vector kind p c b ok (may_make kind 0 p c b ok h))
+  make_vector = served_vector (Some Make) (λ h. made_vector kind p c b ok (may_make kind 0 p c b ok h))
 
   -- .. and so does Rename
-  pub rename_vector : vector_of kind (served kind (Call Rename) p c b).left.image ≡ vector_of kind b.image
+  pub rename_vector : vector_of kind (served kind (Some Rename) p c b).left.image ≡ vector_of kind b.image
   unfolding effect_of does23 asked asked_by
-  rename_vector = served_vector (Call Rename) (λ h. renamed_vector kind p c b ok (may_rename kind 0 p c b ok h))
+  rename_vector = served_vector (Some Rename) (λ h. renamed_vector kind p c b ok (may_rename kind 0 p c b ok h))

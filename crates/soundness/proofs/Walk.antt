@@ -17,8 +17,8 @@ use Rattle.words.proofs.Sets.{and_left}
 use Rattle.rules.specs.declared.kind.Kind.{Kind}
 use Rattle.rules.specs.declared.routine.Routine.TheVariants.{Open, Close, SearchFirst, SearchNext, Delete, Make, Rename, Read, Write, Size, WriteZeros}
 use Rattle.rules.specs.declared.routine.Routine.TheVariants.{TestWrite, Lock, Unlock, FreeSpace, Terminate}
-use Rattle.rules.specs.declared.routine.Chosen.{Chosen}
-use Rattle.rules.specs.declared.routine.Chosen.TheVariants.{Call, Unknown}
+use Rattle.std.specs.Prelude.{Option, Some, None}
+use Rattle.rules.specs.declared.routine.Routine.{Routine}
 use Rattle.rules.specs.Serves.{Buffers, Outcome, buffers, outcome, chosen, is_unknown, is_search}
 use Rattle.rules.specs.Drive.{entry_of, look_up, block_of}
 use Rattle.rules.specs.Kinds.{entries}
@@ -46,8 +46,8 @@ entry kind p b = entry_of kind b.image (file_by p b) (record_of b.fcb / 128)
 -- ---- one call's table and effect
 
 module _ (kind : Kind) (n p c : ℕ) (b : Buffers) (ok : Passed kind p c b) where
-  open_leaf : chosen n ≡ Call Open → any_row (rows_of (Call Open) (asked kind p c b) b) ≡ false
-      → Leaf kind n p c b (effect_of (Call Open) (asked kind p c b) b)
+  open_leaf : chosen n ≡ Some Open → any_row (rows_of (Some Open) (asked kind p c b) b) ≡ false
+      → Leaf kind n p c b (effect_of (Some Open) (asked kind p c b) b)
   unfolding rows_of effect_of asked asked_by does15 look_up is_opened ◌if◌else◌
   open_leaf k h =
       let w = passes_15 kind p (list_of b) (open_by p b) (file_by p b) (look_up kind b.image (file_by p b)) b.fcb h in
@@ -68,24 +68,24 @@ module _ (kind : Kind) (n p c : ℕ) (b : Buffers) (ok : Passed kind p c b) wher
       (either (ltb (open_by p b) 64))
 
   -- what stands where no row of its own refuses a 22
-  pub may_make : any_row (rows_of (Call Make) (asked kind p c b) b) ≡ false → MayMake kind p b
+  pub may_make : any_row (rows_of (Some Make) (asked kind p c b) b) ≡ false → MayMake kind p b
   unfolding rows_of asked asked_by look_up
   may_make h =
       let w = passes_22 kind p (list_of b) (look_up kind b.image (file_by p b)) b.fcb b.image h in
       record { legal = w.legal; gone = w.gone; within = w.within; room = w.room; entry_room = w.entry_room }
 
-  make_leaf : chosen n ≡ Call Make → any_row (rows_of (Call Make) (asked kind p c b) b) ≡ false
-      → Leaf kind n p c b (effect_of (Call Make) (asked kind p c b) b)
+  make_leaf : chosen n ≡ Some Make → any_row (rows_of (Some Make) (asked kind p c b) b) ≡ false
+      → Leaf kind n p c b (effect_of (Some Make) (asked kind p c b) b)
   unfolding effect_of asked asked_by does22 makes look_up
   make_leaf k h = newly_made k ok (may_make h) _
 
-  close_leaf : chosen n ≡ Call Close → any_row (rows_of (Call Close) (asked kind p c b) b) ≡ false
-      → Leaf kind n p c b (effect_of (Call Close) (asked kind p c b) b)
+  close_leaf : chosen n ≡ Some Close → any_row (rows_of (Some Close) (asked kind p c b) b) ≡ false
+      → Leaf kind n p c b (effect_of (Some Close) (asked kind p c b) b)
   unfolding rows_of effect_of asked asked_by does16
   close_leaf k h = now_closed k ok (passes_16 (open_by p b) h)
 
-  delete_leaf : chosen n ≡ Call Delete → any_row (rows_of (Call Delete) (asked kind p c b) b) ≡ false
-      → Leaf kind n p c b (effect_of (Call Delete) (asked kind p c b) b)
+  delete_leaf : chosen n ≡ Some Delete → any_row (rows_of (Some Delete) (asked kind p c b) b) ≡ false
+      → Leaf kind n p c b (effect_of (Some Delete) (asked kind p c b) b)
   unfolding rows_of effect_of asked asked_by does19 closed_where look_up is_opened ◌if◌else◌
   delete_leaf k h =
       let w = passes_19 kind p (list_of b) (file_by p b) (look_up kind b.image (file_by p b)) b.fcb b.image h in
@@ -96,20 +96,20 @@ module _ (kind : Kind) (n p c : ℕ) (b : Buffers) (ok : Passed kind p c b) wher
       (either (ltb (open_by p b) 64))
 
   -- what stands where no row of its own refuses a 23
-  pub may_rename : any_row (rows_of (Call Rename) (asked kind p c b) b) ≡ false → MayRename kind p b
+  pub may_rename : any_row (rows_of (Some Rename) (asked kind p c b) b) ≡ false → MayRename kind p b
   unfolding rows_of asked asked_by look_up stops_rename
   may_rename h =
       let found = look_up kind b.image (file_by p b) in
       let w = passes_23 kind (list_of b) (file_by p b) found (look_up kind b.image (new_by p b)) b.fcb b.image h in
       record { legal = w.legal; legal_new = w.legal_new; there = w.there; unopened = w.unstopped; gone_new = w.gone_new }
 
-  rename_leaf : chosen n ≡ Call Rename → any_row (rows_of (Call Rename) (asked kind p c b) b) ≡ false
-      → Leaf kind n p c b (effect_of (Call Rename) (asked kind p c b) b)
+  rename_leaf : chosen n ≡ Some Rename → any_row (rows_of (Some Rename) (asked kind p c b) b) ≡ false
+      → Leaf kind n p c b (effect_of (Some Rename) (asked kind p c b) b)
   unfolding effect_of asked asked_by does23
   rename_leaf k h = now_renamed k ok (may_rename h)
 
   -- what a 34 or 40 that no row refuses may do, ..
-  pub may_write : any_row (rows_of (Call Write) (asked kind p c b) b) ≡ false → MayWrite kind p b
+  pub may_write : any_row (rows_of (Some Write) (asked kind p c b) b) ≡ false → MayWrite kind p b
   unfolding rows_of asked asked_by look_up
   may_write h =
       let w = passes_34 kind p (list_of b) (open_by p b) (file_by p b) (first kind p b) (entry kind p b) (record_of b.fcb) b.image h in
@@ -121,13 +121,13 @@ module _ (kind : Kind) (n p c : ℕ) (b : Buffers) (ok : Passed kind p c b) wher
         block_room = w.room.block_room;
       }
 
-  write_leaf : (zeros : Bool) → (chosen n ≡ Call Write) ⊎ (chosen n ≡ Call WriteZeros) → any_row (rows_of (Call Write) (asked kind p c b) b) ≡ false
+  write_leaf : (zeros : Bool) → (chosen n ≡ Some Write) ⊎ (chosen n ≡ Some WriteZeros) → any_row (rows_of (Some Write) (asked kind p c b) b) ≡ false
       → Leaf kind n p c b (does34 kind zeros (file_by p b) (first kind p b) (entry kind p b) (record_of b.fcb) b)
   unfolding does34
   write_leaf zeros k h = now_written k ok (may_write h) zeros
 
   -- .. and a 41: a record that is there needs no room
-  pub may_rewrite : any_row (rows_of (Call TestWrite) (asked kind p c b) b) ≡ false
+  pub may_rewrite : any_row (rows_of (Some TestWrite) (asked kind p c b) b) ≡ false
       → MayWrite kind p b × (block_of kind b.image (file_by p b) (record_of b.fcb) ≡ 0 → ⊥)
   unfolding rows_of asked asked_by look_up block_of
   may_rewrite h =
@@ -146,13 +146,13 @@ module _ (kind : Kind) (n p c : ℕ) (b : Buffers) (ok : Passed kind p c b) wher
   pub second_full : 128 ≤ length (part 128 128 b.dma)
   second_full = let long = ok.ready.dma_long in simp (length-take, length-drop) (omega arith)
 
-  test_leaf : chosen n ≡ Call TestWrite → any_row (rows_of (Call TestWrite) (asked kind p c b) b) ≡ false
-      → Leaf kind n p c b (effect_of (Call TestWrite) (asked kind p c b) b)
+  test_leaf : chosen n ≡ Some TestWrite → any_row (rows_of (Some TestWrite) (asked kind p c b) b) ≡ false
+      → Leaf kind n p c b (effect_of (Some TestWrite) (asked kind p c b) b)
   unfolding effect_of asked asked_by does41 look_up
   test_leaf k h = let w = may_rewrite h in now_rewritten k ok w.0 w.1 (part 128 128 b.dma) second_full refl
 
-  lock_leaf : chosen n ≡ Call Lock → any_row (rows_of (Call Lock) (asked kind p c b) b) ≡ false
-      → Leaf kind n p c b (effect_of (Call Lock) (asked kind p c b) b)
+  lock_leaf : chosen n ≡ Some Lock → any_row (rows_of (Some Lock) (asked kind p c b) b) ≡ false
+      → Leaf kind n p c b (effect_of (Some Lock) (asked kind p c b) b)
   unfolding rows_of effect_of asked asked_by rows42 does42 ◌if◌else◌
   lock_leaf k h =
       let o = run_open kind (list_of b) (open_by p b) (record_of b.fcb) c b.dma _ h in
@@ -172,8 +172,8 @@ module _ (kind : Kind) (n p c : ℕ) (b : Buffers) (ok : Passed kind p c b) wher
       (λ (q : eqb (mode_by p b) 1 ≡ false). rw q (lock_idle k ok (record { is_open = o; not_unlocked = eqb-false _ _ q })))
       (either (eqb (mode_by p b) 1))
 
-  unlock_leaf : chosen n ≡ Call Unlock → any_row (rows_of (Call Unlock) (asked kind p c b) b) ≡ false
-      → Leaf kind n p c b (effect_of (Call Unlock) (asked kind p c b) b)
+  unlock_leaf : chosen n ≡ Some Unlock → any_row (rows_of (Some Unlock) (asked kind p c b) b) ≡ false
+      → Leaf kind n p c b (effect_of (Some Unlock) (asked kind p c b) b)
   unfolding rows_of effect_of asked asked_by rows43 does43 ◌if◌else◌
   unlock_leaf k h =
       let o = run_open kind (list_of b) (open_by p b) (record_of b.fcb) c b.dma _ h in
@@ -201,26 +201,26 @@ module _ (kind : Kind) (n p c : ℕ) (b : Buffers) (ok : Passed kind p c b) wher
       (map-id (list_of b).items) (now_searched k ok (e % 4) (e + 1) (omega arith) (found e))))
       (either (leb (entries kind) e))
 
-  leaf : (k : Chosen) → chosen n ≡ k → is_unknown k ≡ false → any_row (rows_of k (asked kind p c b) b) ≡ false
+  leaf : (k : Option Routine) → chosen n ≡ k → is_unknown k ≡ false → any_row (rows_of k (asked kind p c b) b) ≡ false
       → Leaf kind n p c b (effect_of k (asked kind p c b) b)
   unfolding effect_of rows_of asked asked_by look_up does17 does18 does33 does35 does46 does143 is_unknown is_search
-  leaf (Call Open) k u h = open_leaf k h
-  leaf (Call Close) k u h = close_leaf k h
-  leaf (Call SearchFirst) k u h = search_leaf (ap is_search k) _
-  leaf (Call SearchNext) k u h = search_leaf (ap is_search k) _
-  leaf (Call Delete) k u h = delete_leaf k h
-  leaf (Call Make) k u h = make_leaf k h
-  leaf (Call Rename) k u h = rename_leaf k h
-  leaf (Call Read) k u h = now_read k ok _
-  leaf (Call Write) k u h = write_leaf false (inl k) h
-  leaf (Call Size) k u h = now_sized k ok _
-  leaf (Call WriteZeros) k u h = write_leaf true (inr k) h
-  leaf (Call TestWrite) k u h = test_leaf k h
-  leaf (Call Lock) k u h = lock_leaf k h
-  leaf (Call Unlock) k u h = unlock_leaf k h
-  leaf (Call FreeSpace) k u h = now_told k ok _
-  leaf (Call Terminate) k u h = now_ended k ok
-  leaf Unknown k u h = absurd (never refl u)
+  leaf (Some Open) k u h = open_leaf k h
+  leaf (Some Close) k u h = close_leaf k h
+  leaf (Some SearchFirst) k u h = search_leaf (ap is_search k) _
+  leaf (Some SearchNext) k u h = search_leaf (ap is_search k) _
+  leaf (Some Delete) k u h = delete_leaf k h
+  leaf (Some Make) k u h = make_leaf k h
+  leaf (Some Rename) k u h = rename_leaf k h
+  leaf (Some Read) k u h = now_read k ok _
+  leaf (Some Write) k u h = write_leaf false (inl k) h
+  leaf (Some Size) k u h = now_sized k ok _
+  leaf (Some WriteZeros) k u h = write_leaf true (inr k) h
+  leaf (Some TestWrite) k u h = test_leaf k h
+  leaf (Some Lock) k u h = lock_leaf k h
+  leaf (Some Unlock) k u h = unlock_leaf k h
+  leaf (Some FreeSpace) k u h = now_told k ok _
+  leaf (Some Terminate) k u h = now_ended k ok
+  leaf None k u h = absurd (never refl u)
 
 -- a call's own table lets it pass where the whole one does
 pub split : (kind : Kind) (n p c : ℕ) (b : Buffers) → any_row (rows_call kind n p c b) ≡ false
@@ -229,7 +229,7 @@ unfolding rows_call
 split kind n p c b h = any_append (rows_all kind n p c b) (rows_of (chosen n) (asked kind p c b) b) h
 
 -- what an accepted call has passed, and what it did
-pub record Accepted (kind : Kind) (n p c : ℕ) (b : Buffers) (k : Chosen) : Type 0 where
+pub record Accepted (kind : Kind) (n p c : ℕ) (b : Buffers) (k : Option Routine) : Type 0 where
   -- the general table lets it pass, ..
   pub ok : Passed kind p c b
   -- .. and so does its own
@@ -238,13 +238,13 @@ pub record Accepted (kind : Kind) (n p c : ℕ) (b : Buffers) (k : Chosen) : Typ
   pub did : call kind n p c b ≡ effect_of k (asked kind p c b) b
 
 -- a call that no row refuses has passed both tables, and its outcome is the effect of the call that its function chooses
-pub accepted_as : (kind : Kind) (n p c : ℕ) (b : Buffers) (k : Chosen) → chosen n ≡ k → any_row (rows_call kind n p c b) ≡ false → Accepted kind n p c b k
+pub accepted_as : (kind : Kind) (n p c : ℕ) (b : Buffers) (k : Option Routine) → chosen n ≡ k → any_row (rows_call kind n p c b) ≡ false → Accepted kind n p c b k
 accepted_as kind n p c b k e h =
     let g = split kind n p c b h in
     record {
       ok = passed kind n p c b g.0;
-      passes = subst (λ (x : Chosen). any_row (rows_of x (asked kind p c b) b) ≡ false) e g.1;
-      did = accepted kind n p c b h ∙ ap (λ (x : Chosen). effect_of x (asked kind p c b) b) e;
+      passes = subst (λ (x : Option Routine). any_row (rows_of x (asked kind p c b) b) ≡ false) e g.1;
+      did = accepted kind n p c b h ∙ ap (λ (x : Option Routine). effect_of x (asked kind p c b) b) e;
     }
 
 -- every call ends in a leaf

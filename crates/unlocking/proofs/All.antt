@@ -6,8 +6,7 @@ use native.Mathlib.Omega.{arith}
 use Rattle.words.specs.Tests.{◌or◌}
 use Rattle.words.specs.Tables.{◌∕◌}
 use Rattle.rules.specs.declared.kind.Kind.{Kind}
-use Rattle.rules.specs.declared.kind.Told.{Told}
-use Rattle.rules.specs.declared.kind.Told.TheVariants.{Known, Other}
+use Rattle.std.specs.Prelude.{Option, Some, None}
 use Rattle.rules.specs.Several.{serves_run}
 use Rattle.rules.specs.Told.{call_told}
 use Rattle.rules.proofs.Several.{run_plain}
@@ -27,22 +26,22 @@ unlocking kind = record {
 }
 
 -- 42 and 43 take no run of single calls
-pub locks_plain : (kind : Kind) → locks_told (Known kind) ≡ locks kind
+pub locks_plain : (kind : Kind) → locks_told (Some kind) ≡ locks kind
 unfolding locks_told call_told locks serves_run ◌or◌
 locks_plain kind = λ i q list image. run_plain kind 42 q.process q.count (lent_to q list image) refl i
 
 -- (the same of 43)
-pub unlocks_plain : (kind : Kind) → unlocks_told (Known kind) ≡ unlocks kind
+pub unlocks_plain : (kind : Kind) → unlocks_told (Some kind) ≡ unlocks kind
 unfolding unlocks_told call_told unlocks serves_run ◌or◌
 unlocks_plain kind = λ i q list image. run_plain kind 43 q.process q.count (lent_to q list image) refl i
 
 -- an unknown kind: every call is refused
-other_after : (us : List Asking) (list image : List ℕ) → list_after (unlocks_told Other) us list image ≡ list
+other_after : (us : List Asking) (list image : List ℕ) → list_after (unlocks_told None) us list image ≡ list
 unfolding list_after unlocks_told call_told
 other_after [] list image = refl
 other_after (u ∷ us) list image = other_after us list image
 
-other_unlocking : Unlocking (locks_told Other) (unlocks_told Other)
+other_unlocking : Unlocking (locks_told None) (unlocks_told None)
 unfolding Commutes Repeats GivesBack TakesHeld locks_told unlocks_told call_told
 other_unlocking = record {
   commutes = λ u v list image. record {
@@ -63,15 +62,15 @@ other_unlocking = record {
   };
 }
   where
-    same : (q : Asking) (list image : List ℕ) → Keeps q image (unlocks_told Other q list image)
+    same : (q : Asking) (list image : List ℕ) → Keeps q image (unlocks_told None q list image)
     same q list image = unfold unlocks_told call_told in record { fcb_same = refl; dma_same = refl; image_same = refl }
 
     refused : ◌≡◌ {A = ℕ} (255 ∕ 13) 0 → ⊥
     refused e = absurd (omega arith)
 
 -- .. and as `mpm_call` promises it, whatever number it is told
-pub unlocking_told : (t : Told) → Unlocking (locks_told t) (unlocks_told t)
-unlocking_told (Known kind) =
-    subst (λ (d : Doing). Unlocking d (unlocks_told (Known kind))) (sym (locks_plain kind))
+pub unlocking_told : (t : Option Kind) → Unlocking (locks_told t) (unlocks_told t)
+unlocking_told (Some kind) =
+    subst (λ (d : Doing). Unlocking d (unlocks_told (Some kind))) (sym (locks_plain kind))
     (subst (λ (d : Doing). Unlocking (locks kind) d) (sym (unlocks_plain kind)) (unlocking kind))
-unlocking_told Other = other_unlocking
+unlocking_told None = other_unlocking

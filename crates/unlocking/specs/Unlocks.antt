@@ -1,10 +1,9 @@
 -- "Order of unlocks" (T-13), as statements about how a Lock and an Unlock are done, of every input. Assumes nothing.
-use Rattle.std.specs.Prelude.{ℕ, ◌+◌, ◌≡◌, Bool, true, false, List, [], ◌∷◌}
+use Rattle.std.specs.Prelude.{ℕ, ◌+◌, ◌≡◌, Bool, true, false, List, [], ◌∷◌, Option}
 use Rattle.words.specs.Tests.{any}
 use Rattle.words.specs.Bytes.{are_bytes}
 use Rattle.words.specs.Tables.{◌∕◌}
 use Rattle.rules.specs.declared.kind.Kind.{Kind}
-use Rattle.rules.specs.declared.kind.Told.{Told}
 use Rattle.rules.specs.declared.file.File.{File}
 use Rattle.rules.specs.Serves.{Buffers, Outcome, buffers, outcome}
 use Rattle.rules.specs.Locks.{held, unpack}
@@ -41,10 +40,10 @@ unfoldable pub unlocks : Kind → Doing
 unlocks kind q list image = call kind 43 q.process q.count (lent_to q list image)
 
 -- .. as `mpm_call` promises it, told the kind
-unfoldable pub locks_told : Told → Doing
+unfoldable pub locks_told : Option Kind → Doing
 locks_told t q list image = call_told t 42 q.process q.count (lent_to q list image)
 
-unfoldable pub unlocks_told : Told → Doing
+unfoldable pub unlocks_told : Option Kind → Doing
 unlocks_told t q list image = call_told t 43 q.process q.count (lent_to q list image)
 
 -- an outcome leaves the call's own FCB and DMA, and the image, as they were

@@ -258,4 +258,4 @@ module _ (s : List ℕ) (b : ℕ) (t : Bool) (e : t ≡ is_set s b) where
 
 pub ruleset clears = (rules, clear_yes, clear_no, any_none, any_goes, lowest_stops, lowest_ends)
 
-pub ruleset clear-counts = (rules, clear_yes, clear_no, count_none, count_adds, count_skips, count_ends)
+pub ruleset clear_counts = (rules, clear_yes, clear_no, count_none, count_adds, count_skips, count_ends)

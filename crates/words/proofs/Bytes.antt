@@ -126,17 +126,7 @@ module _ (at : ℕ) (v s : List ℕ) (fits : at + length v ≤ length s) where
       ∙ ap (λ (m : List ℕ). take (length v) m) (drop_at (take at s) (v ++ drop (at + length v) s) at front)
       ∙ take_at v (drop (at + length v) s) (length v) refl
 
--- ---- loops and loans that put bytes
-
--- a turn of a loop that copies
-pub paste_turn : (d : List ℕ) (at : ℕ) (s : List ℕ) (j : ℕ) (l : List ℕ) → at + j < length d → j < length s → l ≡ paste d at s j
-    → set l (at + j) (get_or s j 0) ≡ paste d at s (j + 1)
-paste_turn d at s j l h k e = ap (λ (m : List ℕ). set m (at + j) (get_or s j 0)) e ∙ rw add-one (paste-suc d at s j 0 h k)
-
--- the end of it
-pub paste_all : (d : List ℕ) (at : ℕ) (s l : List ℕ) (i : ℕ) → i ≡ length s → l ≡ paste d at s i → l ≡ put at s d
-unfolding put
-paste_all d at s l i e h = rw e at h ∙ ap (λ (v : List ℕ). take at d ++ v ++ drop (at + length s) d) (take-length s)
+-- ---- loans that put bytes
 
 -- a `&mut` slice xs, after its part from a to e was lent and came back as zs
 pub lent_back : (a e : ℕ) (xs ys zs : List ℕ) → a ≤ e → length zs ≡ e - a → ys ≡ zs → put_mid a (e - a) xs ys ≡ put a zs xs

@@ -1,4 +1,4 @@
--- Laws of copying, of blocks, of counting and of sums, as loops over bytes and items ask them. Assumes nothing.
+-- Laws of blocks, of counting and of sums, as loops over bytes and items ask them. Assumes nothing.
 use Prim.Native.Nat.{ℕ, zero, suc, ◌+◌, ◌≤◌, ◌<◌}
 use mathlib.Core.Path.{◌≡◌, refl, sym, ap, ◌∙◌}
 use mathlib.Core.Bool.{Bool, true, false}
@@ -11,12 +11,12 @@ use lib.ListN.{length, get_or, set, take, drop, length-set, length-append}
 use lib.Seq.{paste, paste-zero, take_at, length-take-le}
 use lib.Dec.{eqb, ltb}
 use borrow.Author.Rules.{rules}
+use Rattle.std.proofs.lemmas.List.Edits.{paste_more, paste_all}
 use borrow.Author.Tests.{eqb-true, eqb-false, lt-ltb, le-ltb, ltb-true, ltb-false}
 use Rattle.words.specs.Lists.{flat}
 use Rattle.words.specs.Bytes.{put}
 use Rattle.words.specs.Tests.{◌if◌else◌, count}
 use Rattle.words.proofs.Tests.{either}
-use Rattle.words.proofs.Bytes.{paste_turn, paste_all}
 use Rattle.words.proofs.Sets.{count_none, count_more, count_ends, not_answer}
 
 -- ---- copying: l is d with the first i bytes of s from a place on
@@ -32,11 +32,12 @@ pub pasted_more : (d : List ℕ) (at : ℕ) (s l : List ℕ) (i : ℕ) → Paste
     → Pasted d at s (set l (at + i) (get_or s i 0)) (i + 1)
 pasted_more d at s l i p h k = record {
   long = length-set l (at + i) (get_or s i 0) ∙ p.long;
-  so = paste_turn d at s i l (omega arith) k p.so;
+  so = ap (λ (x : List ℕ). set x (at + i) (get_or s i 0)) p.so ∙ paste_more d at s i 0 (omega arith) k;
 }
 
 pub pasted_ends : (d : List ℕ) (at : ℕ) (s l : List ℕ) (i : ℕ) → Pasted d at s l i → length s ≤ i → i ≤ length s → l ≡ put at s d
-pasted_ends d at s l i p h k = paste_all d at s l i (omega arith) p.so
+unfolding put
+pasted_ends d at s l i p h k = p.so ∙ (let q : i ≡ length s = omega arith in ap (paste d at s) q ∙ paste_all d at s (length s) refl ∙ sym (append_assoc (take at d) s (drop (at + length s) d)))
 
 pub ruleset pastes = (rules, pasted_none, pasted_more, pasted_ends)
 

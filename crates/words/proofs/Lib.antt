@@ -15,3 +15,4 @@ pub mod Spelled
 pub mod Hints
 pub mod Joined
 pub mod Greatest
+pub mod Made

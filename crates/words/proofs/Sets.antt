@@ -235,9 +235,9 @@ pub ruleset answers = (is_yes, is_no, not_yes, not_no)
 
 pub ruleset alls = (rules, eq-eqb, ne_eqb, answers, all_none, all_more, all_stops, all_ends)
 
-pub ruleset alls-as = (rules, eq-eqb, ne_eqb, answers, all_none, all_more, all_stops_as, all_ends_as)
+pub ruleset alls_as = (rules, eq-eqb, ne_eqb, answers, all_none, all_more, all_stops_as, all_ends_as)
 
-pub ruleset lowests-as = (rules, answers, any_none, any_goes, lowest_stops_as, lowest_ends_as)
+pub ruleset lowests_as = (rules, answers, any_none, any_goes, lowest_stops_as, lowest_ends_as)
 
 pub ruleset anys = (rules, answers, any_none, any_goes, any_stops, any_ends)
 
@@ -250,7 +250,7 @@ pub ruleset fills = (rules, refl, filled_none, filled_turn, filled_ends)
 pub turns_ends_as : {A : Type 0} (step : ℕ → A → A) (m n i : ℕ) (x y : A) → m ≡ n → y ≡ turns step i x → m ≤ i → i ≤ m → y ≡ turns step n x
 turns_ends_as step m n i x y q h g l = turns_ends step n i x y h (omega arith) (omega arith)
 
-pub ruleset turning-as = (rules, refl, turns_none, turns_more, turns_ends_as)
+pub ruleset turning_as = (rules, refl, turns_none, turns_more, turns_ends_as)
 
 pub ruleset turning = (rules, refl, turns_none, turns_more, turns_ends)
 

@@ -38,31 +38,28 @@ pub fn clear(bits: &mut [u8], b: usize)
 }
 
 // The lowest number below `n` whose bit is clear, `n` where there is none.
+#[tactic(auto, using(crate::proofs::Bitwise::clears))]
 pub fn lowest_clear(bits: &[u8], n: usize) -> usize
     requires { n ≤ 8 * length bits.now }
     ensures { (result ≡ lowest (is_clear bits.now) n) × (result ≤ n) }
 {
-    let mut b = 0;
-    while b < n {
+    for b in 0..n {
         if !is_set(bits, b) {
             return b;
         }
-        b += 1;
     }
-    b
+    n
 }
 
 // How many numbers below `n` have a clear bit.
+#[tactic(auto, using(crate::proofs::Bitwise::clear_counts))]
 pub fn clear_count(bits: &[u8], n: usize) -> usize
     requires { n ≤ 8 * length bits.now }
     ensures { (result ≡ count (is_clear bits.now) n) × (result ≤ n) }
 {
     let mut clear = 0;
-    let mut b = 0;
-    while b < n {
-        let t = is_set(bits, b);
-        b += 1;
-        if !t {
+    for b in 0..n {
+        if !is_set(bits, b) {
             clear += 1;
         }
     }

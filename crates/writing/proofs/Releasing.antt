@@ -1,14 +1,6 @@
 -- Bits of the vector set and cleared: a block taken, a file's blocks number by number and entry by entry. Assumes nothing.
-use Prim.Native.Nat.{ℕ, ◌+◌, ◌*◌, ◌≤◌, ◌<◌}
-use mathlib.Core.Path.{◌≡◌, refl, sym, ap, subst, ◌∙◌}
-use mathlib.Core.Bool.{Bool, true, false, not}
-use mathlib.Core.List.{List}
-use mathlib.Core.Logic.{⊎_elim}
-use native.Mathlib.Numerals.{add-one}
-use native.Mathlib.Omega.{arith}
-use lib.ListN.{length}
-use lib.Dec.{leb}
-use borrow.Author.Tests.{eq-eqb, ne_eqb, leb-true, le-leb, ltb-true, not-true}
+use Rattle.std.proofs.Common.{ℕ, ◌+◌, ◌*◌, ◌≤◌, ◌<◌, ◌≡◌, refl, sym, ap, subst, ◌∙◌, Bool, true, false, not, List, ⊎_elim, add-one, arith, length, leb, eq-eqb, ne_eqb, leb-true, le-leb, ltb-true}
+use borrow.Author.Tests.{not-true}
 use Rattle.words.specs.Tests.{◌and◌, ◌or◌, ◌if◌else◌, all, any}
 use Rattle.words.specs.Bits.{is_set, without_bit}
 use Rattle.words.proofs.Tests.{either, equal?, all_at, and_fst, and_snd, and_false, or_so}

@@ -1,36 +1,35 @@
-ghost use Rattle.std.specs.Prelude.{◌≡◌, ◌*◌, ◌≤◌, length};
-ghost use Rattle.rules.specs.Kinds.{entries, most};
+ghost use Rattle.std.specs.Prelude.{◌≡◌, ◌≤◌};
+ghost use Rattle.rules.specs.Kinds.{most};
 ghost use Rattle.rules.specs.Drive.{blocks};
 ghost use Rattle.rules.specs.Effects.{spot_at};
 ghost use Rattle.rules.specs.Vector.{vector_of};
 
-use directory::find::{block_in, free_entry};
+use directory::find::Directory;
 use drive::free::free_block;
-use rules::kind::{Kind, entries};
+use rules::kind::entries;
 use rules::spot::Spot;
 
-// Where record `r` is to be written, its extent being at entry `e` (the number of entries: missing). Nothing is taken yet.
-pub fn spot_at(kind: Kind, image: &[u8], vector: &[u8], e: usize, r: usize) -> Spot
-    requires { (32 * entries kind ≤ length image.now) × (blocks kind image.now ≤ most kind) × (vector.now ≡ vector_of kind image.now) }
-    ensures { result ≡ spot_at kind image.now e r }
+// Where record `r` is to be written, its extent being at entry `e` (the number of entries: missing). Nothing is taken
+// yet. `fresh` and `taken` say that the entry or the block is a new one, not whether there is one: so no Option.
+#[tactic(auto, using(words::proofs::Sets::choices, words::proofs::Sets::leb_yes_as, words::proofs::Sets::leb_no_as, crate::proofs::Entries::spot_is), unfolding(rules::specs::Effects::spot_at))]
+pub fn spot_at(directory: &Directory, vector: &[u8], e: usize, r: usize) -> Spot
+    requires { (blocks directory.now.kind directory.now.image.now ≤ most directory.now.kind) × (vector.now ≡ vector_of directory.now.kind directory.now.image.now) }
+    ensures { result ≡ spot_at directory.now.kind directory.now.image.now e r }
 {
-    if entries(kind) <= e {
-        let entry = free_entry(kind, image);
-        let block = free_block(kind, image, vector);
+    if entries(directory.kind) <= e {
         return Spot {
-            entry: entry,
+            entry: directory.free_entry(),
             fresh: true,
-            block: block,
+            block: free_block(directory.kind, directory.image, vector),
             taken: true,
         };
     }
-    let own = block_in(kind, image, e, r);
+    let own = directory.block_in(e, r);
     if own == 0 {
-        let block = free_block(kind, image, vector);
         return Spot {
             entry: e,
             fresh: false,
-            block: block,
+            block: free_block(directory.kind, directory.image, vector),
             taken: true,
         };
     }

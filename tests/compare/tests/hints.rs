@@ -7,6 +7,7 @@ use std::collections::BTreeSet;
 
 const SLOT: &str = include_str!("../../../crates/index/src/slot.rt");
 const APART: &str = include_str!("../../../crates/listcheck/src/apart.rt");
+const ITEM: &str = include_str!("../../../crates/rules/src/item.rt");
 
 /// The body of a function, without white space.
 fn body(source: &str, function: &str) -> String {
@@ -20,17 +21,16 @@ fn body(source: &str, function: &str) -> String {
 
 #[test]
 fn the_weights_are_those_of_the_engine() {
-    let term = |(at, weight): (usize, &usize)| match weight {
-        1 => format!("wide(n[{at}])"),
-        _ => format!("{weight}*wide(n[{at}])"),
-    };
-    let terms: Vec<String> = WEIGHTS.iter().enumerate().map(term).collect();
-    assert_eq!(body(SLOT, "mixed"), terms.join("+"));
+    let weights: Vec<String> = WEIGHTS.iter().map(|weight| weight.to_string()).collect();
+    let table = format!("const WEIGHTS: [usize; 11] = [{}];", weights.join(", "));
+    assert!(SLOT.contains(&table), "{table}");
+    assert_eq!(
+        body(SLOT, "mixed"),
+        "letmutsum=0;for(k,byte)inname.iter().enumerate(){sum+=WEIGHTS[k]*usize::from(*byte);}sum"
+    );
     assert_eq!(
         body(SLOT, "slot_of"),
-        format!(
-            "letname=f.name;(mixed(name)+{USER_WEIGHT}*wide(f.user)+{NUMBER_WEIGHT}*(extent%{SLOTS}))%{SLOTS}"
-        )
+        format!("(mixed(f.name)+{USER_WEIGHT}*usize::from(f.user)+{NUMBER_WEIGHT}*(extent%{SLOTS}))%{SLOTS}")
     );
 }
 
@@ -38,9 +38,10 @@ fn the_weights_are_those_of_the_engine() {
 fn an_item_has_the_slot_of_its_file_and_record() {
     assert_eq!(
         body(APART, "item_slot"),
-        "letf=file_by(users,it);slot_of(f,lock_number(it)asusize)"
+        "slot_of(places.file(it),lock_number(it)asusize)"
     );
-    assert_eq!(body(APART, "lock_number"), "ifit.kind==2{returnit.number;}0");
+    assert_eq!(body(APART, "lock_number"), "ifit.kind==A_LOCK{it.number}else{0}");
+    assert!(ITEM.contains("pub const A_LOCK: u8 = 2;"));
 }
 
 #[test]

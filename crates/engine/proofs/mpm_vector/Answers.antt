@@ -3,7 +3,7 @@ use Rattle.engine.proofs.Told.{build_known, build_other}
 use Rattle.engine.proofs.mpm_vector.Goals as goal
 
 pub returns-in_default : goal.returns-in_default
-returns-in_default c = search (build_known, build_other)
+returns-in_default c = rw c.code.ensures.0 (search (build_known, build_other))
 
 pub returns : goal.returns
-returns c = search (build_known, build_other)
+returns c = rw c.answer_of.ensures (search (build_known, build_other))

@@ -1,24 +1,13 @@
--- `directory::find::any_entry` meets its contract.
-use Rattle.words.proofs.Sets.{anys}
+-- The closure is the test.
+use Rattle.std.proofs.Common.{◌∙◌, refl, arith, rules, tests}
+use Rattle.std.proofs.lemmas.Iterator.{YieldsList-from_range}
+use Rattle.std.proofs.lemmas.Iterator.Search.{any_from_yields_List}
+use Rattle.rules.specs.Drive.{is_entry}
+use Rattle.directory.proofs.Finding.{list_any-range}
 use Rattle.directory.proofs.find.any_entry.Goals as goal
 
-pub loop-e-init : goal.loop-e-init
-loop-e-init c = search anys
-
-pub is_entry-requires : goal.is_entry-requires
-is_entry-requires c = search anys
-
-pub returns-then-is_entry : goal.returns-then-is_entry
-returns-then-is_entry c = search anys
-
-pub overflow_add-e : goal.overflow_add-e
-overflow_add-e c = search anys
-
-pub loop-e-smaller : goal.loop-e-smaller
-loop-e-smaller c = search anys
-
-pub loop-e-preserved : goal.loop-e-preserved
-loop-e-preserved c = search anys
-
 pub returns : goal.returns
-returns c = search anys
+returns c =
+    let test = is_entry c.args.image.now c.args.f c.args.extent in
+    any_from_yields_List test _ _ c.any.result c.any.ensures.ran (YieldsList-from_range 0 c.args.n c.args.n refl (omega arith)) (λ x b q k. search (rules, tests))
+    ∙ list_any-range test c.args.n

@@ -1,13 +1,8 @@
--- `listcheck::check::all_zero` meets its contract.
-use Prim.Native.Nat.{◌-◌, ◌≤◌}
-use mathlib.Core.Path.{◌≡◌}
-use mathlib.Core.Bool.{true}
+-- The places so far have their zero.
+use Rattle.std.proofs.Common.{◌≡◌, true}
 use Rattle.words.specs.Tests.{all}
 use Rattle.rules.specs.Locks.{zero_at}
 use Rattle.listcheck.proofs.check.all_zero.Given as goal
 
 abbrev pub invariant-loop-i : goal.invariant-loop-i
-invariant-loop-i l = (l.i ≤ l.end) × (l.end ≤ 64) × (all (zero_at l.list) l.i ≡ true)
-
-abbrev pub decreases-loop-i : goal.decreases-loop-i
-decreases-loop-i l = l.end - l.i
+invariant-loop-i l = all (zero_at l.places.list.now) l.i ≡ true

@@ -1,24 +1,11 @@
--- `listcheck::limits::all_at_most` meets its contract.
+-- What the chain answers.
+use Rattle.std.proofs.Common.{leb, sym, ◌∙◌, rules, tests}
+use Rattle.std.proofs.lemmas.Iterator.{YieldsList-from_slice}
+use Rattle.std.proofs.lemmas.Iterator.Search.{all_from_yields_List}
 use Rattle.listcheck.proofs.Tallies.{mosts}
 use Rattle.listcheck.proofs.limits.all_at_most.Goals as goal
 
-pub loop-p-init : goal.loop-p-init
-loop-p-init c = search mosts
-
-pub bounds-counts-p : goal.bounds-counts-p
-bounds-counts-p c = search mosts
-
-pub returns-then-most-counts : goal.returns-then-most-counts
-returns-then-most-counts c = search mosts
-
-pub overflow_add-p : goal.overflow_add-p
-overflow_add-p c = search mosts
-
-pub loop-p-smaller : goal.loop-p-smaller
-loop-p-smaller c = search mosts
-
-pub loop-p-preserved : goal.loop-p-preserved
-loop-p-preserved c = search mosts
-
 pub returns : goal.returns
-returns c = search mosts
+returns c =
+    all_from_yields_List (λ n. leb n c.args.most) _ _ _ c.all.ensures.ran (YieldsList-from_slice c.args.counts cc) (λ x b q k. search (rules, tests))
+    ∙ sym (mosts _ _ (search rules))

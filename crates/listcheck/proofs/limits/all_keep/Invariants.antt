@@ -1,11 +1,11 @@
--- `listcheck::limits::all_keep` meets its contract.
-use Prim.Native.Nat.{◌-◌, ◌≤◌}
+-- What the places so far have.
+use Rattle.std.proofs.Common.{◌≡◌}
 use Rattle.rules.specs.Locks.{unpack}
-use Rattle.listcheck.specs.Check.{Tally}
+use Rattle.listcheck.specs.Check.{counted}
 use Rattle.listcheck.proofs.limits.all_keep.Given as goal
 
 abbrev pub invariant-loop-i : goal.invariant-loop-i
-invariant-loop-i l = (l.i ≤ l.end) × (l.end ≤ 64) × Tally (unpack l.list) 1 l.opens l.i × Tally (unpack l.list) 2 l.locks l.i
-
-abbrev pub decreases-loop-i : goal.decreases-loop-i
-decreases-loop-i l = l.end - l.i
+invariant-loop-i l = record {
+  opens : l.opens ≡ counted (unpack l.places.list.now) 1 l.i;
+  locks : l.locks ≡ counted (unpack l.places.list.now) 2 l.i;
+}

@@ -1,33 +1,13 @@
 -- `locklist::limit::all_users` meets its contract.
-use borrow.Author.Tests.{lt-leb, le-leb}
-use Rattle.words.proofs.Sets.{alls}
+use Rattle.std.proofs.Common.{leb, ◌∙◌, rules, tests, refl}
+use Rattle.std.proofs.lemmas.Iterator.{YieldsList-from_slice}
+use Rattle.std.proofs.lemmas.Iterator.Search.{all_from_yields_List}
 use Rattle.rules.specs.Locks.{is_user}
+use Rattle.rules.proofs.Chains.{all_all}
 use Rattle.locklist.proofs.limit.all_users.Goals as goal
-
-pub loop-p-init : goal.loop-p-init
-unfolding is_user
-loop-p-init c = search (alls, lt-leb, le-leb)
-
-pub bounds-users-p : goal.bounds-users-p
-unfolding is_user
-bounds-users-p c = search (alls, lt-leb, le-leb)
-
-pub returns-then-users-p-gt15 : goal.returns-then-users-p-gt15
-unfolding is_user
-returns-then-users-p-gt15 c = search (alls, lt-leb, le-leb)
-
-pub overflow_add-p : goal.overflow_add-p
-unfolding is_user
-overflow_add-p c = search (alls, lt-leb, le-leb)
-
-pub loop-p-smaller : goal.loop-p-smaller
-unfolding is_user
-loop-p-smaller c = search (alls, lt-leb, le-leb)
-
-pub loop-p-preserved : goal.loop-p-preserved
-unfolding is_user
-loop-p-preserved c = search (alls, lt-leb, le-leb)
 
 pub returns : goal.returns
 unfolding is_user
-returns c = search (alls, lt-leb, le-leb)
+returns c =
+    all_from_yields_List (λ user. leb user 15) _ _ _ c.all.ensures.ran (YieldsList-from_slice c.args.users.now cc) (λ x b q k. search (rules, tests))
+    ∙ all_all (λ user. leb user 15) (is_user c.args.users.now) 0 c.args.users.now 16 c.requires (λ k m. refl)

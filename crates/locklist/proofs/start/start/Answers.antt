@@ -1,12 +1,10 @@
 -- `locklist::start::start` meets its contract.
-use Rattle.locklist.proofs.Starts.{starts}
+use Rattle.std.proofs.Common.{rules}
+use Rattle.locklist.proofs.Starts.{start_refused, start_begun, fresh_packed}
 use Rattle.locklist.proofs.start.start.Goals as goal
 
-pub returns-then-bad_start : goal.returns-then-bad_start
-returns-then-bad_start c = search starts
-
-pub begin-requires : goal.begin-requires
-begin-requires c = search starts
+pub returns-in_err-start_refusal : goal.returns-in_err-start_refusal
+returns-in_err-start_refusal c = start_refused _ _ _ _ _ _ _ _ _ (search rules) c.in_err-start_refusal.ensures.told
 
 pub returns : goal.returns
-returns c = search starts
+returns c = start_begun _ _ _ _ _ _ _ _ _ c.in_ok-start_refusal.ensures.told (search (rules, fresh_packed))

@@ -1,10 +1,7 @@
 -- `locklist::unpack::unpack` meets its contract.
-use Prim.Native.Nat.{◌-◌, ◌≤◌}
-use Rattle.locklist.proofs.Packs.{Placed}
+use Rattle.std.proofs.Common.{◌≡◌}
+use Rattle.locklist.proofs.Packs.{placed_to}
 use Rattle.locklist.proofs.unpack.unpack.Given as goal
 
 abbrev pub invariant-loop-i : goal.invariant-loop-i
-invariant-loop-i l = (l.i ≤ l.end) × (l.end ≤ 64) × Placed l.list l.initial.l l.l l.i
-
-abbrev pub decreases-loop-i : goal.decreases-loop-i
-decreases-loop-i l = l.end - l.i
+invariant-loop-i l = l.l ≡ placed_to l.list l.i l.initial.l

@@ -1,13 +1,8 @@
--- `moving::held::same_places` meets its contract.
-use Prim.Native.Nat.{◌-◌, ◌≤◌}
-use mathlib.Core.Path.{◌≡◌}
-use mathlib.Core.Bool.{true}
+-- The places before `k` hold the same.
+use Rattle.std.proofs.Common.{◌≡◌, true}
 use Rattle.words.specs.Tests.{all}
 use Rattle.packing.specs.Same.{same_place}
 use Rattle.moving.proofs.held.same_places.Given as goal
 
 abbrev pub invariant-loop-k : goal.invariant-loop-k
-invariant-loop-k l = (l.k ≤ l.m) × (all (same_place l.kind l.first l.e l.second l.d) l.k ≡ true)
-
-abbrev pub decreases-loop-k : goal.decreases-loop-k
-decreases-loop-k l = l.m - l.k
+invariant-loop-k l = all (same_place l.fn.second.kind l.fn.first.image.now l.fn.first.place l.fn.second.image.now l.d) l.k ≡ true

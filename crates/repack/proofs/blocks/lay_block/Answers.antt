@@ -2,17 +2,11 @@
 use Rattle.repack.proofs.Laying.{copying}
 use Rattle.repack.proofs.blocks.lay_block.Goals as goal
 
-pub map_number-n-requires : goal.map_number-n-requires
-map_number-n-requires c = search copying depth 8 fits 20000
-
 pub returns-then-n-eq0 : goal.returns-then-n-eq0
 returns-then-n-eq0 c = search copying depth 8 fits 20000
 
 pub copy_block-requires : goal.copy_block-requires
 copy_block-requires c = search copying depth 8 fits 20000
-
-pub overflow_add-result : goal.overflow_add-result
-overflow_add-result c = search copying depth 8 fits 20000
 
 pub returns : goal.returns
 returns c = search copying depth 8 fits 20000

@@ -1,12 +1,7 @@
--- `repack::entries::lay_entries` meets its contract.
-use Prim.Native.Nat.{◌-◌, ◌≤◌}
-use mathlib.Core.Path.{◌≡◌}
-use lib.ListN.{length}
+-- The used ones of the entries before `e` are laid down.
+use Rattle.std.proofs.Common.{◌≤◌}
 use Rattle.repack.specs.Laying.{LaidEntries}
 use Rattle.repack.proofs.entries.lay_entries.Given as goal
 
 abbrev pub invariant-loop-e : goal.invariant-loop-e
-invariant-loop-e l = (l.e ≤ l.n) × ((l.to ≤ l.e) × ((length l.out ≡ length l.initial.out) × LaidEntries l.kind l.image l.e l.to l.next l.out))
-
-abbrev pub decreases-loop-e : goal.decreases-loop-e
-decreases-loop-e l = l.n - l.e
+invariant-loop-e l = (l.to ≤ l.e) × LaidEntries l.fn.directory.kind l.fn.directory.image.now l.e l.to l.next l.out

@@ -5,4 +5,4 @@ use Rattle.repack.proofs.pack.pack_directory.Goals as goal
 
 pub returns : goal.returns
 returns c =
-    directory_done _ _ _ _ _ _ _ c.lay_entries-to.ensures.1 c.entries-n.ensures.0 c.requires.2 (search rules) c.fill_to.ensures
+    directory_done _ _ _ _ _ _ _ c.lay_entries-to.ensures.1 c.entries.ensures.0 (search rules) (search rules) c.fill_to.ensures

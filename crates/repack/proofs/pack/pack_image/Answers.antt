@@ -3,5 +3,5 @@ use borrow.Author.Rules.{rules}
 use Rattle.rules.proofs.Sound.{image_long}
 use Rattle.repack.proofs.pack.pack_image.Goals as goal
 
-pub pack_directory-requires : goal.pack_directory-requires
-pack_directory-requires c = search (rules, image_long)
+pub invariant_of-directory : goal.invariant_of-directory
+invariant_of-directory c = search (rules, image_long)

@@ -1,7 +1,4 @@
 -- `salvage::empty::begin` meets its contract.
-use Prim.Native.Nat.{◌-◌, ◌≤◌}
-use mathlib.Core.Path.{◌≡◌}
-use lib.ListN.{length}
 use Rattle.words.specs.Lists.{turns}
 use Rattle.rules.specs.Kinds.{entries}
 use Rattle.repair.specs.Salvage.{begun_at}
@@ -9,7 +6,4 @@ use Rattle.salvage.specs.Passes.{Known}
 use Rattle.salvage.proofs.empty.begin.Given as goal
 
 abbrev pub invariant-loop-e : goal.invariant-loop-e
-invariant-loop-e l = (l.e ≤ l.n) × (length l.image ≡ length l.initial.image) × Known (turns (begun_at l.kind) l.e l.initial.image) (entries l.kind) l.image l.hints
-
-abbrev pub decreases-loop-e : goal.decreases-loop-e
-decreases-loop-e l = l.n - l.e
+invariant-loop-e l = Known (turns (begun_at l.kind) l.e l.initial.image) (entries l.kind) l.image l.hints

@@ -5,8 +5,5 @@ use Rattle.salvage.proofs.empty.must_go.Goals as goal
 pub returns-then-is_empty : goal.returns-then-is_empty
 returns-then-is_empty c = search choosing
 
-pub returns-then-field_reason-ne0 : goal.returns-then-field_reason-ne0
-returns-then-field_reason-ne0 c = search choosing
-
 pub returns : goal.returns
 returns c = search choosing

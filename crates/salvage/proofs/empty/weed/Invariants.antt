@@ -1,14 +1,8 @@
 -- `salvage::empty::weed` meets its contract.
-use Prim.Native.Nat.{◌-◌, ◌≤◌}
-use mathlib.Core.Path.{◌≡◌}
-use lib.ListN.{length}
 use Rattle.words.specs.Lists.{turns}
 use Rattle.repair.specs.Salvage.{weeded_at}
 use Rattle.salvage.specs.Passes.{Known}
 use Rattle.salvage.proofs.empty.weed.Given as goal
 
 abbrev pub invariant-loop-e : goal.invariant-loop-e
-invariant-loop-e l = (l.e ≤ l.n) × (length l.image ≡ length l.initial.image) × Known (turns (weeded_at l.kind) l.e l.initial.image) l.e l.image l.hints
-
-abbrev pub decreases-loop-e : goal.decreases-loop-e
-decreases-loop-e l = l.n - l.e
+invariant-loop-e l = Known (turns (weeded_at l.kind) l.e l.initial.image) l.e l.image l.hints

@@ -1,33 +1,13 @@
 -- `salvage::maps::clear_map` meets its contract.
 use Rattle.salvage.proofs.Zeroed.{mapping}
 use Rattle.salvage.proofs.maps.clear_map.Goals as goal
-
-pub numbers-m-requires : goal.numbers-m-requires
-numbers-m-requires c = search mapping depth 6 fits 20000
+use Rattle.salvage.proofs.maps.clear_map.Goals.{then-clear_at, else-clear_at}
 
 pub loop-k-init : goal.loop-k-init
-loop-k-init c = search mapping depth 6 fits 20000
+loop-k-init c = search mapping
 
-pub clear_at-n-requires : goal.clear_at-n-requires
-clear_at-n-requires c = search mapping depth 6 fits 20000
-
-pub overflow_add-n : goal.overflow_add-n
-overflow_add-n c = search mapping depth 6 fits 20000
-
-pub overflow_add-k : goal.overflow_add-k
-overflow_add-k c = search mapping depth 6 fits 20000
-
-pub loop-k-smaller : goal.loop-k-smaller
-loop-k-smaller c = search mapping depth 6 fits 20000
+pub overflow_add-zeroed : goal.overflow_add-zeroed
+overflow_add-zeroed c = search mapping
 
 pub loop-k-preserved : goal.loop-k-preserved
-loop-k-preserved c = search mapping depth 6 fits 20000
-
-pub shape_of-image : goal.shape_of-image
-shape_of-image c = search mapping depth 6 fits 20000
-
-pub shape_of-seen : goal.shape_of-seen
-shape_of-seen c = search mapping depth 6 fits 20000
-
-pub returns : goal.returns
-returns c = search mapping depth 6 fits 20000
+loop-k-preserved c = elim c.if-clear_at.branch [ then-clear_at w ↦ rw w.zeroed-is (search mapping) | else-clear_at w ↦ rw w.zeroed-is (search mapping) ]

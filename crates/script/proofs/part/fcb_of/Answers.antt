@@ -1,13 +1,7 @@
 -- `script::part::fcb_of` meets its contract.
-use borrow.Author.Rules.{rules}
-use native.Mathlib.Omega.{arith}
-use Rattle.script.proofs.Parts.{part_fits, part_copied}
+use Rattle.std.proofs.Common.{arith}
+use Rattle.script.proofs.Parts.{part_copied}
 use Rattle.script.proofs.part.fcb_of.Goals as goal
 
-pub put_bytes-requires : goal.put_bytes-requires
-put_bytes-requires c = part_fits c.args.s.now _ 5 36 2089 c.fcb_in.ensures (search rules) (omega arith)
-
 pub returns : goal.returns
-returns c = let put = c.put_bytes.ensures in
-    let got = c.fcb_in.ensures in
-    part_copied c.args.s.now _ _ _ 5 36 2089 put got (search rules) (omega arith) (search rules)
+returns c = part_copied _ _ _ 36 c.array_from.ensures (omega arith)

@@ -1,25 +1,14 @@
 -- `script::record::is_record` meets its contract.
-use borrow.Author.Rules.{rules}
-use Rattle.words.proofs.Sets.{choices}
+use Rattle.std.proofs.Common.{arith, ◌∙◌, ne_eqb, eq-eqb}
 use Rattle.script.specs.Records.{is_record}
+use Rattle.words.proofs.Sets.{and_then, and_first}
+use Rattle.script.proofs.Records.{begins_with}
 use Rattle.script.proofs.record.is_record.Goals as goal
 
 pub returns-then-s-size : goal.returns-then-s-size
 unfolding is_record
-returns-then-s-size c = search choices depth 8 fits 20000
+returns-then-s-size c = and_then _ _ _ (eq-eqb _ _ c.if-s-size.true) (c.starts_with.ensures.value ∙ begins_with c.args.s.now 77 c.args.mark (omega arith))
 
-pub bounds-s-0 : goal.bounds-s-0
+pub returns-else-s-size : goal.returns-else-s-size
 unfolding is_record
-bounds-s-0 c = search rules
-
-pub returns-then-s-ne77 : goal.returns-then-s-ne77
-unfolding is_record
-returns-then-s-ne77 c = search choices depth 8 fits 20000
-
-pub bounds-s-1 : goal.bounds-s-1
-unfolding is_record
-bounds-s-1 c = search rules
-
-pub returns : goal.returns
-unfolding is_record
-returns c = search choices depth 8 fits 20000
+returns-else-s-size c = ne_eqb _ _ c.if-s-size.false ∙ and_first _ _ (ne_eqb _ _ c.if-s-size.false)

@@ -1,8 +1,7 @@
--- `searching::search::search_first` meets its contract.
+-- A search from entry 0 on is what 17 does.
+use Rattle.std.proofs.Common.{refl}
 use Rattle.searching.proofs.Finding.{first_called}
 use Rattle.searching.proofs.search.search_first.Goals as goal
 
 pub returns : goal.returns
-returns c =
-    first_called _ _ 1 _ _ _ _ _ _ _ _ _ c.requires.0 c.user_of.ensures c.next_after.ensures c.show.ensures c.move_to.ensures
-    c.pack.ensures c.place_told.ensures c.match_from-e.ensures.0
+returns c = first_called _ _ _ _ _ _ _ c.requires.0 c.search_from.ensures refl

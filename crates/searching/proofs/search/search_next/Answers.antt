@@ -1,8 +1,7 @@
--- `searching::search::search_next` meets its contract.
+-- A search from the caller's position on is what 18 does.
+use Rattle.std.proofs.Common.{◌∙◌}
 use Rattle.searching.proofs.Finding.{next_called}
 use Rattle.searching.proofs.search.search_next.Goals as goal
 
 pub returns : goal.returns
-returns c =
-    next_called _ _ 1 _ _ _ _ _ _ _ _ _ c.requires.0 c.user_of.ensures c.next_after.ensures c.show.ensures c.move_to.ensures
-    c.pack.ensures c.place_told.ensures _ c.position_of-from.ensures c.match_from-e.ensures.0
+returns c = next_called _ _ _ _ _ _ _ c.requires.0 c.search_from.ensures (c.from-from.ensures ∙ c.position_of.ensures)

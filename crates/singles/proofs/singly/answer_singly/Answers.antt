@@ -1,21 +1,32 @@
 -- `singles::singly::answer_singly` meets its contract.
-use mathlib.Core.Path.{ap}
-use mathlib.Core.Bool.{not}
+use Rattle.std.proofs.Common.{not, refl, ap}
 use Rattle.words.proofs.Sets.{not_yes}
-use Rattle.singles.proofs.Each.{singly_other, singly_stopped, singly_went, goes_each}
+use Rattle.rules.specs.Serves.{buffers}
+use Rattle.calls.proofs.Admitted.{wrong_fcb, wrong_dma, wrong_list}
+use Rattle.singles.proofs.Each.{singly_other, singly_unsized}
 use Rattle.singles.proofs.singly.answer_singly.Goals as goal
 
 pub returns-then-not-serves_run : goal.returns-then-not-serves_run
 returns-then-not-serves_run c = search singly_other
 
-pub returns-then-code-ne0 : goal.returns-then-code-ne0
-returns-then-code-ne0 c = search singly_stopped
+pub answer_each-requires : goal.answer_each-requires
+answer_each-requires c = not_yes _ _ c.serves_run.ensures (ap not c.if-not-serves_run.false)
 
-pub call_each-requires : goal.call_each-requires
-call_each-requires c = let e = c.serves_run.ensures in
-    let g = goes_each _ _ _ _ _ _ _ e (ap not c.if-not-serves_run.false) _ c.general_refusal-code.ensures
-    c.if-code-ne0.false in
-    (search not_yes, g.0.ready.fcb_long, g.0.ready.dma_long, g.0.run_fits, g.1)
+pub returns-in_default : goal.returns-in_default
+returns-in_default c =
+    let b = buffers c.args.fcb.now c.args.dma.now c.args.list.now c.args.image.now in
+    wrong_fcb _ _ _ _ _ b _ (singly_unsized _ _ _ _ _ b (not_yes _ _ c.serves_run.ensures (ap not c.if-not-serves_run.false))) _ _ _ _ refl refl refl
+    c.code.ensures.0 c.in_default.ensures.cases
 
-pub returns : goal.returns
-returns c = search singly_went
+pub returns-in_default-as_mut_array : goal.returns-in_default-as_mut_array
+returns-in_default-as_mut_array c =
+    let b = buffers c.args.fcb.now c.args.dma.now c.args.list.now c.args.image.now in
+    wrong_dma _ _ _ _ _ b _ (singly_unsized _ _ _ _ _ b (not_yes _ _ c.serves_run.ensures (ap not c.if-not-serves_run.false))) _ _ _ _
+    c.in-Some.ensures.cases.same refl refl c.code-in_default-as_mut_array.ensures.0 c.in_default-as_mut_array.ensures.cases
+
+pub returns-in_default-as_mut_array-2 : goal.returns-in_default-as_mut_array-2
+returns-in_default-as_mut_array-2 c =
+    let b = buffers c.args.fcb.now c.args.dma.now c.args.list.now c.args.image.now in
+    wrong_list _ _ _ _ _ b _ (singly_unsized _ _ _ _ _ b (not_yes _ _ c.serves_run.ensures (ap not c.if-not-serves_run.false))) _ _ _ _
+    c.in-Some.ensures.cases.same c.in-Some-as_mut_array.ensures.cases.same refl c.code-in_default-as_mut_array-2.ensures.0
+    c.in_default-as_mut_array-2.ensures.cases

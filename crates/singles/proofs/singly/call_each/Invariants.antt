@@ -1,5 +1,5 @@
 -- `singles::singly::call_each` meets its contract.
-use Prim.Native.Nat.{◌+◌, ◌-◌, ◌≤◌, ◌<◌}
+use Prim.Native.Nat.{◌+◌, ◌<◌}
 use mathlib.Core.Path.{◌≡◌}
 use lib.ListN.{length}
 use Rattle.rules.specs.Serves.{buffers}
@@ -8,10 +8,6 @@ use Rattle.rules.specs.Vector.{vector_of}
 use Rattle.singles.proofs.singly.call_each.Given as goal
 
 abbrev pub invariant-loop-i : goal.invariant-loop-i
-invariant-loop-i l = (l.i ≤ l.count)
-    × (several l.kind l.function l.process l.i (buffers l.fcb l.initial.dma l.initial.list l.initial.image) ≡ run 0 l.i (buffers l.fcb l.dma l.list l.image)) × (length l.dma ≡ 2048)
-    × (length l.list ≡ length l.initial.list) × (length l.image ≡ length l.initial.image) × (length l.vector ≡ length l.initial.vector) × (l.r + l.i < 16777216)
+invariant-loop-i l = (several l.kind l.function l.process l.i (buffers l.fcb l.initial.dma l.initial.list l.initial.image) ≡ run 0 l.i (buffers l.fcb l.dma l.list l.image))
+    × (length l.image ≡ length l.initial.image) × (length l.vector ≡ length l.initial.vector) × (l.r + l.i < 16777216)
     × (l.vector ≡ vector_of l.kind l.image)
-
-abbrev pub decreases-loop-i : goal.decreases-loop-i
-decreases-loop-i l = l.count - l.i

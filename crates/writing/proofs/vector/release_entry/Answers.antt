@@ -1,6 +1,6 @@
--- `writing::vector::release_entry` meets its contract.
-use borrow.Author.Rules.{rules}
-use Rattle.writing.proofs.Releasing.{in_none, number_bit, in_more, in_all}
+-- No number yet, and one more.
+use Rattle.std.proofs.Common.{rules}
+use Rattle.writing.proofs.Releasing.{in_none, number_bit, in_more}
 use Rattle.writing.proofs.vector.release_entry.Goals as goal
 
 pub loop-k-init : goal.loop-k-init
@@ -11,6 +11,3 @@ release_block-requires c = search (rules, number_bit)
 
 pub loop-k-preserved : goal.loop-k-preserved
 loop-k-preserved c = search (rules, in_more, number_bit)
-
-pub returns : goal.returns
-returns c = search in_all

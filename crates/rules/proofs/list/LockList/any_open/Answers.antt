@@ -1,40 +1,12 @@
 -- `rules::list::LockList::any_open` meets its contract.
-use Rattle.words.proofs.Sets.{anys}
-use Rattle.rules.specs.Locks.{opens_file_at, any_open}
+use Rattle.std.proofs.Common.{rules, tests}
+use Rattle.std.proofs.lemmas.Iterator.{YieldsList-from_slice}
+use Rattle.std.proofs.lemmas.Iterator.Search.{any_from_yields_List}
+use Rattle.words.proofs.Lists.{length-mapped}
+use Rattle.rules.proofs.Asked.{opens_in, any_open_told}
 use Rattle.rules.proofs.list.LockList.any_open.Goals as goal
 
-pub loop-i-init : goal.loop-i-init
-unfolding any_open opens_file_at
-loop-i-init c = search anys
-
-pub offset_bounds-self-i : goal.offset_bounds-self-i
-unfolding any_open opens_file_at
-offset_bounds-self-i c = search anys
-
-pub bounds-self-i : goal.bounds-self-i
-unfolding any_open opens_file_at
-bounds-self-i c = search anys
-
-pub opens_file-requires : goal.opens_file-requires
-unfolding any_open opens_file_at
-opens_file-requires c = search anys
-
-pub returns-then-opens_file : goal.returns-then-opens_file
-unfolding any_open opens_file_at
-returns-then-opens_file c = search anys
-
-pub overflow_add-i : goal.overflow_add-i
-unfolding any_open opens_file_at
-overflow_add-i c = search anys
-
-pub loop-i-smaller : goal.loop-i-smaller
-unfolding any_open opens_file_at
-loop-i-smaller c = search anys
-
-pub loop-i-preserved : goal.loop-i-preserved
-unfolding any_open opens_file_at
-loop-i-preserved c = search anys
-
 pub returns : goal.returns
-unfolding any_open opens_file_at
-returns c = search anys
+returns c =
+    any_open_told _ c.args.self.now c.args.f (search (rules, length-mapped))
+    (any_from_yields_List (opens_in c.args.self.now.users c.args.f) _ _ _ c.any.ensures.ran (YieldsList-from_slice c.args.self.now.items cc) (λ x b q k. search (rules, tests)))

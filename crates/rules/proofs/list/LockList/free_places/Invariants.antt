@@ -1,12 +1,8 @@
 -- `rules::list::LockList::free_places` meets its contract.
-use Prim.Native.Nat.{◌-◌, ◌≤◌}
-use mathlib.Core.Path.{◌≡◌}
+use Rattle.std.proofs.Common.{◌≡◌, ◌≤◌}
 use Rattle.words.specs.Tests.{count}
 use Rattle.rules.specs.Locks.{is_empty_at}
 use Rattle.rules.proofs.list.LockList.free_places.Given as goal
 
-abbrev pub invariant-loop-i : goal.invariant-loop-i
-invariant-loop-i l = (l.i ≤ l.end) × ((l.n ≤ l.i) × (l.n ≡ count (is_empty_at l.self) l.i))
-
-abbrev pub decreases-loop-i : goal.decreases-loop-i
-decreases-loop-i l = l.end - l.i
+abbrev pub invariant-loop-it : goal.invariant-loop-it
+invariant-loop-it l = (l.n ≤ l.it-index) × (l.n ≡ count (is_empty_at l.fn.self) l.it-index)

@@ -1,40 +1,12 @@
 -- `rules::list::LockList::locked_by_other` meets its contract.
-use Rattle.words.proofs.Sets.{anys}
-use Rattle.rules.specs.Locks.{locks_record_at, is_others_lock, locked_by_other}
+use Rattle.std.proofs.Common.{rules, tests}
+use Rattle.std.proofs.lemmas.Iterator.{YieldsList-from_slice}
+use Rattle.std.proofs.lemmas.Iterator.Search.{any_from_yields_List}
+use Rattle.words.proofs.Lists.{length-mapped}
+use Rattle.rules.proofs.Asked.{others_in, locked_told}
 use Rattle.rules.proofs.list.LockList.locked_by_other.Goals as goal
 
-pub loop-i-init : goal.loop-i-init
-unfolding locked_by_other is_others_lock locks_record_at
-loop-i-init c = search anys
-
-pub offset_bounds-self-i : goal.offset_bounds-self-i
-unfolding locked_by_other is_others_lock locks_record_at
-offset_bounds-self-i c = search anys
-
-pub bounds-self-i : goal.bounds-self-i
-unfolding locked_by_other is_others_lock locks_record_at
-bounds-self-i c = search anys
-
-pub is_others_lock-requires : goal.is_others_lock-requires
-unfolding locked_by_other is_others_lock locks_record_at
-is_others_lock-requires c = search anys
-
-pub returns-then-is_others_lock : goal.returns-then-is_others_lock
-unfolding locked_by_other is_others_lock locks_record_at
-returns-then-is_others_lock c = search anys
-
-pub overflow_add-i : goal.overflow_add-i
-unfolding locked_by_other is_others_lock locks_record_at
-overflow_add-i c = search anys
-
-pub loop-i-smaller : goal.loop-i-smaller
-unfolding locked_by_other is_others_lock locks_record_at
-loop-i-smaller c = search anys
-
-pub loop-i-preserved : goal.loop-i-preserved
-unfolding locked_by_other is_others_lock locks_record_at
-loop-i-preserved c = search anys
-
 pub returns : goal.returns
-unfolding locked_by_other is_others_lock locks_record_at
-returns c = search anys
+returns c =
+    locked_told _ c.args.self.now c.args.p c.args.f c.args.r (search (rules, length-mapped))
+    (any_from_yields_List (others_in c.args.self.now.users c.args.p c.args.f c.args.r) _ _ _ c.any.ensures.ran (YieldsList-from_slice c.args.self.now.items cc) (λ x b q k. search (rules, tests)))

@@ -1,11 +1,8 @@
 -- `rules::list::LockList::terminate` meets its contract.
-use Prim.Native.Nat.{◌-◌, ◌≤◌}
+use Rattle.std.proofs.Common.{◌≡◌}
+use Rattle.words.proofs.Lists.{map_to}
 use Rattle.rules.specs.Effects.{unless_by}
-use Rattle.rules.proofs.Lists.{Gone}
 use Rattle.rules.proofs.list.LockList.terminate.Given as goal
 
-abbrev pub invariant-loop-i : goal.invariant-loop-i
-invariant-loop-i l = (l.i ≤ 64) × Gone (unless_by l.p) l.initial.self l.self l.i
-
-abbrev pub decreases-loop-i : goal.decreases-loop-i
-decreases-loop-i l = 64 - l.i
+abbrev pub invariant-loop-it : goal.invariant-loop-it
+invariant-loop-it l = l.it-items ≡ map_to (unless_by l.p) l.it-index l.initial.it-items

@@ -1,44 +1,13 @@
 -- `rules::list::LockList::unlock` meets its contract.
+use Rattle.std.proofs.Common.{rules}
+use Rattle.words.proofs.Lists.{length-mapped}
 use Rattle.rules.specs.Effects.{unlocked_run}
-use Rattle.rules.proofs.Lists.{gones}
+use Rattle.rules.proofs.Lists.{mapped_turn, mapped_all}
 use Rattle.rules.proofs.list.LockList.unlock.Goals as goal
 
-pub loop-i-init : goal.loop-i-init
-unfolding unlocked_run
-loop-i-init c = search gones
-
-pub offset_bounds-self-i : goal.offset_bounds-self-i
-unfolding unlocked_run
-offset_bounds-self-i c = search gones
-
-pub bounds-self-i : goal.bounds-self-i
-unfolding unlocked_run
-bounds-self-i c = search gones
-
-pub unless_in_run-requires : goal.unless_in_run-requires
-unfolding unlocked_run
-unless_in_run-requires c = search gones
-
-pub offset_bounds-self-i-in-loop-i : goal.offset_bounds-self-i-in-loop-i
-unfolding unlocked_run
-offset_bounds-self-i-in-loop-i c = search gones
-
-pub bounds-self-i-in-loop-i : goal.bounds-self-i-in-loop-i
-unfolding unlocked_run
-bounds-self-i-in-loop-i c = search gones
-
-pub overflow_add-i : goal.overflow_add-i
-unfolding unlocked_run
-overflow_add-i c = search gones
-
-pub loop-i-smaller : goal.loop-i-smaller
-unfolding unlocked_run
-loop-i-smaller c = search gones
-
-pub loop-i-preserved : goal.loop-i-preserved
-unfolding unlocked_run
-loop-i-preserved c = search gones
+pub loop-it-preserved : goal.loop-it-preserved
+loop-it-preserved c = mapped_turn _ _ _ _ _ (search (rules, length-mapped)) (search rules) c.loop-it.invariant c.unless_in_run.ensures
 
 pub returns : goal.returns
 unfolding unlocked_run
-returns c = search gones
+returns c = mapped_all _ c.args.self _ _ (search (rules, length-mapped)) c.loop-it.invariant (search rules) (search rules)

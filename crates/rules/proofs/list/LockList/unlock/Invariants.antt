@@ -1,11 +1,8 @@
 -- `rules::list::LockList::unlock` meets its contract.
-use Prim.Native.Nat.{◌-◌, ◌≤◌}
+use Rattle.std.proofs.Common.{◌≡◌}
+use Rattle.words.proofs.Lists.{map_to}
 use Rattle.rules.specs.Effects.{unless_in_run}
-use Rattle.rules.proofs.Lists.{Gone}
 use Rattle.rules.proofs.list.LockList.unlock.Given as goal
 
-abbrev pub invariant-loop-i : goal.invariant-loop-i
-invariant-loop-i l = (l.i ≤ 64) × Gone (unless_in_run l.p l.f l.r l.n) l.initial.self l.self l.i
-
-abbrev pub decreases-loop-i : goal.decreases-loop-i
-decreases-loop-i l = 64 - l.i
+abbrev pub invariant-loop-it : goal.invariant-loop-it
+invariant-loop-it l = l.it-items ≡ map_to (unless_in_run l.p l.f l.r l.n) l.it-index l.initial.it-items
