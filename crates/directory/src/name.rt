@@ -5,6 +5,7 @@ ghost use Rattle.words.specs.Bytes.{byte_from, low_from};
 ghost use Rattle.rules.specs.Drive.{legal_byte, legal_at, legal_name, is_named, file_from};
 
 use rules::file::File;
+use std::array;
 use words::byte::array_from;
 use words::test::both;
 
@@ -64,7 +65,7 @@ pub fn name_from(s: &[u8], at: usize) -> [u8; 11]
     requires { at + 11 ≤ length s.now }
     ensures { result ≡ tab (low_from s.now at) 11 }
 {
-    eleven_from(s, at).map(|b| b % 128)
+    array::from_fn(|k| s[at + k] % 128)
 }
 
 // The file that a user and the eleven bytes from `at` on say.

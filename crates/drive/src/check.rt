@@ -124,6 +124,7 @@ fn mark_entry(kind: Kind, entry: &Entry, seen: &mut [u8]) -> bool
 }
 
 // An entry before this one has its file and extent; the hints, which know the entries before it, then know it too.
+#[inline(always)]
 pub fn is_repeat(entry: &Entry, hints: &mut [u8; 256]) -> bool
     requires { (entry.now.place < 256) × Hints (slot_at entry.now.image.now) (in_use entry.now.image.now) entry.now.place hints.old }
     ensures { Repeats entry.now.image.now entry.now.place result hints.new }
@@ -191,6 +192,8 @@ fn judge_all(
     requires { (blocks directory.now.kind directory.now.image.now ≤ most directory.now.kind) × Marks directory.now.kind 1 directory.now.image.now 0 0 seen.old × Hints (slot_at directory.now.image.now) (in_use directory.now.image.now) 0 hints.old }
     ensures { Surveyed (judged directory.now.kind directory.now.image.now) directory.now.kind directory.now.image.now result seen.new hints.new }
 {
+    // A copy: what is lent would be read anew for each entry.
+    let directory = *directory;
     for e in 0..entries(directory.kind) {
         judge_entry(directory.kind, &directory.entry(e), &mut *seen, &mut *hints)?;
     }
@@ -206,6 +209,7 @@ fn has_first(index: &Index, f: File) -> bool
 }
 
 // So has that of entry `e`, which may be empty; one that is extent 0 itself needs no search.
+#[inline(always)]
 #[tactic(auto, using(words::proofs::Sets::choices, crate::proofs::Begun::begun_self), unfolding(rules::specs::Drive::has_first))]
 pub fn is_begun(index: &Index, e: usize) -> bool
     requires { e < entries index.now.directory.kind }

@@ -51,7 +51,7 @@ impl<'a> Index<'a> {
     // The one of an image, by hints that know its entries.
     pub fn of(kind: Kind, image: &'a [u8], hints: &'a [u8; 256]) -> Self
         requires { (32 * entries kind ≤ length image.now) × Hints (slot_at image.now) (in_use image.now) (entries kind) hints.now }
-        ensures { (result.directory.kind ≡ kind) × (result.directory.image.now ≡ image.now) }
+        ensures { (result.directory.kind ≡ kind) × (result.directory.image.now ≡ image.now) × (result.hints.now ≡ hints.now) }
     {
         Index {
             directory: Directory { kind, image },

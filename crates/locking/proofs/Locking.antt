@@ -86,6 +86,11 @@ module _ (kind : Kind) (s : List ℕ) (f : File) (r n k : ℕ) where
   unfolding first_lacking rows_lacking
   none_lacking none = let past : ltb n n ≡ false = le-ltb n n (omega arith) in rw (lowest_none (lacks kind s f r) n none) (search (codes, and_left))
 
+-- each row of what lacks something has a code
+pub nonzero_lacking : (kind : Kind) (s : List ℕ) (f : File) (r n k : ℕ) → none_zero (rows_lacking kind s f r n k) ≡ true
+unfolding rows_lacking
+nonzero_lacking kind s f r n k = search nonzeros depth 20 fits 20000
+
 pub ruleset lackings = (rules, known_none, known_more, any_none, extent_lacking, block_lacking, goes_on, none_lacking)
 
 -- ---- the table that 42 and 43 begin with, and the rows of 42 after it
@@ -158,20 +163,16 @@ module _ (kind : Kind) (p : ℕ) (l : LockList) (o : ℕ) (f : File) (r n : ℕ)
       lock_lacking why g = did_err _ b _ why (then_rows _ (part_first _ _ _ g (code_some why)))
 
       module _ (g : 0 ≡ first_of (rows_lacking kind b.image f r n (first_lacking kind b.image f r n))) where
-        nonzero_lacking : none_zero (rows_lacking kind b.image f r n (first_lacking kind b.image f r n)) ≡ true
-        unfolding rows_lacking
-        nonzero_lacking = search nonzeros depth 20 fits 20000
-
         pub not_taken : (why : Refusal) → code_of why ≡ first_of (rows_take p l f r n) → Did (by42 kind p l o f r n b) (code_of why) b
         unfolding by42
-        not_taken why k = did_err _ b _ why (then_rows _ (part_then _ _ _ _ g refl nonzero_lacking k))
+        not_taken why k = did_err _ b _ why (then_rows _ (part_then _ _ _ _ g refl (nonzero_lacking kind b.image f r n _) k))
 
         pub lock_done : (m : LockList) (list : List ℕ) → 0 ≡ first_of (rows_take p l f r n) → m ≡ locked_run p f r n l → list ≡ pack m
             → Did (by42 kind p l o f r n b) 0 (with_list b list)
         unfolding by42 does42 ◌if◌else◌
         lock_done m list k hm hp =
             let q : eqb (item_at l o).mode 1 ≡ true = sym ht ∙ z in
-            did_ok _ b _ 0 _ (then_rows _ (part_then _ _ _ _ g refl nonzero_lacking k)) (rw q (did_left refl refl refl (hp ∙ ap pack hm) refl))
+            did_ok _ b _ 0 _ (then_rows _ (part_then _ _ _ _ g refl (nonzero_lacking kind b.image f r n _) k)) (rw q (did_left refl refl refl (hp ∙ ap pack hm) refl))
 
 pub ruleset locked = (lock_refused, lock_passed, lock_lacking, not_taken, lock_done)
 

@@ -91,8 +91,12 @@ fn same_book(first: &Book, second: &Book) -> bool
 pub fn same(kind: Kind, first: &[u8], second: &[u8]) -> Result<(), Difference>
     ensures { same_answer result ≡ first_of (rows_same kind first.now second.now) }
 {
-    let first = Book::of(kind, first).ok_or(Difference::FirstUnsound)?;
-    let second = Book::of(kind, second).ok_or(Difference::SecondUnsound)?;
+    let Some(first) = Book::of(kind, first) else {
+        return Err(Difference::FirstUnsound);
+    };
+    let Some(second) = Book::of(kind, second) else {
+        return Err(Difference::SecondUnsound);
+    };
     if !same_book(&first, &second) {
         return Err(Difference::Different);
     }

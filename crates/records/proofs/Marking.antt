@@ -1,5 +1,5 @@
 -- The vector beside the write of one record, and after 34, 40 and 41. Assumes nothing.
-use Rattle.std.proofs.Common.{◌≡◌, ℕ, ◌+◌, ◌*◌, ◌/◌, ◌<◌, ◌≤◌, Bool, true, false, leb, eqb, List, [], length, refl, sym, ◌∙◌, arith, ne_eqb}
+use Rattle.std.proofs.Common.{◌≡◌, ℕ, ◌+◌, ◌*◌, ◌/◌, ◌<◌, ◌≤◌, Bool, true, false, leb, eqb, List, [], length, refl, sym, ap, ◌∙◌, arith, ne_eqb}
 use Rattle.words.specs.Tests.{◌if◌else◌}
 use Rattle.words.specs.Tables.{first_of}
 use Rattle.words.proofs.Tables.{row_off, row_rest}
@@ -35,14 +35,20 @@ unfolding block_size blocks
 block_below (Small u) block s h = omega arith
 block_below (Large u) block s h = omega arith
 
--- where there is room, the block has a bit
+-- a block of the image has a bit
+pub block_bit : (kind : Kind) (block : ℕ) (s v : List ℕ) → blocks kind s ≤ most kind → v ≡ vector_of kind s
+    → block_size kind * block + block_size kind ≤ length s → block < 8 * length v
+block_bit kind block s v few h inside =
+    let a : length v ≡ _ = ap length h ∙ vector-long kind s in
+    let b = vector_bits kind in
+    let c = block_below kind block s inside in omega arith
+
+-- where there is room, the block taken has
 pub spot_bit : (kind : Kind) (s : List ℕ) (f : File) (r : ℕ) → sound_image kind s ≡ true → blocks kind s ≤ most kind
     → first_of (rows_room kind s (entry_of kind s f (r / 128)) r) ≡ 0
     → (spot_at kind s (entry_of kind s f (r / 128)) r).block < 8 * length (vector_of kind s)
 spot_bit kind s f r h few rows =
-    let a = vector-long kind s in
-    let b = vector_bits kind in
-    let c = block_below kind (spot_at kind s (entry_of kind s f (r / 128)) r).block s (room_spot kind s f r h rows).2 in omega arith
+    block_bit kind (spot_at kind s (entry_of kind s f (r / 128)) r).block s (vector_of kind s) few refl (room_spot kind s f r h rows).2
 
 -- a refusal leaves the vector, ..
 pub marked_not : (code : ℕ) (w : Spot) (v : List ℕ) → 0 < code → marked_by code w v ≡ v

@@ -38,9 +38,10 @@ module _ (kind : Kind) (s : List ℕ) (e r : ℕ) where
   unfolding block_in ◌if◌else◌
   missing_none q = rw q
 
-  told : rows_room kind s e r ≡ 5 ∕ 0 when (w.fresh and leb (entries kind) w.entry) ∷ 2 ∕ 0 when (w.taken and leb (blocks kind s) w.block) ∷ []
+  -- the rows of what is not to be had, by the spot
+  pub room_told : rows_room kind s e r ≡ 5 ∕ 0 when (w.fresh and leb (entries kind) w.entry) ∷ 2 ∕ 0 when (w.taken and leb (blocks kind s) w.block) ∷ []
   unfolding rows_room spot_at ◌if◌else◌ ◌and◌
-  told =
+  room_told =
       ⊎_elim (λ (q : leb (entries kind) e ≡ true). rw (q, missing_none q))
       (λ (q : leb (entries kind) e ≡ false).
       ⊎_elim (λ (z : eqb (block_in kind s e r) 0 ≡ true). rw (q, z)) (λ (z : eqb (block_in kind s e r) 0 ≡ false). rw (q, z))
@@ -50,17 +51,17 @@ module _ (kind : Kind) (s : List ℕ) (e r : ℕ) where
   -- no entry, ..
   pub entry_lacks : w.fresh ≡ true → entries kind ≤ w.entry → first_of (rows_room kind s e r) ≡ 5
   unfolding first_of ◌if◌else◌ ◌and◌
-  entry_lacks f h = rw (told, f, le-leb (entries kind) w.entry h)
+  entry_lacks f h = rw (room_told, f, le-leb (entries kind) w.entry h)
 
   -- .. no block, ..
   pub block_lacks : (w.fresh ≡ true → w.entry < entries kind) → w.taken ≡ true → blocks kind s ≤ w.block → first_of (rows_room kind s e r) ≡ 2
   unfolding first_of ◌if◌else◌ ◌and◌
-  block_lacks g t h = rw (told, had w.fresh (entries kind) w.entry g, t, le-leb (blocks kind s) w.block h)
+  block_lacks g t h = rw (room_told, had w.fresh (entries kind) w.entry g, t, le-leb (blocks kind s) w.block h)
 
   -- .. or room
   pub has_room : (w.fresh ≡ true → w.entry < entries kind) → (w.taken ≡ true → w.block < blocks kind s) → first_of (rows_room kind s e r) ≡ 0
   unfolding first_of ◌if◌else◌
-  has_room g h = rw (told, had w.fresh (entries kind) w.entry g, had w.taken (blocks kind s) w.block h)
+  has_room g h = rw (room_told, had w.fresh (entries kind) w.entry g, had w.taken (blocks kind s) w.block h)
 
 pub ruleset rooms = (entry_lacks, block_lacks, has_room)
 

@@ -2,6 +2,9 @@
 ghost use Rattle.std.specs.Prelude.{◌≡◌, ◌<◌};
 ghost use Rattle.rules.specs.Refusals.{code_of, answer_of};
 
+// What a search answers that finds no match, which is no refusal.
+pub const NO_MATCH: u32 = 255;
+
 // Why a call is refused.
 #[derive(Clone, Copy)]
 pub enum Refusal {

@@ -9,19 +9,21 @@ use Rattle.locklist.specs.Start.{DidStart}
 use Rattle.script.specs.Records.{first_number, second_number, third_number, users_in, rule_number, fcb_in, dma_in}
 use Rattle.script.specs.Run.{first_kind, start_of, call_of, DidCall}
 
-pub did_start : (s : List ℕ) (c o k r : ℕ) (users list : List ℕ) (a : ℕ) (l : List ℕ)
-    → c ≡ first_number s → o ≡ second_number s → k ≡ third_number s → r ≡ rule_number s → users ≡ users_in s
-    → DidStart (start_told (told_kind first_kind (told_rule r)) c o k r users list) a l → DidStart (start_of s list) a l
+-- each number is a byte of the record, widened
+pub did_start : (s : List ℕ) (c o k r x y z w : ℕ) (users list : List ℕ) (a : ℕ) (l : List ℕ)
+    → DidStart (start_told (told_kind first_kind (told_rule r)) c o k r users list) a l
+    → c ≡ x → x ≡ first_number s → o ≡ y → y ≡ second_number s → k ≡ z → z ≡ third_number s → r ≡ w → w ≡ rule_number s → users ≡ users_in s
+    → DidStart (start_of s list) a l
 unfolding start_of
-did_start s c o k r users list a l h g e f u d = rw (h, g, e, f, u) at d
+did_start s c o k r x y z w users list a l d hc gc ho go hk gk hr gr u = rw (hc ∙ gc, ho ∙ go, hk ∙ gk, hr ∙ gr, u) at d
 
-pub did_call : (s : List ℕ) (n p c : ℕ) (fcb dma list image vector : List ℕ) (a : ℕ) (f d l i u : List ℕ)
-    → n ≡ first_number s → p ≡ second_number s → c ≡ third_number s → fcb ≡ fcb_in s → dma ≡ dma_in s
-    → DidFive (five_told (told_kind first_kind (rule_in list)) n p c vector (buffers fcb dma list image)) a (buffers f d l i) u → DidCall (call_of s list image
-    vector) a l i u
+pub did_call : (s : List ℕ) (n p c x y z : ℕ) (fcb dma list image vector : List ℕ) (a : ℕ) (f d l i u : List ℕ)
+    → DidFive (five_told (told_kind first_kind (rule_in list)) n p c vector (buffers fcb dma list image)) a (buffers f d l i) u
+    → n ≡ x → x ≡ first_number s → p ≡ y → y ≡ second_number s → c ≡ z → z ≡ third_number s → fcb ≡ fcb_in s → dma ≡ dma_in s
+    → DidCall (call_of s list image vector) a l i u
 unfolding call_of
-did_call s n p c fcb dma list image vector a f d l i u h g e x y w =
-    let w : DidFive (call_of s list image vector) a (buffers f d l i) u = rw (h, g, e, x, y) at w in
+did_call s n p c x y z fcb dma list image vector a f d l i u did hn gn hp gp hc gc hf hd =
+    let w : DidFive (call_of s list image vector) a (buffers f d l i) u = rw (hn ∙ gn, hp ∙ gp, hc ∙ gc, hf, hd) at did in
     record {
       gives = w.outcome_so.gives;
       leaves_list = ap (λ (x : Buffers). x.list) w.outcome_so.leaves;

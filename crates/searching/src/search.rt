@@ -9,13 +9,11 @@ ghost use Rattle.rules.specs.declared.routine.Routine.TheVariants.{SearchFirst, 
 use crate::pattern::match_from;
 use directory::find::Directory;
 use locklist::pack::pack;
+use rules::code::NO_MATCH;
 use rules::kind::{Kind, entries};
 use rules::list::LockList;
 use rules::size::{DMA_SIZE, FCB_SIZE, LIST_SIZE};
 use words::byte::put_bytes;
-
-// What a search answers that finds no match.
-const NO_MATCH: u32 = 255;
 
 // The directory record with entry `e` goes to the DMA.
 fn show(e: usize, dma: &mut [u8; DMA_SIZE], image: &[u8])

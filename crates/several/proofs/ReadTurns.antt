@@ -122,9 +122,10 @@ module _ (kind : Kind) (p c : ℕ) (f : File) (o r : ℕ) (b : Buffers) (a : Ask
     }
 
     -- the first refusal stops the call, and leaves the DMA
-    pub reading_stops : (q : Refusal) (answer at : ℕ) → code_of q ≡ first_of (rows33 kind o e (r + i) b.image)
-        → dma' ≡ read_at kind o e (r + i) at b.image dma → answer ≡ code_of q + 4096 * i → Did (told (several kind 33 p c b)) answer (with_dma b dma')
-    reading_stops q answer at hc hd ha =
+    pub reading_stops : (q : Refusal) (code answer at : ℕ) → code ≡ code_of q → code_of q ≡ first_of (rows33 kind o e (r + i) b.image)
+        → dma' ≡ read_at kind o e (r + i) at b.image dma → answer ≡ code + 4096 * i → Did (told (several kind 33 p c b)) answer (with_dma b dma')
+    reading_stops q code answer at hq hc hd h =
+        let ha : answer ≡ code_of q + 4096 * i = h ∙ ap (λ (x : ℕ). x + 4096 * i) hq in
         let n : 0 < code_of q = code_above q in
         let k = code_is kind p c f o r b a i dma w.long below e he (code_of q) hc in
         let g : told (several kind 33 p c b) ≡ outcome answer (with_dma b dma) = stops_told kind 33 p b (with_dma b dma) i c w.so_far

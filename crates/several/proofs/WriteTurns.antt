@@ -347,9 +347,10 @@ module _ (kind : Kind) (zeros : Bool) (p c : ℕ) (f : File) (e₀ o r mode lock
         (equal? code 0)
 
     -- the first refusal stops the call
-    pub writing_stops : (answer : ℕ) → 0 < code → answer ≡ code + 4096 * i
+    pub writing_stops : (own answer : ℕ) → own ≡ code → 0 < code → answer ≡ own + 4096 * i
         → Did (told (several kind (write_number zeros) p c b)) answer (with_image b t)
-    writing_stops answer n ha =
+    writing_stops own answer q n y =
+        let ha : answer ≡ code + 4096 * i = y ∙ ap (λ (x : ℕ). x + 4096 * i) q in
         let k = code_is kind zeros p c f e₀ o r locked b a i e₁ s w below e he code coded in
         let g : told (several kind (write_number zeros) p c b) ≡ outcome answer (with_image b s) = stops_told kind (write_number zeros) p b (with_image b s) i c
         w.so_far (λ z. let y : code ≡ 0 = sym k ∙ z in omega arith) below

@@ -37,7 +37,7 @@ fn read_run(
     for i in 0..count {
         e = entry_at(&directory, f, r, i, e);
         if let Err(refusal) = read_one(&directory, o, e, r + i, dma, 128 * i) {
-            return after(refusal, i);
+            return after(refusal.code(), i);
         }
     }
     0

@@ -69,7 +69,7 @@ fn write_run(
             vector,
         ) {
             Ok(entry) => e = entry,
-            Err(refusal) => return after(refusal, i as usize),
+            Err(refusal) => return after(refusal.code(), i as usize),
         }
     }
     0
